@@ -31,7 +31,7 @@ extern "C" {
 #endif
 
 /* What this header says. A library that answers another number has other calls. */
-#define MB_INTERFACE 4
+#define MB_INTERFACE 5
 uint32_t mb_interface(void);
 
 /* What a call answers. Numbers from 50 on are the causes why a set, a source or declarations are refused, as docs/ERRORS.md lists them. */
@@ -134,7 +134,7 @@ struct mb_bytes {
 uint32_t mb_pool_compile(const struct mb_bytes *names, size_t names_len, const struct mb_bytes *texts, size_t texts_len, struct mb_pool *pool,
                          struct mb_refusal *refusal, uint8_t *text, size_t text_len);
 
-/* As mb_pool_compile, of sources of all of proto3, and of proto2 without groups: what declares no message, enum or service is read and left out, as parts
+/* As mb_pool_compile, of sources of all of proto3, and of proto2: what declares no message, enum or service is read and left out, as parts
  * of an option's name in parentheses, constants in braces, default values, blocks of extend and ranges of extensions. */
 uint32_t mb_pool_compile_lenient(const struct mb_bytes *names, size_t names_len, const struct mb_bytes *texts, size_t texts_len, struct mb_pool *pool,
                                  struct mb_refusal *refusal, uint8_t *text, size_t text_len);
@@ -142,6 +142,11 @@ uint32_t mb_pool_compile_lenient(const struct mb_bytes *names, size_t names_len,
 /* Puts the pool that one handle holds into another one too, in place of what that held: both hold one pool, which is freed with the last of them.
  * The other handle may go to another thread. Where the answer is another than MB_DONE the other handle is as it was. */
 uint32_t mb_pool_share(struct mb_pool *pool, struct mb_pool *other);
+
+/* Writes a descriptor set that declares the pool's types, as mb_raw_short writes an encoding: linking it makes the same types again. Services, options
+ * and what else a pool does not hold are not in it. MB_TOO_LARGE: it would have more than MB_MAX_BYTES bytes; 27: it would nest more than 100 levels
+ * deep. */
+uint32_t mb_pool_set(struct mb_pool *pool, uint8_t *out, size_t out_len, size_t *size);
 
 /* Frees what a handle holds. One that holds nothing stays as it is. */
 void mb_pool_free(struct mb_pool *pool);
@@ -292,6 +297,11 @@ uint32_t mb_show(struct mb_pool *pool, uint32_t type, const uint8_t *bytes, size
                  uint8_t *out, size_t out_len, size_t *size,
                  struct mb_fault *fault, struct mb_step *path, size_t path_len);
 
+/* Writes the listing as mb_show does, but with each float as the shortest decimal that reads back to the same bits, or nan, inf or -inf. */
+uint32_t mb_show_decimal(struct mb_pool *pool, uint32_t type, const uint8_t *bytes, size_t bytes_len, uint32_t max_bytes, uint8_t max_depth,
+                         uint8_t *out, size_t out_len, size_t *size,
+                         struct mb_fault *fault, struct mb_step *path, size_t path_len);
+
 /* A frame: a message after its length. */
 struct mb_frame {
     size_t begin;  /* where the message begins */
@@ -299,7 +309,11 @@ struct mb_frame {
 };
 
 /* Checks the frame that the bytes begin with, a message of the type after its length. For MB_DONE it is reported where the message is. MB_PART:
- * more bytes are needed. A fault's byte counts from the first byte of the length. */
+ * more bytes are needed. A fault's byte counts from the first byte of the length.
+ *
+ * For MB_FAULT and MB_PART the frame is reported as far as its length says it, whatever the message is and whether or not all of it is there: skip
+ * end bytes to go on after a refused frame. Both numbers are 0 if the length cannot be read, and then nothing is known of what follows; an end above
+ * SIZE_MAX is reported as SIZE_MAX. */
 uint32_t mb_frames(struct mb_pool *pool, uint32_t type, const uint8_t *bytes, size_t bytes_len, uint32_t max_bytes, uint8_t max_depth,
                    struct mb_frame *frame, struct mb_fault *fault, struct mb_step *path, size_t path_len);
 

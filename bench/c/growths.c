@@ -42,7 +42,7 @@ void rattle_dealloc(void *at)
 }
 
 /* All that a call may write but handles. */
-struct told {
+struct outputs {
     struct mb_fault fault;
     struct mb_step path[MB_MAX_STEPS];
     struct mb_refusal refusal;
@@ -66,64 +66,66 @@ static uint32_t type;
 static struct mb_bytes set, message, frame, name, source, lenient, source_name = {(const uint8_t *)"a.proto", 7};
 
 #define LIMITS MB_MAX_BYTES, MB_MAX_DEPTH
-#define FAULT &told->fault, told->path, MB_MAX_STEPS
-#define OUT told->out, sizeof told->out, &told->size
-#define REFUSAL &told->refusal, told->text, sizeof told->text
+#define FAULT &outputs->fault, outputs->path, MB_MAX_STEPS
+#define OUT outputs->out, sizeof outputs->out, &outputs->size
+#define REFUSAL &outputs->refusal, outputs->text, sizeof outputs->text
 
-static uint32_t raw_check(struct told *told) { return mb_raw_check(message.at, message.len, LIMITS, FAULT); }
-static uint32_t raw_check_cut(struct told *told) { return mb_raw_check(message.at, message.len - 1, LIMITS, FAULT); }
-static uint32_t raw_short(struct told *told) { return mb_raw_short(message.at, message.len, LIMITS, OUT, FAULT); }
-static uint32_t raw_short_cut(struct told *told) { return mb_raw_short(message.at, message.len - 1, LIMITS, OUT, FAULT); }
-static uint32_t link(struct told *told) { return mb_pool_link(set.at, set.len, &other, FAULT, REFUSAL); }
-static uint32_t link_cut(struct told *told) { return mb_pool_link(set.at, set.len - 1, &other, FAULT, REFUSAL); }
-static uint32_t link_lenient(struct told *told) { return mb_pool_link_lenient(lenient.at, lenient.len, &other, &told->size, FAULT, REFUSAL); }
-static uint32_t link_lenient_cut(struct told *told) { return mb_pool_link_lenient(lenient.at, lenient.len - 1, &other, &told->size, FAULT, REFUSAL); }
-static uint32_t compile(struct told *told) { return mb_pool_compile(&source_name, 1, &source, 1, &other, REFUSAL); }
-static uint32_t compile_cut(struct told *told)
+static uint32_t raw_check(struct outputs *outputs) { return mb_raw_check(message.at, message.len, LIMITS, FAULT); }
+static uint32_t raw_check_cut(struct outputs *outputs) { return mb_raw_check(message.at, message.len - 1, LIMITS, FAULT); }
+static uint32_t raw_short(struct outputs *outputs) { return mb_raw_short(message.at, message.len, LIMITS, OUT, FAULT); }
+static uint32_t raw_short_cut(struct outputs *outputs) { return mb_raw_short(message.at, message.len - 1, LIMITS, OUT, FAULT); }
+static uint32_t link(struct outputs *outputs) { return mb_pool_link(set.at, set.len, &other, FAULT, REFUSAL); }
+static uint32_t link_cut(struct outputs *outputs) { return mb_pool_link(set.at, set.len - 1, &other, FAULT, REFUSAL); }
+static uint32_t link_lenient(struct outputs *outputs) { return mb_pool_link_lenient(lenient.at, lenient.len, &other, &outputs->size, FAULT, REFUSAL); }
+static uint32_t link_lenient_cut(struct outputs *outputs) { return mb_pool_link_lenient(lenient.at, lenient.len - 1, &other, &outputs->size, FAULT, REFUSAL); }
+static uint32_t compile(struct outputs *outputs) { return mb_pool_compile(&source_name, 1, &source, 1, &other, REFUSAL); }
+static uint32_t compile_cut(struct outputs *outputs)
 {
     struct mb_bytes cut = {source.at, source.len - 3};
     return mb_pool_compile(&source_name, 1, &cut, 1, &other, REFUSAL);
 }
-static uint32_t compile_lenient(struct told *told) { return mb_pool_compile_lenient(&source_name, 1, &source, 1, &other, REFUSAL); }
-static uint32_t compile_lenient_cut(struct told *told)
+static uint32_t compile_lenient(struct outputs *outputs) { return mb_pool_compile_lenient(&source_name, 1, &source, 1, &other, REFUSAL); }
+static uint32_t compile_lenient_cut(struct outputs *outputs)
 {
     struct mb_bytes cut = {source.at, source.len - 3};
     return mb_pool_compile_lenient(&source_name, 1, &cut, 1, &other, REFUSAL);
 }
-static uint32_t compat(struct told *told) { return mb_compat(&pool, type, &old_pool, 0, told->differences, 16, &told->size); }
-static uint32_t compat_none(struct told *told) { return mb_compat(&pool, type, &old_pool, 99, told->differences, 16, &told->size); }
-static uint32_t cause_name(struct told *told) { return mb_cause_name(12, OUT); }
-static uint32_t no_cause_name(struct told *told) { return mb_cause_name(13, OUT); }
-static uint32_t share(struct told *told) { (void)told; return mb_pool_share(&pool, &other); }
-static uint32_t find(struct told *told) { return mb_pool_type(&pool, name.at, name.len, &told->type); }
-static uint32_t check(struct told *told) { return mb_check(&pool, type, message.at, message.len, LIMITS, FAULT); }
-static uint32_t check_cut(struct told *told) { return mb_check(&pool, type, message.at, message.len - 1, LIMITS, FAULT); }
-static uint32_t canon(struct told *told) { return mb_canon(&pool, type, message.at, message.len, LIMITS, OUT, FAULT); }
-static uint32_t canon_cut(struct told *told) { return mb_canon(&pool, type, message.at, message.len - 1, LIMITS, OUT, FAULT); }
-static uint32_t show(struct told *told) { return mb_show(&pool, type, message.at, message.len, LIMITS, OUT, FAULT); }
-static uint32_t show_cut(struct told *told) { return mb_show(&pool, type, message.at, message.len - 1, LIMITS, OUT, FAULT); }
-static uint32_t frames(struct told *told) { return mb_frames(&pool, type, frame.at, frame.len, LIMITS, &told->frame, FAULT); }
-static uint32_t frames_cut(struct told *told) { return mb_frames(&pool, type, frame.at, frame.len - 1, LIMITS, &told->frame, FAULT); }
-static uint32_t no_field(struct told *told) { return mb_pool_field(&pool, type, (const uint8_t *)"none", 4, &told->field); }
-static uint32_t counts(struct told *told) { return mb_pool_counts(&pool, &told->counts); }
-static uint32_t type_at(struct told *told) { return mb_pool_message(&pool, type, &told->type_report, OUT); }
-static uint32_t field_at(struct told *told) { return mb_pool_field_at(&pool, type, 0, &told->field, &told->detail, OUT); }
-static uint32_t no_oneof(struct told *told) { return mb_pool_oneof(&pool, type, 99, OUT); }
-static uint32_t no_enum(struct told *told) { return mb_pool_enum(&pool, 99, &told->enum_report, OUT); }
-static uint32_t no_value(struct told *told) { return mb_pool_enum_value(&pool, 99, 0, &told->number, OUT); }
-static uint32_t file_at(struct told *told) { return mb_pool_file(&pool, 0, &told->file_report, told->text, sizeof told->text); }
-static uint32_t message_new(struct told *told) { (void)told; return mb_message_new(&pool, type, &made); }
-static uint32_t message_decode(struct told *told) { return mb_message_decode(&pool, type, message.at, message.len, LIMITS, &made, FAULT); }
-static uint32_t message_decode_cut(struct told *told) { return mb_message_decode(&pool, type, message.at, message.len - 1, LIMITS, &made, FAULT); }
-static uint32_t message_encode(struct told *told) { return mb_message_encode(&held, OUT); }
-static uint32_t message_length(struct told *told) { return mb_message_encoded_length(&held, &told->size); }
-static uint32_t message_show(struct told *told) { return mb_message_show(&held, OUT); }
-static uint32_t message_show_decimal(struct told *told) { return mb_message_show_decimal(&held, OUT); }
-static uint32_t message_copy(struct told *told) { (void)told; return mb_message_copy(&held, &made); }
-static uint32_t message_equal(struct told *told) { return mb_message_equal(&held, &second, &told->detail); }
-static uint32_t message_unknown(struct told *told) { return mb_message_unknown(&held, NULL, 0, NULL, 0, OUT); }
-static uint32_t message_no_oneof(struct told *told) { return mb_message_oneof(&held, NULL, 0, NULL, 0, 99, &told->detail); }
-static uint32_t message_json(struct told *told)
+static uint32_t compat(struct outputs *outputs) { return mb_compat(&pool, type, &old_pool, 0, outputs->differences, 16, &outputs->size); }
+static uint32_t compat_none(struct outputs *outputs) { return mb_compat(&pool, type, &old_pool, 99, outputs->differences, 16, &outputs->size); }
+static uint32_t cause_name(struct outputs *outputs) { return mb_cause_name(12, OUT); }
+static uint32_t no_cause_name(struct outputs *outputs) { return mb_cause_name(13, OUT); }
+static uint32_t share(struct outputs *outputs) { (void)outputs; return mb_pool_share(&pool, &other); }
+static uint32_t find(struct outputs *outputs) { return mb_pool_type(&pool, name.at, name.len, &outputs->type); }
+static uint32_t check(struct outputs *outputs) { return mb_check(&pool, type, message.at, message.len, LIMITS, FAULT); }
+static uint32_t check_cut(struct outputs *outputs) { return mb_check(&pool, type, message.at, message.len - 1, LIMITS, FAULT); }
+static uint32_t canon(struct outputs *outputs) { return mb_canon(&pool, type, message.at, message.len, LIMITS, OUT, FAULT); }
+static uint32_t canon_cut(struct outputs *outputs) { return mb_canon(&pool, type, message.at, message.len - 1, LIMITS, OUT, FAULT); }
+static uint32_t show(struct outputs *outputs) { return mb_show(&pool, type, message.at, message.len, LIMITS, OUT, FAULT); }
+static uint32_t show_cut(struct outputs *outputs) { return mb_show(&pool, type, message.at, message.len - 1, LIMITS, OUT, FAULT); }
+static uint32_t show_decimal(struct outputs *outputs) { return mb_show_decimal(&pool, type, message.at, message.len, LIMITS, OUT, FAULT); }
+static uint32_t pool_set(struct outputs *outputs) { return mb_pool_set(&pool, OUT); }
+static uint32_t frames(struct outputs *outputs) { return mb_frames(&pool, type, frame.at, frame.len, LIMITS, &outputs->frame, FAULT); }
+static uint32_t frames_cut(struct outputs *outputs) { return mb_frames(&pool, type, frame.at, frame.len - 1, LIMITS, &outputs->frame, FAULT); }
+static uint32_t no_field(struct outputs *outputs) { return mb_pool_field(&pool, type, (const uint8_t *)"none", 4, &outputs->field); }
+static uint32_t counts(struct outputs *outputs) { return mb_pool_counts(&pool, &outputs->counts); }
+static uint32_t type_at(struct outputs *outputs) { return mb_pool_message(&pool, type, &outputs->type_report, OUT); }
+static uint32_t field_at(struct outputs *outputs) { return mb_pool_field_at(&pool, type, 0, &outputs->field, &outputs->detail, OUT); }
+static uint32_t no_oneof(struct outputs *outputs) { return mb_pool_oneof(&pool, type, 99, OUT); }
+static uint32_t no_enum(struct outputs *outputs) { return mb_pool_enum(&pool, 99, &outputs->enum_report, OUT); }
+static uint32_t no_value(struct outputs *outputs) { return mb_pool_enum_value(&pool, 99, 0, &outputs->number, OUT); }
+static uint32_t file_at(struct outputs *outputs) { return mb_pool_file(&pool, 0, &outputs->file_report, outputs->text, sizeof outputs->text); }
+static uint32_t message_new(struct outputs *outputs) { (void)outputs; return mb_message_new(&pool, type, &made); }
+static uint32_t message_decode(struct outputs *outputs) { return mb_message_decode(&pool, type, message.at, message.len, LIMITS, &made, FAULT); }
+static uint32_t message_decode_cut(struct outputs *outputs) { return mb_message_decode(&pool, type, message.at, message.len - 1, LIMITS, &made, FAULT); }
+static uint32_t message_encode(struct outputs *outputs) { return mb_message_encode(&held, OUT); }
+static uint32_t message_length(struct outputs *outputs) { return mb_message_encoded_length(&held, &outputs->size); }
+static uint32_t message_show(struct outputs *outputs) { return mb_message_show(&held, OUT); }
+static uint32_t message_show_decimal(struct outputs *outputs) { return mb_message_show_decimal(&held, OUT); }
+static uint32_t message_copy(struct outputs *outputs) { (void)outputs; return mb_message_copy(&held, &made); }
+static uint32_t message_equal(struct outputs *outputs) { return mb_message_equal(&held, &second, &outputs->detail); }
+static uint32_t message_unknown(struct outputs *outputs) { return mb_message_unknown(&held, NULL, 0, NULL, 0, OUT); }
+static uint32_t message_no_oneof(struct outputs *outputs) { return mb_message_oneof(&held, NULL, 0, NULL, 0, 99, &outputs->detail); }
+static uint32_t message_json(struct outputs *outputs)
 {
     static uint32_t fields[MB_MAX_STEPS];
     size_t steps;
@@ -134,16 +136,16 @@ static const struct mb_value entry[] = {{MB_FIELD, 4}, {MB_STRING, 0}}, article[
 static const struct mb_bytes spring = {(const uint8_t *)"spring", 6};
 static const uint32_t address[] = {6, 1};
 #define ENTRY entry, 2, &spring, 1
-static uint32_t message_get(struct told *told) { return mb_message_get(&held, ENTRY, &told->value); }
-static uint32_t message_get_bad(struct told *told) { return mb_message_get(&held, entry, 2, NULL, 0, &told->value); }
-static uint32_t message_read(struct told *told) { return mb_message_read(&held, article, 3, NULL, 0, OUT); }
-static uint32_t message_fields(struct told *told) { return mb_message_fields(&held, article, 2, NULL, 0, told->numbers, 16, &told->size); }
-static uint32_t message_key(struct told *told) { return mb_message_key(&held, entry, 1, NULL, 0, 1, &told->value, told->out, sizeof told->out); }
-static uint32_t message_no_key(struct told *told) { return mb_message_key(&held, entry, 1, NULL, 0, 2, &told->value, told->out, sizeof told->out); }
+static uint32_t message_get(struct outputs *outputs) { return mb_message_get(&held, ENTRY, &outputs->value); }
+static uint32_t message_get_bad(struct outputs *outputs) { return mb_message_get(&held, entry, 2, NULL, 0, &outputs->value); }
+static uint32_t message_read(struct outputs *outputs) { return mb_message_read(&held, article, 3, NULL, 0, OUT); }
+static uint32_t message_fields(struct outputs *outputs) { return mb_message_fields(&held, article, 2, NULL, 0, outputs->numbers, 16, &outputs->size); }
+static uint32_t message_key(struct outputs *outputs) { return mb_message_key(&held, entry, 1, NULL, 0, 1, &outputs->value, outputs->out, sizeof outputs->out); }
+static uint32_t message_no_key(struct outputs *outputs) { return mb_message_key(&held, entry, 1, NULL, 0, 2, &outputs->value, outputs->out, sizeof outputs->out); }
 /* Makes a change in a message that was decoded for it with ample memory. A change that is refused has to leave the message as it was: then it answers 99. */
 static uint32_t changed(uint32_t (*change)(struct mb_message *))
 {
-    static struct told none;
+    static struct outputs none;
     static uint8_t before[4096], after[4096];
     struct mb_message work = {0};
     size_t before_len = 0, after_len = 0;
@@ -179,31 +181,31 @@ static uint32_t insert_none(struct mb_message *it) { return mb_message_insert(it
 static uint32_t remove_one(struct mb_message *it) { return mb_message_remove(it, ENTRY); }
 static uint32_t merge_one(struct mb_message *it)
 {
-    static struct told none;
+    static struct outputs none;
     return mb_message_merge(it, (const uint8_t *)"\x98\x06\x07", 3, LIMITS, &none.fault, none.path, 0);
 }
 static uint32_t merge_cut(struct mb_message *it)
 {
-    static struct told none;
+    static struct outputs none;
     return mb_message_merge(it, message.at, message.len - 1, LIMITS, &none.fault, none.path, 0);
 }
-static uint32_t message_merge(struct told *told) { (void)told; return changed(merge_one); }
-static uint32_t message_merge_cut(struct told *told) { (void)told; return changed(merge_cut); }
+static uint32_t message_merge(struct outputs *outputs) { (void)outputs; return changed(merge_one); }
+static uint32_t message_merge_cut(struct outputs *outputs) { (void)outputs; return changed(merge_cut); }
 static uint32_t drop_nothing(struct mb_message *it) { return mb_message_drop_unknown(it, unknown_of, 2, NULL, 0); }
-static uint32_t message_set(struct told *told) { (void)told; return changed(set_one); }
-static uint32_t message_set_bytes(struct told *told) { (void)told; return changed(set_bytes); }
-static uint32_t message_set_wrong(struct told *told) { (void)told; return changed(set_wrong); }
-static uint32_t message_clear(struct told *told) { (void)told; return changed(clear_one); }
-static uint32_t message_push(struct told *told) { (void)told; return changed(push_one); }
-static uint32_t message_insert(struct told *told) { (void)told; return changed(insert_one); }
-static uint32_t message_insert_none(struct told *told) { (void)told; return changed(insert_none); }
-static uint32_t message_remove(struct told *told) { (void)told; return changed(remove_one); }
-static uint32_t message_drop_nothing(struct told *told) { (void)told; return changed(drop_nothing); }
-#define ADDRESS address, 2, &told->value, told->out, sizeof told->out, FAULT
-static uint32_t find_address(struct told *told) { return mb_find(&pool, type, message.at, message.len, LIMITS, ADDRESS); }
-static uint32_t find_address_cut(struct told *told) { return mb_find(&pool, type, message.at, message.len - 1, LIMITS, ADDRESS); }
+static uint32_t message_set(struct outputs *outputs) { (void)outputs; return changed(set_one); }
+static uint32_t message_set_bytes(struct outputs *outputs) { (void)outputs; return changed(set_bytes); }
+static uint32_t message_set_wrong(struct outputs *outputs) { (void)outputs; return changed(set_wrong); }
+static uint32_t message_clear(struct outputs *outputs) { (void)outputs; return changed(clear_one); }
+static uint32_t message_push(struct outputs *outputs) { (void)outputs; return changed(push_one); }
+static uint32_t message_insert(struct outputs *outputs) { (void)outputs; return changed(insert_one); }
+static uint32_t message_insert_none(struct outputs *outputs) { (void)outputs; return changed(insert_none); }
+static uint32_t message_remove(struct outputs *outputs) { (void)outputs; return changed(remove_one); }
+static uint32_t message_drop_nothing(struct outputs *outputs) { (void)outputs; return changed(drop_nothing); }
+#define ADDRESS address, 2, &outputs->value, outputs->out, sizeof outputs->out, FAULT
+static uint32_t find_address(struct outputs *outputs) { return mb_find(&pool, type, message.at, message.len, LIMITS, ADDRESS); }
+static uint32_t find_address_cut(struct outputs *outputs) { return mb_find(&pool, type, message.at, message.len - 1, LIMITS, ADDRESS); }
 
-static const struct { const char *name; uint32_t (*call)(struct told *told); uint32_t answer; } calls[] = {
+static const struct { const char *name; uint32_t (*call)(struct outputs *outputs); uint32_t answer; } calls[] = {
     {"mb_raw_check", raw_check, MB_DONE}, {"mb_raw_check of a cut message", raw_check_cut, MB_FAULT},
     {"mb_raw_short", raw_short, MB_DONE}, {"mb_raw_short of a cut message", raw_short_cut, MB_FAULT},
     {"mb_pool_link", link, MB_DONE}, {"mb_pool_link of a cut set", link_cut, MB_FAULT},
@@ -213,6 +215,7 @@ static const struct { const char *name; uint32_t (*call)(struct told *told); uin
     {"mb_check", check, MB_DONE}, {"mb_check of a cut message", check_cut, MB_FAULT},
     {"mb_canon", canon, MB_DONE}, {"mb_canon of a cut message", canon_cut, MB_FAULT},
     {"mb_show", show, MB_DONE}, {"mb_show of a cut message", show_cut, MB_FAULT},
+    {"mb_show_decimal", show_decimal, MB_DONE}, {"mb_pool_set", pool_set, MB_DONE},
     {"mb_frames", frames, MB_DONE}, {"mb_frames of a cut frame", frames_cut, MB_PART},
     {"mb_pool_field of no field", no_field, MB_ABSENT}, {"mb_pool_counts", counts, MB_DONE}, {"mb_pool_message", type_at, MB_DONE},
     {"mb_pool_field_at", field_at, MB_DONE}, {"mb_pool_oneof of no oneof", no_oneof, MB_ABSENT}, {"mb_pool_enum of no enum", no_enum, MB_NO_TYPE},
@@ -252,9 +255,58 @@ static struct mb_bytes read_file(const char *path)
     return read;
 }
 
+/* Decodes the messages that calls are made on, and has their fields built where that is asked. Returns whether it could. */
+static bool hold(bool is_built)
+{
+    struct mb_fault fault;
+    size_t count;
+
+    return mb_message_decode(&pool, type, message.at, message.len, LIMITS, &held, &fault, NULL, 0) == MB_DONE &&
+           mb_message_copy(&held, &second) == MB_DONE &&
+           (!is_built || (mb_message_fields(&held, NULL, 0, NULL, 0, NULL, 0, &count) == MB_DONE &&
+                          mb_message_fields(&second, NULL, 0, NULL, 0, NULL, 0, &count) == MB_DONE));
+}
+
+/* Refuses the growths of each call in turn. Returns how many of the calls are wrong. */
+static int wrong_calls(bool is_built, bool is_shop)
+{
+    static struct outputs outputs, blank;
+    /* The last ones read what the shop's order alone has. */
+    size_t count = sizeof calls / sizeof *calls - (is_shop ? 0 : OF_SHOP);
+    int wrong = 0;
+
+    memset(&blank, 0xee, sizeof blank);
+    for (size_t i = 0; i < count; i++) {
+        long before = live, number = -1, tried;
+        uint32_t answer;
+        do {
+            outputs = blank;
+            granted = 1 << 30;
+            if (!hold(is_built))
+                exit(2);
+            asked = 0;
+            granted = ++number;
+            answer = calls[i].call(&outputs);
+            tried = asked;
+            granted = 1 << 30;
+            mb_pool_free(&other);
+            mb_message_free(&made);
+            mb_message_free(&held);
+            mb_message_free(&second);
+            if (live != before || (answer == MB_MEMORY && memcmp(&outputs, &blank, sizeof outputs) != 0)) {
+                printf("%s with %ld growths: WRONG: answer %u, %ld blocks more\n", calls[i].name, number, answer, live - before);
+                wrong++;
+            }
+        } while (answer == MB_MEMORY);
+        printf("%s%s: %ld growths refused, then answer %u by %ld\n", calls[i].name, is_built ? ", built" : "", number, answer, tried);
+        wrong += answer != calls[i].answer;
+    }
+    return wrong;
+}
+
 int main(int argc, char **argv)
 {
-    static struct told told, blank;
+    static struct outputs outputs;
     static uint8_t framed[65536];
     int wrong = 0;
 
@@ -269,38 +321,15 @@ int main(int argc, char **argv)
     framed[0] = (uint8_t)message.len;
     memcpy(framed + 1, message.at, message.len);
     frame = (struct mb_bytes){framed, message.len + 1};
-    memset(&blank, 0xee, sizeof blank);
     granted = 1 << 30;
-    if (mb_pool_link(set.at, set.len, &pool, &told.fault, told.path, 0, &told.refusal, NULL, 0) != MB_DONE ||
+    if (mb_pool_link(set.at, set.len, &pool, &outputs.fault, outputs.path, 0, &outputs.refusal, NULL, 0) != MB_DONE ||
         mb_pool_type(&pool, name.at, name.len, &type) != MB_DONE ||
-        mb_message_decode(&pool, type, message.at, message.len, LIMITS, &held, &told.fault, told.path, 0) != MB_DONE ||
-        mb_message_copy(&held, &second) != MB_DONE || mb_pool_share(&pool, &old_pool) != MB_DONE)
+        mb_pool_share(&pool, &old_pool) != MB_DONE)
         return 2;
-    /* The last ones read what the shop's order alone has. */
-    size_t count = sizeof calls / sizeof *calls - (strcmp(argv[2], "shop.Order") == 0 ? 0 : OF_SHOP);
-    for (size_t i = 0; i < count; i++) {
-        long before = live, number = -1;
-        uint32_t answer;
-        do {
-            told = blank;
-            asked = 0;
-            granted = ++number;
-            answer = calls[i].call(&told);
-            granted = 1 << 30;
-            mb_pool_free(&other);
-            mb_message_free(&made);
-            if (live != before || (answer == MB_MEMORY && memcmp(&told, &blank, sizeof told) != 0)) {
-                printf("%s with %ld growths: WRONG: answer %u, %ld blocks more\n", calls[i].name, number, answer, live - before);
-                wrong++;
-            }
-        } while (answer == MB_MEMORY);
-        printf("%s: %ld growths refused, then answer %u by %ld\n", calls[i].name, number, answer, asked);
-        wrong += answer != calls[i].answer;
-    }
+    for (size_t i = 0; i < 2; i++)
+        wrong += wrong_calls(i == 1, strcmp(argv[2], "shop.Order") == 0);
     mb_pool_free(&pool);
     mb_pool_free(&old_pool);
-    mb_message_free(&held);
-    mb_message_free(&second);
     printf("%d wrong, %ld blocks left\n", wrong, live);
     return wrong != 0 || live != 0;
 }

@@ -1,5 +1,7 @@
 // Times mb_check and mb_canon beside libprotobuf's dynamic messages and, built with -DUPB, beside upb, and mb_find and mb_message_decode by themselves,
 // in one process: speed SET TYPE ROUNDS FILE..
+// Times to decode a message, read one field of it and encode it, by each of them: speed SET TYPE ROUNDS --field NUMBER FILE.., where each file has one
+// canonical message, and the field is of a uint64.
 //
 // SET is what protoc --include_imports --descriptor_set_out wrote; the files are those of bench/texts/make_texts.py. Each round times each call on all
 // texts of a file in turn, by processor time; the best round counts. A line for each file and call tells the bytes and the nanoseconds. With no file
@@ -19,6 +21,7 @@
 #include <algorithm>
 #include <cstdio>
 #include <cstdlib>
+#include <cstring>
 #include <functional>
 #include <memory>
 #include <utility>
@@ -93,6 +96,79 @@ static bool rewrite(const std::string& text) {
     return message->SerializeToCodedStream(&coded) && coded.ByteCount() == int(text.size());
 }
 
+static uint32_t field_number;
+static uint64_t read_number;
+
+// Decodes a message, reads a field, and encodes it.
+static bool route(const std::string& text) {
+    const mb_value place = {MB_FIELD, field_number};
+    mb_message message = {};
+    mb_value value = {};
+    size_t size = 0;
+    bool done = mb_message_decode(&types, number, bytes_of(text), text.size(), MB_MAX_BYTES, MB_MAX_DEPTH, &message, &fault, path, MB_MAX_STEPS) == MB_DONE &&
+                mb_message_get(&message, &place, 1, nullptr, 0, &value) == MB_DONE &&
+                mb_message_encode(&message, out.data(), out.size(), &size) == MB_DONE;
+    mb_message_free(&message);
+    read_number = value.number;
+    return done && size == text.size();
+}
+
+// The same of a message whose fields are built, as after a change.
+static bool route_built(const std::string& text) {
+    const mb_value place = {MB_FIELD, field_number};
+    mb_message message = {};
+    mb_value value = {};
+    size_t size = 0;
+    bool done = mb_message_decode(&types, number, bytes_of(text), text.size(), MB_MAX_BYTES, MB_MAX_DEPTH, &message, &fault, path, MB_MAX_STEPS) == MB_DONE &&
+                mb_message_get(&message, &place, 1, nullptr, 0, &value) == MB_DONE &&
+                mb_message_set(&message, &place, 1, nullptr, 0, &value) == MB_DONE &&
+                mb_message_encode(&message, out.data(), out.size(), &size) == MB_DONE;
+    mb_message_free(&message);
+    read_number = value.number;
+    return done && size == text.size();
+}
+
+static bool route_reflected(const std::string& text) {
+    std::unique_ptr<Message> message(prototype->New());
+    if (!message->ParseFromString(text) || message->ByteSizeLong() > out.size()) return false;
+    read_number = message->GetReflection()->GetUInt64(*message, message->GetDescriptor()->FindFieldByNumber(field_number));
+    io::ArrayOutputStream array(out.data(), out.size());
+    io::CodedOutputStream coded(&array);
+    coded.SetSerializationDeterministic(true);
+    return message->SerializeToCodedStream(&coded) && coded.ByteCount() == int(text.size());
+}
+
+static const std::vector<std::pair<const char*, Call>> routes = {
+    {"field here", route},
+    {"change here", route_built},
+    {"field libprotobuf", route_reflected},
+#ifdef UPB
+    {"field upb", [](const std::string& text) { size_t size = 0; return upb_route(text.data(), text.size(), field_number, &read_number, &size) && size == text.size(); }},
+#endif
+};
+
+// Nanoseconds of each on a message, the best of the rounds. Each has to read the same number.
+static bool time_routes(const char* file, int rounds) {
+    const std::string text = contents(file);
+    const int count = int(20000000 / (text.size() + 1000));
+    std::vector<double> best(routes.size(), -1);
+    route(text);
+    const uint64_t wanted = read_number;
+    for (int round = 0; round < rounds; round++)
+        for (size_t it = 0; it < routes.size(); it++) {
+            long long start = now();
+            for (int k = 0; k < count; k++)
+                if (!routes[it].second(text) || read_number != wanted) {
+                    fprintf(stderr, "%s: %s failed\n", file, routes[it].first);
+                    return false;
+                }
+            double spent = double(now() - start) / count;
+            best[it] = best[it] < 0 ? spent : std::min(best[it], spent);
+        }
+    for (size_t it = 0; it < routes.size(); it++) printf("%s %s %zu %.0f\n", file, routes[it].first, text.size(), best[it]);
+    return true;
+}
+
 static const std::vector<std::pair<const char*, Call>> calls = {
     {"check here", check},
     {"check libprotobuf", parse},
@@ -140,6 +216,12 @@ int main(int count, char** words) {
     if (count < 4 || !link_all(contents(words[1]), words[2])) return 2;
     const std::string nothing, type_name = words[2];
     out.resize(16 << 20);
+    if (count > 5 && !strcmp(words[4], "--field")) {
+        field_number = uint32_t(atoi(words[5]));
+        for (int k = 6; k < count; k++)
+            if (!time_routes(words[k], atoi(words[3]))) return 3;
+        return 0;
+    }
     for (int k = 4; k < count; k++)
         if (!time_all(words[k], atoi(words[3]))) return 3;
     if (count > 4) return 0;

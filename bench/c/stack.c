@@ -127,6 +127,8 @@ static uint32_t no_value(void) { int32_t number; return mb_pool_enum_value(&pool
 static uint32_t file_at(void) { struct mb_file report; return mb_pool_file(&pool, 0, &report, out, sizeof out); }
 static uint32_t canon(void) { return mb_canon(&pool, type, nested, nested_len, LIMITS, OUT, FAULT); }
 static uint32_t show(void) { return mb_show(&pool, type, nested, nested_len, LIMITS, OUT, FAULT); }
+static uint32_t show_decimal(void) { return mb_show_decimal(&pool, type, nested, nested_len, LIMITS, OUT, FAULT); }
+static uint32_t pool_set(void) { return mb_pool_set(&pool, OUT); }
 static uint32_t frames(void) { return mb_frames(&pool, type, framed, framed_len, LIMITS, &frame, FAULT); }
 static uint32_t find(void) { return mb_pool_type(&pool, (const uint8_t *)"T", 1, &type); }
 static uint32_t share(void)
@@ -187,7 +189,7 @@ static const struct { const char *name; uint32_t (*call)(void); } calls[] = {
     {"mb_check of lone entries that are cut off inside", check_cut_inside}, {"mb_frames of lone entries", frames_lone},
     {"mb_check of turned maps", check_turned}, {"mb_check of turned maps that are cut off", check_turned_cut},
     {"mb_show of turned maps", show_turned}, {"mb_check of turned lone entries", check_turned_lone},
-    {"mb_canon", canon}, {"mb_show", show}, {"mb_frames", frames},
+    {"mb_canon", canon}, {"mb_show", show}, {"mb_show_decimal", show_decimal}, {"mb_frames", frames}, {"mb_pool_set", pool_set},
     {"mb_message_decode of turned maps, mb_message_encoded_length and mb_message_free", count_held},
     {"mb_message_decode of turned maps, mb_message_encode and mb_message_free", encode_held},
     {"mb_message_decode of turned maps, mb_message_show and mb_message_free", show_held}, {"mb_pool_field", find_field},

@@ -7,6 +7,7 @@
 enum { DEPTH = 100 };
 
 static const upb_MiniTable *table;
+static const upb_MessageDef *declared;
 
 bool upb_link_set(const char *set, size_t set_len, const char *type_name)
 {
@@ -25,6 +26,7 @@ bool upb_link_set(const char *set, size_t set_len, const char *type_name)
     const upb_MessageDef *type = upb_DefPool_FindMessageByName(pool, type_name);
     if (type != NULL)
         table = upb_MessageDef_MiniTable(type);
+    declared = type;
     return type != NULL;
 }
 
@@ -48,6 +50,20 @@ bool upb_rewrite(const char *text, size_t len, size_t *size)
     upb_Arena *arena = upb_Arena_New();
     upb_Message *message = decoded(text, len, arena);
     bool is_written = message != NULL && upb_Encode(message, table, kUpb_Encode_Deterministic | UPB_ENCODE_MAXDEPTH(DEPTH), arena, size) != NULL;
+    upb_Arena_Free(arena);
+    return is_written;
+}
+
+bool upb_route(const char *text, size_t len, uint32_t field, uint64_t *value, size_t *size)
+{
+    upb_Arena *arena = upb_Arena_New();
+    upb_Message *message = decoded(text, len, arena);
+    bool is_written = message != NULL;
+
+    if (is_written) {
+        *value = upb_Message_Get(message, upb_MessageDef_FindFieldByNumber(declared, field)).uint64_val;
+        is_written = upb_Encode(message, table, kUpb_Encode_Deterministic | UPB_ENCODE_MAXDEPTH(DEPTH), arena, size) != NULL;
+    }
     upb_Arena_Free(arena);
     return is_written;
 }

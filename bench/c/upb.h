@@ -4,6 +4,7 @@
 
 #include <stdbool.h>
 #include <stddef.h>
+#include <stdint.h>
 
 #ifdef __cplusplus
 extern "C" {
@@ -17,6 +18,9 @@ bool upb_read(const char *text, size_t len);
 
 /* Reads a message and writes it again, with map entries in order. Tells how many bytes it wrote, into memory of its own. */
 bool upb_rewrite(const char *text, size_t len, size_t *size);
+
+/* Reads a message, and the field of an integer of 64 bits in it, and writes the message again. Tells how many bytes it wrote. */
+bool upb_route(const char *text, size_t len, uint32_t field, uint64_t *value, size_t *size);
 
 #ifdef __cplusplus
 }

@@ -1,7 +1,7 @@
 /* What protobuf's conformance suite tests of the library for C: in_c SET, in place of crates/conformance (README.md beside this). Each message is decoded
  * and encoded by a handle of the library. To build it, in this folder:
  *
- *   cc -I../../include -I../../examples/c -o in_c in_c.c ../../examples/c/told.c ../../examples/c/files.c ../../dist/libmabristu.a */
+ *   cc -I../../include -I../../examples/c -o in_c in_c.c ../../examples/c/report.c ../../examples/c/files.c ../../dist/libmabristu.a */
 #include "common.h"
 
 #include <stdlib.h>
@@ -66,14 +66,14 @@ static void answer(struct mb_pool *pool, const uint8_t *bytes, size_t len)
     struct request asked = request_of(bytes, len);
     struct mb_message message = {0};
     struct buffer out = {0};
-    struct told told;
+    struct report report;
     uint32_t type;
 
     if (asked.payload == NULL || asked.format != PROTOBUF || mb_pool_type(pool, asked.type, asked.type_len, &type) != MB_DONE) {
         respond(SKIPPED, (const uint8_t *)"other", 5);
         return;
     }
-    uint32_t decoded = mb_message_decode(pool, type, asked.payload, asked.payload_len, MB_MAX_BYTES, MB_MAX_DEPTH, &message, &told.fault, told.path,
+    uint32_t decoded = mb_message_decode(pool, type, asked.payload, asked.payload_len, MB_MAX_BYTES, MB_MAX_DEPTH, &message, &report.fault, report.path,
                                          MB_MAX_STEPS);
     if (decoded == MB_DONE && mb_message_encoded_length(&message, &out.len) == MB_DONE) {
         grow(&out, out.len + 1);

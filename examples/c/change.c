@@ -66,7 +66,7 @@ int main(int argc, char **argv)
 {
     struct mb_pool pool = {0};
     struct mb_message message = {0};
-    struct told told;
+    struct report report;
     size_t size = 0;
 
     bool is_lenient = take_lenient(&argc, &argv);
@@ -76,7 +76,7 @@ int main(int argc, char **argv)
     }
     uint32_t type = find_type(argv[1], argv[2], is_lenient, &pool);
     struct buffer file = read_file(argv[3]);
-    uint32_t answer = mb_message_decode(&pool, type, file.bytes, file.len, MB_MAX_BYTES, MB_MAX_DEPTH, &message, &told.fault, told.path, MB_MAX_STEPS);
+    uint32_t answer = mb_message_decode(&pool, type, file.bytes, file.len, MB_MAX_BYTES, MB_MAX_DEPTH, &message, &report.fault, report.path, MB_MAX_STEPS);
     mb_pool_free(&pool);
     for (int i = 4; answer == MB_DONE && i < argc; i++)
         change(&message, argv[i]);
@@ -91,5 +91,5 @@ int main(int argc, char **argv)
         printf("\n");
     free(file.bytes);
     mb_message_free(&message);
-    return answer == MB_DONE ? 0 : tell(answer, &told);
+    return answer == MB_DONE ? 0 : print_refusal(answer, &report);
 }

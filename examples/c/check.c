@@ -6,7 +6,7 @@
 int main(int argc, char **argv)
 {
     struct mb_pool pool = {0};
-    struct told told;
+    struct report report;
 
     bool is_lenient = take_lenient(&argc, &argv);
     if (argc != 4 || mb_interface() != MB_INTERFACE) {
@@ -15,11 +15,11 @@ int main(int argc, char **argv)
     }
     uint32_t type = find_type(argv[1], argv[2], is_lenient, &pool);
     struct buffer file = read_file(argv[3]);
-    uint32_t answer = mb_check(&pool, type, file.bytes, file.len, MB_MAX_BYTES, MB_MAX_DEPTH, &told.fault, told.path, MB_MAX_STEPS);
+    uint32_t answer = mb_check(&pool, type, file.bytes, file.len, MB_MAX_BYTES, MB_MAX_DEPTH, &report.fault, report.path, MB_MAX_STEPS);
     free(file.bytes);
     mb_pool_free(&pool);
     if (answer != MB_DONE)
-        return tell(answer, &told);
+        return print_refusal(answer, &report);
     printf("ok\n");
     return 0;
 }

@@ -1,4 +1,4 @@
-/* What the programs beside it share: the line of each refusal, as pbtool tells it (told.c); files, and a type of a set (files.c). */
+/* What the programs beside it share: the line of each refusal, as pbtool prints it (report.c); files, and a type of a set (files.c). */
 #ifndef COMMON_H
 #define COMMON_H
 
@@ -7,7 +7,7 @@
 #include <stdio.h>
 
 /* A fault, with room for its whole path. */
-struct told {
+struct report {
     struct mb_fault fault;
     struct mb_step path[MB_MAX_STEPS];
 };
@@ -19,19 +19,19 @@ struct buffer {
 };
 
 /* Prints the steps of a fault's path, and its cause. */
-void print_path(FILE *out, const char *before, const struct told *told, const char *between);
+void print_path(FILE *out, const char *before, const struct report *report, const char *between);
 
 /* Tells on standard error why a call on a message did not answer MB_DONE. Returns the status to exit with: 1 for a refusal, 3 for memory. */
-int tell(uint32_t answer, const struct told *told);
+int print_refusal(uint32_t answer, const struct report *report);
 
 /* Says which part of a message has no JSON form: the numbers of the fields that lead to it, and why. */
-void tell_json(uint32_t answer, const uint32_t *path, size_t steps);
+void print_json_refusal(uint32_t answer, const uint32_t *path, size_t steps);
 
 /* The same of mb_pool_link. The names in the text are those that the refusal tells. */
-int tell_link(uint32_t answer, const struct told *told, const struct mb_refusal *refusal, const uint8_t *text);
+int print_link_refusal(uint32_t answer, const struct report *report, const struct mb_refusal *refusal, const uint8_t *text);
 
 /* The same of mb_pool_compile, of sources with these names. */
-int tell_compile(uint32_t answer, const struct mb_refusal *refusal, const uint8_t *text, char *const *names);
+int print_compile_refusal(uint32_t answer, const struct mb_refusal *refusal, const uint8_t *text, char *const *names);
 
 /* Gives a buffer more room. Where there is no memory it tells so and exits with status 3. */
 void grow(struct buffer *buffer, size_t room);
@@ -48,10 +48,10 @@ struct buffer read_file(const char *name);
 
 /* Reports, in place of MB_PART, the fault of the frame that a stream ends in: what there is of its message has one there, or it is whole records, and ends
  * too early. */
-void cut_frame(struct mb_pool *pool, uint32_t type, const uint8_t *bytes, size_t len, struct told *told);
+void cut_frame(struct mb_pool *pool, uint32_t type, const uint8_t *bytes, size_t len, struct report *report);
 
-/* How many bytes the frame has that the bytes begin with, or 0 where its length does not end there. */
-size_t frame_size(const uint8_t *bytes, size_t len);
+/* Takes a flag off the front of the words. Returns whether it was there. */
+bool take_flag(const char *flag, int *argc, char ***argv);
 
 /* Takes the word --lenient from the words of the command line, if it is the first of them. Returns whether it was. */
 bool take_lenient(int *argc, char ***argv);

@@ -43,7 +43,7 @@ int main(int argc, char **argv)
     do {
         len = count + 1;
         if ((found = realloc(found, len * sizeof *found)) == NULL)
-            return tell(MB_MEMORY, NULL);
+            return print_refusal(MB_MEMORY, NULL);
         answer = mb_compat(&pools[0], types[0], &pools[1], types[1], found, len, &count);
     } while (answer == MB_DONE && count > len);
     for (size_t i = 0; answer == MB_DONE && i < count; i++)
@@ -51,5 +51,5 @@ int main(int argc, char **argv)
     free(found);
     mb_pool_free(&pools[0]);
     mb_pool_free(&pools[1]);
-    return answer == MB_DONE ? 0 : tell(answer, NULL);
+    return answer == MB_DONE ? 0 : print_refusal(answer, NULL);
 }

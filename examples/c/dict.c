@@ -59,16 +59,16 @@ static void walk(struct mb_value step, int depth, const char *name)
 
 int main(int argc, char **argv)
 {
-    struct told told;
+    struct report report;
 
     if (argc != 4 || mb_interface() != MB_INTERFACE)
         return fprintf(stderr, "usage: dict SET TYPE FILE\n"), 2;
     uint32_t type = find_type(argv[1], argv[2], false, &pool);
     struct buffer file = read_file(argv[3]);
-    uint32_t answer = mb_message_decode(&pool, type, file.bytes, file.len, MB_MAX_BYTES, MB_MAX_DEPTH, &message, &told.fault, told.path, MB_MAX_STEPS);
+    uint32_t answer = mb_message_decode(&pool, type, file.bytes, file.len, MB_MAX_BYTES, MB_MAX_DEPTH, &message, &report.fault, report.path, MB_MAX_STEPS);
     if (answer == MB_DONE)
         walk((struct mb_value){0, 0}, 0, argv[2]);
     mb_message_free(&message);
     mb_pool_free(&pool);
-    return answer == MB_DONE ? 0 : tell(answer, &told);
+    return answer == MB_DONE ? 0 : print_refusal(answer, &report);
 }

@@ -31,7 +31,7 @@ int main(int argc, char **argv)
 {
     struct mb_pool pool = {0};
     struct mb_message order = {0};
-    struct told told;
+    struct report report;
     size_t size = 0;
 
     if (argc != 4 || mb_interface() != MB_INTERFACE) {
@@ -40,9 +40,9 @@ int main(int argc, char **argv)
     }
     uint32_t type = find_type(argv[1], "shop.Order", false, &pool);
     struct buffer file = read_file(argv[2]);
-    uint32_t answer = mb_message_decode(&pool, type, file.bytes, file.len, MB_MAX_BYTES, MB_MAX_DEPTH, &order, &told.fault, told.path, MB_MAX_STEPS);
+    uint32_t answer = mb_message_decode(&pool, type, file.bytes, file.len, MB_MAX_BYTES, MB_MAX_DEPTH, &order, &report.fault, report.path, MB_MAX_STEPS);
     if (answer != MB_DONE || (answer = edit(&order)) != MB_DONE || (answer = mb_message_encoded_length(&order, &size)) != MB_DONE)
-        return tell(answer, &told);
+        return print_refusal(answer, &report);
     grow(&file, size + 1);
     answer = mb_message_encode(&order, file.bytes, file.room, &size);
     FILE *out = answer == MB_DONE ? fopen(argv[3], "wb") : NULL;

@@ -54,56 +54,49 @@ struct buffer read_file(const char *name)
     return buffer;
 }
 
-void cut_frame(struct mb_pool *pool, uint32_t type, const uint8_t *bytes, size_t len, struct told *told)
+void cut_frame(struct mb_pool *pool, uint32_t type, const uint8_t *bytes, size_t len, struct report *report)
 {
     size_t begin = 0;
 
     while (begin < len && bytes[begin++] >= 0x80)
         ;
-    told->fault = (struct mb_fault){.byte = len - begin, .cause = MB_TRUNCATED};
-    mb_check(pool, type, bytes + begin, len - begin, MB_MAX_BYTES, MB_MAX_DEPTH, &told->fault, told->path, MB_MAX_STEPS);
-    told->fault.byte += begin;
+    report->fault = (struct mb_fault){.byte = len - begin, .cause = MB_TRUNCATED};
+    mb_check(pool, type, bytes + begin, len - begin, MB_MAX_BYTES, MB_MAX_DEPTH, &report->fault, report->path, MB_MAX_STEPS);
+    report->fault.byte += begin;
 }
 
-size_t frame_size(const uint8_t *bytes, size_t len)
+bool take_flag(const char *flag, int *argc, char ***argv)
 {
-    uint64_t size = 0;
-
-    for (size_t i = 0; i < len && i < 10; i++) {
-        size |= (uint64_t)(bytes[i] & 0x7f) << 7 * i;
-        if (bytes[i] < 0x80)
-            return size <= MB_MAX_BYTES ? (size_t)size + i + 1 : 0;
-    }
-    return 0;
-}
-
-bool take_lenient(int *argc, char ***argv)
-{
-    if (*argc < 2 || strcmp((*argv)[1], "--lenient") != 0)
+    if (*argc < 2 || strcmp((*argv)[1], flag) != 0)
         return false;
     --*argc;
     ++*argv;
     return true;
 }
 
+bool take_lenient(int *argc, char ***argv)
+{
+    return take_flag("--lenient", argc, argv);
+}
+
 void link_set(const char *set_name, bool is_lenient, struct mb_pool *pool)
 {
     struct buffer set = read_file(set_name), text = {0};
     struct mb_refusal refusal = {0};
-    struct told told;
+    struct report report;
     size_t left_out;
     uint32_t answer;
 
-    /* Where the names that are told are longer than the room, their lengths are told: link once more with that much. */
+    /* Where the names are longer than the buffer, their lengths are reported: link once more with that much. */
     do {
         grow(&text, refusal.file_len + refusal.name_len + 256);
         if (is_lenient)
-            answer = mb_pool_link_lenient(set.bytes, set.len, pool, &left_out, &told.fault, told.path, MB_MAX_STEPS, &refusal, text.bytes, text.room);
+            answer = mb_pool_link_lenient(set.bytes, set.len, pool, &left_out, &report.fault, report.path, MB_MAX_STEPS, &refusal, text.bytes, text.room);
         else
-            answer = mb_pool_link(set.bytes, set.len, pool, &told.fault, told.path, MB_MAX_STEPS, &refusal, text.bytes, text.room);
+            answer = mb_pool_link(set.bytes, set.len, pool, &report.fault, report.path, MB_MAX_STEPS, &refusal, text.bytes, text.room);
     } while (answer != MB_DONE && refusal.file_len + refusal.name_len > text.room);
     if (answer != MB_DONE)
-        exit(tell_link(answer, &told, &refusal, text.bytes));
+        exit(print_link_refusal(answer, &report, &refusal, text.bytes));
     free(text.bytes);
     free(set.bytes);
 }

@@ -40,7 +40,7 @@ int main(int argc, char **argv)
     uint32_t numbers[MAX_NUMBERS], answer;
     struct mb_pool pool = {0};
     struct mb_value value;
-    struct told told;
+    struct report report;
 
     bool is_lenient = take_lenient(&argc, &argv);
     if (argc != 5 || mb_interface() != MB_INTERFACE) {
@@ -53,7 +53,7 @@ int main(int argc, char **argv)
     /* No string in the input is longer than the input. */
     grow(&bytes, file.len + 1);
     answer = mb_find(&pool, type, file.bytes, file.len, MB_MAX_BYTES, MB_MAX_DEPTH, numbers, count, &value, bytes.bytes, bytes.room,
-                     &told.fault, told.path, MB_MAX_STEPS);
+                     &report.fault, report.path, MB_MAX_STEPS);
     if (answer == MB_DONE)
         print_value(&value, bytes.bytes);
     else if (answer == MB_ABSENT)
@@ -61,5 +61,5 @@ int main(int argc, char **argv)
     free(bytes.bytes);
     free(file.bytes);
     mb_pool_free(&pool);
-    return answer == MB_DONE || answer == MB_ABSENT ? 0 : tell(answer, &told);
+    return answer == MB_DONE || answer == MB_ABSENT ? 0 : print_refusal(answer, &report);
 }

@@ -1,7 +1,7 @@
 /* message encode|list|decimal|json|empty [--lenient] SET TYPE FILE: decodes the message that a file holds, and prints its canonical bytes in hexadecimal
  * digits, as `pbtool canon` does, or its listing, as `pbtool show` does or `pbtool show --decimal`, or its JSON, as `pbtool json` does; or prints the bytes
- * of an empty message. The message stays with the library in between,
- * behind a handle of its own, and the pool is freed before.
+ * of an empty message. The message stays with the library in between, behind a handle of its own, and the pool is freed before.
+ * message relink [--lenient] SET TYPE FILE: as encode, by the types of the set that the library writes of the pool.
  * message field SET TYPE NAME: prints what the field of this name is, by the numbers of struct mb_field. */
 #include "common.h"
 
@@ -9,7 +9,7 @@
 #include <stdlib.h>
 #include <string.h>
 
-static int tell_field(struct mb_pool *pool, uint32_t type, const char *name)
+static int print_field(struct mb_pool *pool, uint32_t type, const char *name)
 {
     struct mb_field field;
     uint32_t answer = mb_pool_field(pool, type, (const uint8_t *)name, strlen(name), &field);
@@ -21,8 +21,28 @@ static int tell_field(struct mb_pool *pool, uint32_t type, const char *name)
     return answer == MB_DONE ? 0 : 1;
 }
 
+/* Links the set that the library writes of the pool, in place of it. */
+static uint32_t relink(struct mb_pool *pool, const char *name, uint32_t *type)
+{
+    struct buffer set = {0};
+    struct mb_refusal refusal;
+    struct report report;
+    uint32_t answer;
+
+    do {
+        grow(&set, set.len + 256);
+        answer = mb_pool_set(pool, set.bytes, set.room, &set.len);
+    } while (answer == MB_DONE && set.len > set.room);
+    if (answer == MB_DONE)
+        answer = mb_pool_link(set.bytes, set.len, pool, &report.fault, report.path, MB_MAX_STEPS, &refusal, NULL, 0);
+    if (answer == MB_DONE)
+        answer = mb_pool_type(pool, (const uint8_t *)name, strlen(name), type);
+    free(set.bytes);
+    return answer;
+}
+
 /* Decodes a file, or makes an empty message for the word `empty`. */
-static uint32_t make_message(const char *word, const char *name, struct mb_pool *pool, uint32_t type, struct mb_message *message, struct told *told)
+static uint32_t make_message(const char *word, const char *name, struct mb_pool *pool, uint32_t type, struct mb_message *message, struct report *report)
 {
     struct buffer file = read_file(name);
     uint32_t answer;
@@ -30,7 +50,7 @@ static uint32_t make_message(const char *word, const char *name, struct mb_pool 
     if (strcmp(word, "empty") == 0)
         answer = mb_message_new(pool, type, message);
     else
-        answer = mb_message_decode(pool, type, file.bytes, file.len, MB_MAX_BYTES, MB_MAX_DEPTH, message, &told->fault, told->path, MB_MAX_STEPS);
+        answer = mb_message_decode(pool, type, file.bytes, file.len, MB_MAX_BYTES, MB_MAX_DEPTH, message, &report->fault, report->path, MB_MAX_STEPS);
     free(file.bytes);
     return answer;
 }
@@ -63,7 +83,7 @@ static uint32_t print_json(struct mb_message *message, struct buffer *out)
         fwrite(out->bytes, 1, out->len, stdout);
         printf("\n");
     } else if (answer != MB_MEMORY) {
-        tell_json(answer, path, steps);
+        print_json_refusal(answer, path, steps);
     }
     return answer;
 }
@@ -98,7 +118,7 @@ int main(int argc, char **argv)
     struct mb_pool pool = {0};
     struct mb_message message = {0};
     struct buffer out = {0};
-    struct told told;
+    struct report report;
 
     const char *word = argc > 1 ? argv[1] : "";
     argc--, argv++;
@@ -109,11 +129,13 @@ int main(int argc, char **argv)
     }
     uint32_t type = find_type(argv[1], argv[2], is_lenient, &pool);
     if (strcmp(word, "field") == 0) {
-        int status = tell_field(&pool, type, argv[3]);
+        int status = print_field(&pool, type, argv[3]);
         mb_pool_free(&pool);
         return status;
     }
-    uint32_t answer = make_message(word, argv[3], &pool, type, &message, &told);
+    uint32_t answer = strcmp(word, "relink") == 0 ? relink(&pool, argv[2], &type) : MB_DONE;
+    if (answer == MB_DONE)
+        answer = make_message(word, argv[3], &pool, type, &message, &report);
     mb_pool_free(&pool);
     if (answer == MB_DONE)
         answer = print_message(word, &message, &out);
@@ -121,5 +143,5 @@ int main(int argc, char **argv)
     mb_message_free(&message);
     if (answer >= MB_JSON_NO_KIND && answer <= MB_JSON_UNSUPPORTED)
         return 1;
-    return answer == MB_DONE ? 0 : tell(answer, &told);
+    return answer == MB_DONE ? 0 : print_refusal(answer, &report);
 }

@@ -161,7 +161,7 @@ int main(int argc, char **argv)
     static struct place place;
     struct mb_pool pool = {0};
     struct mb_message message = {0};
-    struct told told;
+    struct report report;
 
     bool is_lenient = take_lenient(&argc, &argv);
     if (argc != 4 || mb_interface() != MB_INTERFACE) {
@@ -170,7 +170,7 @@ int main(int argc, char **argv)
     }
     uint32_t type = find_type(argv[1], argv[2], is_lenient, &pool);
     struct buffer file = read_file(argv[3]);
-    uint32_t answer = mb_message_decode(&pool, type, file.bytes, file.len, MB_MAX_BYTES, MB_MAX_DEPTH, &message, &told.fault, told.path, MB_MAX_STEPS);
+    uint32_t answer = mb_message_decode(&pool, type, file.bytes, file.len, MB_MAX_BYTES, MB_MAX_DEPTH, &message, &report.fault, report.path, MB_MAX_STEPS);
     free(file.bytes);
     mb_pool_free(&pool);
     if (answer == MB_DONE)
@@ -178,5 +178,5 @@ int main(int argc, char **argv)
     for (size_t i = 0; i < MAX_PLACE; i++)
         free(place.strings[i].bytes);
     mb_message_free(&message);
-    return answer == MB_DONE ? 0 : tell(answer, &told);
+    return answer == MB_DONE ? 0 : print_refusal(answer, &report);
 }

@@ -24,7 +24,7 @@ int main(int argc, char **argv)
     struct mb_field field;
     struct mb_frame frame;
     struct mb_value value;
-    struct told told;
+    struct report report;
     uint8_t text[256];
     uint32_t answer = MB_DONE;
 
@@ -38,11 +38,11 @@ int main(int argc, char **argv)
     struct buffer stream = read_file(argv[4]);
     for (size_t at = 0; at < stream.len && (answer == MB_DONE || answer == MB_ABSENT); at += frame.end) {
         const uint8_t *bytes = stream.bytes + at;
-        answer = mb_frames(&pool, type, bytes, stream.len - at, MB_MAX_BYTES, MB_MAX_DEPTH, &frame, &told.fault, told.path, MB_MAX_STEPS);
+        answer = mb_frames(&pool, type, bytes, stream.len - at, MB_MAX_BYTES, MB_MAX_DEPTH, &frame, &report.fault, report.path, MB_MAX_STEPS);
         if (answer != MB_DONE)
             break;
         answer = mb_find(&pool, type, bytes + frame.begin, frame.end - frame.begin, MB_MAX_BYTES, MB_MAX_DEPTH, &field.number, 1, &value, text,
-                         sizeof text, &told.fault, told.path, MB_MAX_STEPS);
+                         sizeof text, &report.fault, report.path, MB_MAX_STEPS);
         printf("%zu ", at);
         print_value(answer, &value, text);
     }

@@ -8,7 +8,7 @@ int main(int argc, char **argv)
 {
     struct mb_pool pool = {0};
     struct mb_frame frame;
-    struct told told;
+    struct report report;
     size_t kept = 0, skipped = 0;
 
     if (argc != 5 || mb_interface() != MB_INTERFACE) {
@@ -20,8 +20,8 @@ int main(int argc, char **argv)
     FILE *out = fopen(argv[4], "wb");
     for (size_t at = 0; out != NULL && at < stream.len;) {
         const uint8_t *bytes = stream.bytes + at;
-        size_t left = stream.len - at, size = frame_size(bytes, left);
-        uint32_t answer = mb_frames(&pool, type, bytes, left, MB_MAX_BYTES, MB_MAX_DEPTH, &frame, &told.fault, told.path, MB_MAX_STEPS);
+        size_t left = stream.len - at;
+        uint32_t answer = mb_frames(&pool, type, bytes, left, MB_MAX_BYTES, MB_MAX_DEPTH, &frame, &report.fault, report.path, MB_MAX_STEPS);
         if (answer == MB_DONE) {
             fwrite(bytes, 1, frame.end, out);
             at += frame.end;
@@ -29,13 +29,13 @@ int main(int argc, char **argv)
             continue;
         }
         if (answer == MB_PART)
-            cut_frame(&pool, type, bytes, left, &told);
+            cut_frame(&pool, type, bytes, left, &report);
         else if (answer != MB_FAULT)
-            return tell(answer, &told);
-        printf("frame %zu byte %" PRIu64, kept + skipped++, told.fault.byte);
-        print_path(stdout, " path ", &told, " cause ");
-        /* On behind it, where its length can be read, and the stream does not end in it. */
-        at += size == 0 || size > left ? left : size;
+            return print_refusal(answer, &report);
+        printf("frame %zu byte %" PRIu64, kept + skipped++, report.fault.byte);
+        print_path(stdout, " path ", &report, " cause ");
+        /* Go on after it, if its length can be read and the stream does not end in it. */
+        at += frame.end == 0 || frame.end > left ? left : frame.end;
     }
     free(stream.bytes);
     mb_pool_free(&pool);

@@ -32,19 +32,19 @@ int main(int argc, char **argv)
     size_t count = (size_t)argc - 2;
     struct mb_bytes *names = calloc(2 * count, sizeof *names);
     if (names == NULL)
-        return tell(MB_MEMORY, NULL);
+        return print_refusal(MB_MEMORY, NULL);
     struct mb_bytes *texts = names + count;
     for (size_t i = 0; i < count; i++) {
         struct buffer source = read_source(argv[1], argv[i + 2]);
         names[i] = (struct mb_bytes){(const uint8_t *)argv[i + 2], strlen(argv[i + 2])};
         texts[i] = (struct mb_bytes){source.bytes, source.len};
     }
-    /* Where the names that are told are longer than the room, their lengths are told: once more with that much. */
+    /* Where the names are longer than the buffer, their lengths are reported: once more with that much. */
     do {
         grow(&text, refusal.file_len + refusal.name_len + 256);
         answer = (is_lenient ? mb_pool_compile_lenient : mb_pool_compile)(names, count, texts, count, &pool, &refusal, text.bytes, text.room);
     } while (answer != MB_DONE && refusal.file_len + refusal.name_len > text.room);
-    int status = answer == MB_DONE ? 0 : tell_compile(answer, &refusal, text.bytes, argv + 2);
+    int status = answer == MB_DONE ? 0 : print_compile_refusal(answer, &refusal, text.bytes, argv + 2);
     for (size_t i = 0; i < count; i++)
         free((void *)texts[i].at);
     free(names);

@@ -5,14 +5,14 @@
 #include <stdlib.h>
 
 /* Lists a message one level in. Returns what mb_show answers. */
-static uint32_t list(struct mb_pool *pool, uint32_t type, const uint8_t *bytes, size_t len, struct buffer *listing, struct told *told)
+static uint32_t list(struct mb_pool *pool, uint32_t type, const uint8_t *bytes, size_t len, struct buffer *listing, struct report *report)
 {
     uint32_t answer;
 
     do {
         grow(listing, listing->len + 256);
-        answer = mb_show(pool, type, bytes, len, MB_MAX_BYTES, MB_MAX_DEPTH, listing->bytes, listing->room, &listing->len, &told->fault,
-                         told->path, MB_MAX_STEPS);
+        answer = mb_show(pool, type, bytes, len, MB_MAX_BYTES, MB_MAX_DEPTH, listing->bytes, listing->room, &listing->len, &report->fault,
+                         report->path, MB_MAX_STEPS);
     } while (answer == MB_DONE && listing->len > listing->room);
     for (size_t at = 0; answer == MB_DONE && at < listing->len; at++) {
         if (at == 0 || listing->bytes[at - 1] == '\n')
@@ -23,15 +23,15 @@ static uint32_t list(struct mb_pool *pool, uint32_t type, const uint8_t *bytes, 
 }
 
 /* Tells why the bytes begin with no frame, and returns the status to exit with. For MB_PART the file ends in it. */
-static int tell_frame(uint32_t answer, struct mb_pool *pool, uint32_t type, const uint8_t *bytes, size_t len, size_t number, struct told *told)
+static int print_frame_refusal(uint32_t answer, struct mb_pool *pool, uint32_t type, const uint8_t *bytes, size_t len, size_t number, struct report *report)
 {
     if (answer == MB_PART) {
-        cut_frame(pool, type, bytes, len, told);
+        cut_frame(pool, type, bytes, len, report);
         answer = MB_FAULT;
     }
     if (answer == MB_FAULT)
         fprintf(stderr, "frame %zu ", number);
-    return tell(answer, told);
+    return print_refusal(answer, report);
 }
 
 int main(int argc, char **argv)
@@ -39,7 +39,7 @@ int main(int argc, char **argv)
     struct mb_pool pool = {0};
     struct buffer held = {0}, listing = {0};
     struct mb_frame frame;
-    struct told told;
+    struct report report;
     size_t number = 0, at = 0;
     uint32_t answer = MB_PART;
 
@@ -51,11 +51,11 @@ int main(int argc, char **argv)
     uint32_t type = find_type(argv[1], argv[2], is_lenient, &pool);
     FILE *file = open_file(argv[3]);
     while (answer == MB_DONE || (answer == MB_PART && read_more(file, &held))) {
-        answer = mb_frames(&pool, type, held.bytes + held.done, held.len - held.done, MB_MAX_BYTES, MB_MAX_DEPTH, &frame, &told.fault, told.path,
+        answer = mb_frames(&pool, type, held.bytes + held.done, held.len - held.done, MB_MAX_BYTES, MB_MAX_DEPTH, &frame, &report.fault, report.path,
                            MB_MAX_STEPS);
         if (answer == MB_DONE) {
             printf("frame %zu at %zu size %zu\n", number++, at, frame.end);
-            answer = list(&pool, type, held.bytes + held.done + frame.begin, frame.end - frame.begin, &listing, &told);
+            answer = list(&pool, type, held.bytes + held.done + frame.begin, frame.end - frame.begin, &listing, &report);
             held.done += frame.end;
             at += frame.end;
         }
@@ -63,7 +63,7 @@ int main(int argc, char **argv)
     close_file(file, argv[3]);
     int status = 0;
     if (answer != MB_PART || held.done < held.len)
-        status = tell_frame(answer, &pool, type, held.bytes + held.done, held.len - held.done, number, &told);
+        status = print_frame_refusal(answer, &pool, type, held.bytes + held.done, held.len - held.done, number, &report);
     free(listing.bytes);
     free(held.bytes);
     mb_pool_free(&pool);

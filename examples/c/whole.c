@@ -7,7 +7,7 @@
 
 static struct mb_pool pool;
 static struct mb_message first, copy;
-static struct told told;
+static struct report report;
 
 static uint32_t print_equal(void)
 {
@@ -68,14 +68,14 @@ static uint32_t print_oneofs(uint32_t type)
 static uint32_t run(uint32_t type, const char *file_name, const char *more_name)
 {
     struct buffer file = read_file(file_name), more = read_file(more_name);
-    uint32_t answer = mb_message_decode(&pool, type, file.bytes, file.len, MB_MAX_BYTES, MB_MAX_DEPTH, &first, &told.fault, told.path, MB_MAX_STEPS);
+    uint32_t answer = mb_message_decode(&pool, type, file.bytes, file.len, MB_MAX_BYTES, MB_MAX_DEPTH, &first, &report.fault, report.path, MB_MAX_STEPS);
 
     if (answer == MB_DONE)
         answer = mb_message_copy(&first, &copy);
     if (answer == MB_DONE)
         answer = print_equal();
     if (answer == MB_DONE)
-        answer = mb_message_merge(&copy, more.bytes, more.len, MB_MAX_BYTES, MB_MAX_DEPTH, &told.fault, told.path, MB_MAX_STEPS);
+        answer = mb_message_merge(&copy, more.bytes, more.len, MB_MAX_BYTES, MB_MAX_DEPTH, &report.fault, report.path, MB_MAX_STEPS);
     free(file.bytes);
     free(more.bytes);
     if (answer == MB_DONE)
@@ -97,5 +97,5 @@ int main(int argc, char **argv)
     mb_message_free(&copy);
     mb_message_free(&first);
     mb_pool_free(&pool);
-    return answer == MB_DONE ? 0 : tell(answer, &told);
+    return answer == MB_DONE ? 0 : print_refusal(answer, &report);
 }

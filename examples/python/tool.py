@@ -1,6 +1,7 @@
 """The words of pbtool, by the package mabristu: tool.py check|show|canon|frames [--lenient] SET TYPE FILE, tool.py short FILE, tool.py compile [--lenient] ROOT FILE..
 Canonical bytes, listing and JSON, of a message that the library holds: tool.py encode|list|decimal|json [--lenient] SET TYPE FILE, and of an empty message:
-tool.py empty SET TYPE FILE. How many parts of a set lenient reading leaves out: tool.py omitted SET. What a
+tool.py empty SET TYPE FILE. As encode, by the set that the library writes of the
+pool: tool.py relink [--lenient] SET TYPE FILE. The listing with decimal floats, of bytes: tool.py decimal-bytes SET TYPE FILE. How many parts of a set lenient reading leaves out: tool.py omitted SET. What a
 field is: tool.py field SET TYPE NAME. What a message has, a place a line: tool.py read [--lenient] SET TYPE FILE, as read.c prints it. The
 scalar at a path of field numbers, such as 3.1: tool.py find [--lenient] SET TYPE FILE PATH. What a set
 declares: tool.py types [--lenient] SET. Changes of a message, and its bytes: tool.py change SET TYPE FILE CHANGE.., as change.c says.
@@ -99,7 +100,7 @@ def whole(message, more):
         yield f"oneof {copy.type.field(member).number if member else 0}\n"
 
 
-def told(command, *words):
+def printed(command, *words):
     """What a command prints, a part at a time."""
     if command == "short":
         data = read(words[0])
@@ -136,12 +137,17 @@ def told(command, *words):
         yield "absent\n" if value is None else f"{value[0]} {value[1].hex() if isinstance(value[1], bytes) else signed(*value)}\n"
     else:
         *options, set_name, type_name, name = words
-        found = mabristu.Pool(read(set_name), lenient="--lenient" in options)[type_name]
+        pool = mabristu.Pool(read(set_name), lenient="--lenient" in options)
+        found = pool[type_name]
+        if command == "relink":
+            found, command = mabristu.Pool(pool.to_set())[type_name], "encode"
         if command == "check":
             found.check(read(name))
             yield "ok\n"
         elif command == "show":
             yield found.listing(read(name))
+        elif command == "decimal-bytes":
+            yield found.listing(read(name), decimal=True)
         elif command == "canon":
             yield found.canonical(read(name)).hex() + "\n"
         elif command in ("encode", "empty"):
@@ -165,7 +171,7 @@ def told(command, *words):
 
 def main(words):
     try:
-        for part in told(*words):
+        for part in printed(*words):
             sys.stdout.write(part)
         return 0
     except mabristu.Refused as refused:

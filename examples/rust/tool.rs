@@ -1,6 +1,7 @@
 //! The words of pbtool, by the crate mabristu: tool check|show|canon|frames [--lenient] SET TYPE FILE, tool short FILE, tool compile [--lenient] ROOT FILE..
 //! Canonical bytes, listing and JSON, of a message that the library holds: tool encode|list|decimal|json [--lenient] SET TYPE FILE, and of an empty message: tool empty
-//! SET TYPE FILE. How many parts of a set lenient reading leaves out: tool omitted SET. What a field is: tool field SET TYPE NAME. What a message has, a
+//! SET TYPE FILE. As encode, by the set that the library writes of the pool: tool relink
+//! [--lenient] SET TYPE FILE. The listing with decimal floats, of bytes: tool decimal-bytes SET TYPE FILE. How many parts of a set lenient reading leaves out: tool omitted SET. What a field is: tool field SET TYPE NAME. What a message has, a
 //! place a line: tool read [--lenient] SET TYPE FILE, as read.c prints it. The scalar at a path of field numbers, such as 3.1: tool find [--lenient] SET TYPE
 //! FILE PATH. What a set declares: tool types [--lenient] SET. Changes of a message, and its bytes: tool change SET TYPE FILE CHANGE.., as change.c says.
 //! A copy of a message with more bytes decoded onto it: tool whole SET TYPE FILE MORE, as whole.c prints it. What differs between two types: tool compat
@@ -128,11 +129,17 @@ fn run(words: &[&str]) -> Result<(), Failure> {
         [command, set, name, file] => (command, Pool::link(&read(set)?), name, file),
         _ => return Err(("usage: see the head of tool.rs".to_owned(), 2)),
     };
-    let found = message_type(&pool.map_err(of_set)?, name)?;
+    let pool = pool.map_err(of_set)?;
+    let found = message_type(&pool, name)?;
     let bytes = read(file)?;
     match *command {
         "check" => found.check(&bytes).map_err(refused).and_then(|()| print(b"ok\n")),
         "show" => print(found.listing(&bytes).map_err(refused)?.as_bytes()),
+        "decimal-bytes" => print(found.listing_decimal(&bytes).map_err(refused)?.as_bytes()),
+        "relink" => {
+            let linked = Pool::link(&pool.to_set().map_err(refused)?).map_err(of_set)?;
+            encode(message_type(&linked, name)?.decode(&bytes))
+        }
         "canon" => print(&hexadecimal(&found.canonical(&bytes).map_err(refused)?)),
         "encode" => encode(found.decode(&bytes)),
         "empty" => encode(found.empty()),

@@ -282,6 +282,26 @@ static PyObject *pool_schema(PyObject *self, PyObject *Py_UNUSED(ignored))
     return PyObject_CallFunctionObjArgs(schema_class, self, NULL);
 }
 
+PyDoc_STRVAR(to_set_doc,
+"to_set()\n--\n\nA descriptor set of the pool's types: Pool(pool.to_set()) has the same ones. Services and options, which a pool does not hold, are not in it.");
+
+static PyObject *pool_to_set(PyObject *self, PyObject *Py_UNUSED(ignored))
+{
+    struct mb_pool *handle = &((Pool *)self)->handle;
+    uint8_t small[SMALL_OUTPUT], *out = small;
+    size_t size = 0;
+    uint32_t answer = mb_pool_set(handle, out, sizeof small, &size);
+
+    if (answer == MB_DONE && size > sizeof small) {
+        out = PyMem_Malloc(size);
+        answer = out == NULL ? MB_MEMORY : mb_pool_set(handle, out, size, &size);
+    }
+    PyObject *set = answer == MB_DONE ? as_bytes(out, size) : refuse(answer, NULL);
+    if (out != small)
+        PyMem_Free(out);
+    return set;
+}
+
 static int pool_traverse(PyObject *self, visitproc visit, void *arg)
 {
     Py_VISIT(Py_TYPE(self));
@@ -317,6 +337,7 @@ PyObject *make_pool_type(void)
     static PyMethodDef methods[] = {
         {"of_sources", (PyCFunction)(void (*)(void))pool_of_sources, METH_VARARGS | METH_KEYWORDS | METH_CLASS, of_sources_doc},
         {"schema", pool_schema, METH_NOARGS, schema_doc},
+        {"to_set", pool_to_set, METH_NOARGS, to_set_doc},
         {"_counts", pool_counts, METH_NOARGS, "_counts()\n--\n\nHow many files, message types and enums there are."},
         {"_file", pool_file, METH_VARARGS, "_file(index)\n--\n\nname, package, how many imports, whether it is of proto2."},
         {"_message", pool_message, METH_VARARGS, "_message(number)\n--\n\nname, index of the file, number of the parent or None."},

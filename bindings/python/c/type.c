@@ -123,11 +123,31 @@ static PyObject *type_canonical(PyObject *self, PyObject *args, PyObject *kwargs
 }
 
 PyDoc_STRVAR(listing_doc,
-"listing(data, *, max_bytes=MAX_BYTES, max_depth=MAX_DEPTH)\n--\n\nThe listing of a message, as `pbtool show` prints it.");
+"listing(data, *, decimal=False, max_bytes=MAX_BYTES, max_depth=MAX_DEPTH)\n--\n\nThe listing of a message, as `pbtool show` prints it; with decimal=True each"
+"\nfloat as the shortest decimal that reads back to the same bits.");
+
+/* Takes a flag out of the keywords. Returns 1, 0, or -1 with an exception; the other keywords are in a new dict, or NULL. */
+static int take_flag(PyObject *kwargs, const char *name, PyObject **rest)
+{
+    if (kwargs == NULL)
+        return 0;
+    *rest = PyDict_Copy(kwargs);
+    if (*rest == NULL)
+        return -1;
+    PyObject *flag = PyDict_GetItemString(*rest, name);
+    int is_set = flag == NULL ? 0 : PyObject_IsTrue(flag);
+    return flag != NULL && is_set >= 0 && PyDict_DelItemString(*rest, name) < 0 ? -1 : is_set;
+}
 
 static PyObject *type_listing(PyObject *self, PyObject *args, PyObject *kwargs)
 {
-    return written(self, args, kwargs, mb_show, 4, as_str);
+    PyObject *rest = NULL, *answer = NULL;
+    int is_decimal = take_flag(kwargs, "decimal", &rest);
+
+    if (is_decimal >= 0)
+        answer = written(self, args, rest, is_decimal ? mb_show_decimal : mb_show, 4, as_str);
+    Py_XDECREF(rest);
+    return answer;
 }
 
 PyDoc_STRVAR(decode_doc,
@@ -175,8 +195,28 @@ static PyObject *type_call(PyObject *self, PyObject *args, PyObject *kwargs)
 }
 
 PyDoc_STRVAR(frame_doc,
-"_frame(data, at, max_bytes, max_depth)\n--\n\nThe frame that begins at an index of the bytes: where its message begins and ends, or None where the bytes"
-"\nend before it does.");
+"_frame(data, at, max_bytes, max_depth)\n--\n\nThe frame that begins at an index of the bytes: where its message begins and ends, counted from there, and whether"
+"\nit is whole; the numbers are 0 where its length can't be read. A frame that is refused has its size in the exception.");
+
+/* A size, up to the greatest that Python has. */
+static Py_ssize_t signed_size(size_t size)
+{
+    return size > PY_SSIZE_T_MAX ? PY_SSIZE_T_MAX : (Py_ssize_t)size;
+}
+
+/* Puts the size of a refused frame, if it is known, into the exception that is set. */
+static void add_size(size_t size)
+{
+    PyObject *kind, *refused, *trace;
+
+    PyErr_Fetch(&kind, &refused, &trace);
+    PyErr_NormalizeException(&kind, &refused, &trace);
+    PyObject *number = size == 0 ? NULL : PyLong_FromSsize_t(signed_size(size));
+    if (number != NULL)
+        PyObject_SetAttrString(refused, "size", number);
+    Py_XDECREF(number);
+    PyErr_Restore(kind, refused, trace);
+}
 
 static PyObject *type_frame(PyObject *self, PyObject *args)
 {
@@ -195,11 +235,13 @@ static PyObject *type_frame(PyObject *self, PyObject *args)
     call.in.len -= (size_t)at;
     /* Most frames are short, whatever comes after them. */
     RUN(&call, call.in.is_fixed && call.in.len >= 16 * LONG_INPUT, CALL(&call, mb_frames, &frame));
-    if (call.answer == MB_PART) {
-        drop_input(&call.in);
-        Py_RETURN_NONE;
-    }
-    return end(&call, call.answer == MB_DONE ? Py_BuildValue("nn", at + (Py_ssize_t)frame.begin, at + (Py_ssize_t)frame.end) : NULL);
+    bool is_whole = call.answer == MB_DONE, is_refused = call.answer == MB_FAULT;
+    if (call.answer == MB_PART)
+        call.answer = MB_DONE;
+    PyObject *answer = end(&call, call.answer == MB_DONE ? Py_BuildValue("nnO", (Py_ssize_t)frame.begin, signed_size(frame.end), is_whole ? Py_True : Py_False) : NULL);
+    if (is_refused)
+        add_size(frame.end);
+    return answer;
 }
 
 PyDoc_STRVAR(frames_doc,

@@ -18,17 +18,6 @@ class Frame:
         return f"<mabristu.Frame at {self.at} size {self.size}>"
 
 
-def length_at(held, at):
-    """The length that bytes begin with at an index, and where it ends; or None where it does not end there."""
-    length = shift = 0
-    for end in range(at, min(len(held), at + 10)):
-        length |= (held[end] & 127) << shift
-        shift += 7
-        if held[end] < 128:
-            return length, end + 1
-    return None
-
-
 class Frames:
     """Reads the frames of a stream. Where one is refused and its end is known, reading goes on after it: with `skip`, or by the next call of next()."""
 
@@ -53,19 +42,18 @@ class Frames:
     def _next(self):
         while True:
             try:
-                found = self._type._frame(self._held, self._at, *self._limits)
+                begin, size, is_whole = self._type._frame(self._held, self._at, *self._limits)
             except Refused as refused:
                 raise self._passed(refused) from None
-            if found:
-                begin, end = found
-                frame = Frame(self._before + self._at, end - self._at, self._held[begin:end])
-                self._at, self._index = end, self._index + 1
+            if is_whole:
+                frame = Frame(self._before + self._at, size, self._held[self._at + begin : self._at + size])
+                self._at, self._index = self._at + size, self._index + 1
                 return frame
             if not self._more():
                 break
         if self._at == len(self._held):
             raise StopIteration
-        raise self._cut()
+        raise self._cut(begin if size else len(self._held) - self._at, size or None)
 
     def _more(self):
         """Reads on, at least as much again as is held, so that a large frame is tried but a few times. Whether there was more."""
@@ -82,11 +70,11 @@ class Frames:
 
     def _passed(self, refused):
         """Goes to the end of a frame that is refused, or of the stream where its length can't be read."""
-        placed, found = self._placed(refused), length_at(self._held, self._at)
-        if found is None or found[0] > FULL[0]:
+        placed = self._placed(refused)
+        if refused.size is None:
             self._end()
         else:
-            self._go_to(sum(found))
+            self._go_to(self._at + refused.size)
         return placed
 
     def _go_to(self, at):
@@ -102,15 +90,15 @@ class Frames:
     def _end(self):
         self._at, self._read = len(self._held), None
 
-    def _cut(self):
-        """The fault of the frame that the stream ends in: what there is of its message has one there, or it is whole records, and ends too early."""
-        found = length_at(self._held, self._at)
-        begin = found[1] if found else len(self._held)
+    def _cut(self, begin, size):
+        """The fault of the frame that the stream ends in: what there is of its message, which begins after so many bytes, has one there, or it is whole
+        records, and ends too early."""
         refused = fault(len(self._held) - self._at, (), TRUNCATED)
         try:
-            self._type.check(self._held[begin:], max_bytes=self._limits[0], max_depth=self._limits[1])
+            self._type.check(self._held[self._at + begin :], max_bytes=self._limits[0], max_depth=self._limits[1])
         except Refused as inner:
-            refused = fault(inner.byte + begin - self._at, inner.path, inner.number)
+            refused = fault(inner.byte + begin, inner.path, inner.number)
         placed = self._placed(refused)
+        placed.size = size
         self._end()
         return placed

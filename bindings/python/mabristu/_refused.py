@@ -13,13 +13,14 @@ class Refused(ValueError):
     (number, before), outermost first, each the record of a field number with so many whole records of that number before it in its parent;
     of a part that has no JSON form, path is the field numbers that lead to it;
     file is the name of a source or of a file that does not link, or the index of a file of a set; name is that of a declaration. Of a frame of a
-    stream, frame is its index and at where it begins; then byte counts from there.
+    stream, frame is its index and at where it begins; then byte counts from there, and size is how many bytes the frame has by its length, or None
+    if that can't be read.
     """
 
     def __init__(self, where, cause, byte=None, path=None, file=None, name=None):
         self.where, self.number, self.cause = where, cause, CAUSES.get(cause, "?")
         self.byte, self.path, self.file, self.name = byte, path, file, name
-        self.frame = self.at = None
+        self.frame = self.at = self.size = None
         super().__init__(where, cause)
 
     def names(self, message_type):

@@ -14,4 +14,5 @@ class Refused(ValueError):
     name: Optional[str]
     frame: Optional[int]
     at: Optional[int]
+    size: Optional[int]
     def names(self, message_type: MessageType) -> tuple[Union[str, int, tuple[Union[str, int], int]], ...]: ...

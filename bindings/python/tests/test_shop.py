@@ -59,6 +59,13 @@ class Messages(Shop):
         self.assertEqual(message.to_json(indent=True).split("\n")[:2], ["{", '  "number": "4711",'])
         self.assertEqual(self.order.new().to_json(), "{}")
 
+    def test_set_of_a_pool(self):
+        again = Pool(self.pool.to_set())
+        self.assertEqual([it.name for it in again.schema().types], [it.name for it in self.pool.schema().types])
+        self.assertEqual(again["shop.Order"].listing(self.data), self.listed)
+        many = Pool.of_sources({"m.proto": 'syntax = "proto3"; ' + " ".join(f"message M{it} {{ M{it} m = 1; }}" for it in range(300))})
+        self.assertEqual(len(Pool(many.to_set()).schema().types), 300)
+
     def test_json_is_refused(self):
         # Seconds 2 ** 40 are after the year 9999.
         stamp = 'syntax = "proto3"; package google.protobuf; message Timestamp { int64 seconds = 1; int32 nanos = 2; }'
@@ -272,7 +279,7 @@ class Streams(Shop):
             bad = []
             self.assertEqual([it.at for it in self.order.frames(source, skip=bad.append)], [0, 123])
             self.assertEqual([str(it) for it in bad], ["frame 1 byte 2 path 3[0] cause PastEnd", "frame 3 byte 40 path 3[1] cause Truncated"])
-            self.assertEqual([(it.frame, it.at, it.byte) for it in bad], [(1, 119, 2), (3, 124, 40)])
+            self.assertEqual([(it.frame, it.at, it.byte, it.size) for it in bad], [(1, 119, 2, 4), (3, 124, 40, 119)])
 
     def test_reading_goes_on_after_a_refusal(self):
         frames = self.order.frames(framed(self.data) + b"\x03\x1a\x09\x09" + framed(b""))
@@ -394,12 +401,15 @@ class Whole(Shop):
 
     def test_decimal(self):
         message = Pool.of_sources({"f.proto": 'syntax = "proto3"; message F { double d = 1; }'})["F"].from_dict({"d": 0.1})
-        self.assertEqual([message.listing(decimal=True), message.listing()], ["d: 0.1\n", "d: 0x3fb999999999999a\n"])
+        listed = ["d: 0.1\n", "d: 0x3fb999999999999a\n"]
+        self.assertEqual([message.listing(decimal=True), message.listing()], listed)
+        self.assertEqual([message.type.listing(message.encode(), decimal=it) for it in (True, False)], listed)
+        self.assertRaises(TypeError, message.type.listing, b"", octal=True)
 
     def test_causes(self):
         self.assertEqual([mabristu.CAUSES[it] for it in (1, 12, 21, 31, 50, 52, 61, 71, 89)],
                          "Truncated InputTooLarge NoSuchField TooLarge SourceTooLarge MissingName BadUtf8 TwoFiles ClosedEnum".split())
-        self.assertEqual([it in mabristu.CAUSES for it in (0, 13, 20, 59, 88, 90)], [False] * 6)
+        self.assertEqual([it in mabristu.CAUSES for it in (0, 13, 20, 59, 88, 90, 100)], [False] * 7)
 
     def test_lenient_sources(self):
         source = {"m.proto": 'syntax = "proto3"; option (o).p = { q: 1.5 }; message M { int32 a = 1 [(x) = -inf]; }'}

@@ -1,7 +1,7 @@
 //! The numbers and calls of mabristu.h.
 use crate::structs::{Bytes, Counts, Difference, Enum, Fault, Field, File, Frame, Handle, MessageHandle, Refusal, Step, Type, Value};
 
-pub const INTERFACE: u32 = 4;
+pub const INTERFACE: u32 = 5;
 // What a call answers. Numbers from 50 on are the causes why declarations are refused.
 pub const DONE: u32 = 0;
 pub const BAD_LIMITS: u32 = 1;
@@ -52,6 +52,7 @@ extern "C" {
     pub fn mb_pool_compile_lenient(names: *const Bytes, names_len: usize, texts: *const Bytes, texts_len: usize, pool: *mut Handle,
         refusal: &mut Refusal, text: Out, text_len: usize) -> u32;
     pub fn mb_pool_share(pool: *mut Handle, other: *mut Handle) -> u32;
+    pub fn mb_pool_set(pool: *mut Handle, out: Out, out_len: usize, size: &mut usize) -> u32;
     pub fn mb_pool_free(pool: *mut Handle);
     pub fn mb_pool_type(pool: *mut Handle, name: At, name_len: usize, number: &mut u32) -> u32;
     pub fn mb_pool_field(pool: *mut Handle, number: u32, name: At, name_len: usize, field: &mut Field) -> u32;
@@ -72,6 +73,8 @@ extern "C" {
     pub fn mb_canon(pool: *mut Handle, number: u32, bytes: At, len: usize, max_bytes: u32, max_depth: u8,
         out: Out, out_len: usize, size: &mut usize, fault: &mut Fault, path: *mut Step, path_len: usize) -> u32;
     pub fn mb_show(pool: *mut Handle, number: u32, bytes: At, len: usize, max_bytes: u32, max_depth: u8,
+        out: Out, out_len: usize, size: &mut usize, fault: &mut Fault, path: *mut Step, path_len: usize) -> u32;
+    pub fn mb_show_decimal(pool: *mut Handle, number: u32, bytes: At, len: usize, max_bytes: u32, max_depth: u8,
         out: Out, out_len: usize, size: &mut usize, fault: &mut Fault, path: *mut Step, path_len: usize) -> u32;
     pub fn mb_frames(pool: *mut Handle, number: u32, bytes: At, len: usize, max_bytes: u32, max_depth: u8,
         frame: &mut Frame, fault: &mut Fault, path: *mut Step, path_len: usize) -> u32;

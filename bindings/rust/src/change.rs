@@ -1,6 +1,6 @@
 //! Changes of a message.
+use crate::report::Report;
 use crate::structs::{Bytes, Value as Given};
-use crate::told::Told;
 use crate::value::given;
 use crate::{calls, Error, Key, Message, Part, Value};
 
@@ -116,13 +116,13 @@ fn strings(part: &Part<'_>) -> Vec<Bytes> {
 
 fn change(part: &Part<'_>, call: Changes) -> Result<(), Error> {
     let strings = strings(part);
-    Told::new().judge(unsafe { call(part.message.handle(), part.steps.as_ptr(), part.steps.len(), strings.as_ptr(), strings.len()) })
+    Report::new().judge(unsafe { call(part.message.handle(), part.steps.as_ptr(), part.steps.len(), strings.as_ptr(), strings.len()) })
 }
 
 fn put(part: &Part<'_>, call: Puts, value: &Value) -> Result<(), Error> {
     let mut strings = strings(part);
     let (given, bytes) = given(value, strings.len());
     strings.extend(bytes.map(|bytes| Bytes { at: bytes.as_ptr(), len: bytes.len() }));
-    Told::new()
+    Report::new()
         .judge(unsafe { call(part.message.handle(), part.steps.as_ptr(), part.steps.len(), strings.as_ptr(), strings.len(), &given) })
 }

@@ -1,6 +1,6 @@
 //! Whether messages of an old type can be read as a new one.
+use crate::report::Report;
 use crate::structs::Difference as Reported;
-use crate::told::Told;
 use crate::{calls, Error, MessageType};
 use std::fmt;
 
@@ -56,7 +56,7 @@ impl MessageType {
         let (mut found, mut count, new_pool) = (vec![Reported::default(); 64], 0, new.pool.try_clone()?);
         loop {
             // SAFETY: as in pool.rs. The new pool has a handle of its own.
-            Told::new().judge(unsafe {
+            Report::new().judge(unsafe {
                 calls::mb_compat(
                     self.pool.handle(),
                     self.number,

@@ -1,7 +1,7 @@
 //! Why a call did not do what was asked.
 use crate::calls;
 use crate::message_type::text;
-use crate::told::written_alone;
+use crate::report::written_alone;
 use std::sync::OnceLock;
 use std::{error, fmt, io};
 

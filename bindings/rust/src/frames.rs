@@ -1,5 +1,6 @@
 //! Streams of messages, each after its length.
 use crate::calls;
+use crate::structs::Frame as FrameReport;
 use crate::{Cause, Error, MessageType, StreamError};
 use std::io::Read;
 
@@ -24,13 +25,6 @@ pub struct Frames<'a, R> {
     at: usize,
     before: u64,
     index: usize,
-}
-
-/// The length that bytes begin with, and how many bytes it has, or None where it does not end there.
-fn length(bytes: &[u8]) -> Option<(u64, usize)> {
-    let end = bytes.iter().take(10).position(|&byte| byte < 0x80)?;
-    let bits = bytes[..=end].iter().enumerate();
-    Some((bits.fold(0, |sum, (place, &byte)| sum | u64::from(byte & 0x7f).wrapping_shl(7 * place as u32)), end + 1))
 }
 
 impl<'a, R: Read> Frames<'a, R> {
@@ -59,29 +53,28 @@ impl<'a, R: Read> Frames<'a, R> {
         self.stream = None;
     }
 
-    /// Goes to the end of a frame that is refused, or of the stream where its length can't be read.
-    fn pass(&mut self) -> std::io::Result<()> {
-        match length(&self.held[self.at..]) {
-            Some((length, begin)) if length <= u64::from(calls::MAX_BYTES) => {
-                let mut left = length as usize + begin;
-                while left > self.held.len() - self.at {
-                    left -= self.held.len() - self.at;
-                    self.at = self.held.len();
-                    if !self.more(left.min(1 << 20))? {
-                        left = 0;
-                    }
-                }
-                self.at += left;
-            }
-            _ => self.end(),
+    /// Skips a refused frame of `size` bytes. A size of 0 means that it is not known, and ends the stream.
+    fn skip(&mut self, size: usize) -> std::io::Result<()> {
+        if size == 0 {
+            self.end();
+            return Ok(());
         }
+        let mut left = size;
+        while left > self.held.len() - self.at {
+            left -= self.held.len() - self.at;
+            self.at = self.held.len();
+            if !self.more(left.min(1 << 20))? {
+                left = 0;
+            }
+        }
+        self.at += left;
         Ok(())
     }
 
     /// The fault of the frame that the stream ends in: what there is of its message has one there, or it is whole records, and ends too early.
-    fn cut(&self) -> Error {
+    fn cut(&self, frame: FrameReport) -> Error {
         let bytes = &self.held[self.at..];
-        let begin = length(bytes).map_or(bytes.len(), |(_, begin)| begin);
+        let begin = if frame.end == 0 { bytes.len() } else { frame.begin };
         match self.message_type.check(&bytes[begin..]) {
             Err(Error::Fault { byte, path, cause }) => Error::Fault { byte: byte + begin as u64, path, cause },
             Err(error) => error,
@@ -91,15 +84,15 @@ impl<'a, R: Read> Frames<'a, R> {
 
     fn read(&mut self) -> Result<Option<Frame>, StreamError> {
         loop {
-            let held = &self.held[self.at..];
-            match self.message_type.frame(held) {
-                Ok(Some((begin, end))) => {
-                    let frame = Frame { at: self.before + self.at as u64, size: end, data: held[begin..end].to_vec() };
-                    self.at += end;
+            let (held, mut found) = (&self.held[self.at..], FrameReport::default());
+            match self.message_type.frame(held, &mut found) {
+                Ok(true) => {
+                    let frame = Frame { at: self.before + self.at as u64, size: found.end, data: held[found.begin..found.end].to_vec() };
+                    self.at += found.end;
                     self.index += 1;
                     return Ok(Some(frame));
                 }
-                Ok(None) => {
+                Ok(false) => {
                     let wanted = BLOCK.max(held.len());
                     if self.more(wanted)? {
                         continue;
@@ -107,7 +100,7 @@ impl<'a, R: Read> Frames<'a, R> {
                     if self.held.is_empty() {
                         return Ok(None);
                     }
-                    let refused = self.cut();
+                    let refused = self.cut(found);
                     let placed = self.placed(refused);
                     self.end();
                     return Err(placed);
@@ -117,7 +110,7 @@ impl<'a, R: Read> Frames<'a, R> {
                 }
                 Err(refused) => {
                     let placed = self.placed(refused);
-                    self.pass()?;
+                    self.skip(found.end)?;
                     return Err(placed);
                 }
             }

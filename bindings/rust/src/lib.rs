@@ -25,9 +25,9 @@ mod message;
 mod message_type;
 mod part;
 mod pool;
+mod report;
 mod schema;
 mod structs;
-mod told;
 mod value;
 
 pub use change::PartMut;

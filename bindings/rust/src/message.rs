@@ -1,7 +1,7 @@
 //! Messages that the library holds.
 use crate::message_type::text;
+use crate::report::{judged, written_alone, Report};
 use crate::structs::MessageHandle;
-use crate::told::{judged, written_alone, Told};
 use crate::{calls, Cause, Error, Limits, MessageType};
 use std::cell::UnsafeCell;
 use std::{fmt, ptr};
@@ -51,7 +51,7 @@ impl Message {
     /// How many canonical bytes there are.
     pub fn encoded_length(&self) -> Result<usize, Error> {
         let mut size = 0;
-        Told::new().judge(unsafe { calls::mb_message_encoded_length(self.handle(), &mut size) })?;
+        Report::new().judge(unsafe { calls::mb_message_encoded_length(self.handle(), &mut size) })?;
         Ok(size)
     }
 
@@ -77,7 +77,7 @@ impl Message {
     /// A copy, or an error where memory runs out or the message has more than 2^31 - 1 canonical bytes.
     pub fn try_clone(&self) -> Result<Message, Error> {
         let other = Message::none(&self.message_type);
-        Told::new().judge(unsafe { calls::mb_message_copy(self.handle(), other.handle()) })?;
+        Report::new().judge(unsafe { calls::mb_message_copy(self.handle(), other.handle()) })?;
         Ok(other)
     }
 
@@ -88,7 +88,7 @@ impl Message {
             return Ok(true);
         }
         let mut equal = 0;
-        Told::new().judge(unsafe { calls::mb_message_equal(self.handle(), other.handle(), &mut equal) })?;
+        Report::new().judge(unsafe { calls::mb_message_equal(self.handle(), other.handle(), &mut equal) })?;
         Ok(equal == 1)
     }
 
@@ -98,12 +98,22 @@ impl Message {
         loop {
             let answer = unsafe {
                 let (at, room, path_at) = (out.as_mut_ptr(), out.len(), path.as_mut_ptr());
-                calls::mb_message_json(self.handle(), form.declared_names, form.indented, at, room, &mut size, path_at, path.len(), &mut steps)
+                calls::mb_message_json(
+                    self.handle(),
+                    form.declared_names,
+                    form.indented,
+                    at,
+                    room,
+                    &mut size,
+                    path_at,
+                    path.len(),
+                    &mut steps,
+                )
             };
             if let 91..=95 = answer {
                 return Err(Error::Json { path: path[..steps.min(path.len())].to_vec(), cause: Cause(answer) });
             }
-            Told::new().judge(answer)?;
+            Report::new().judge(answer)?;
             let is_whole = size <= out.len();
             out.resize(size, 0);
             if is_whole {

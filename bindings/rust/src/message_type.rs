@@ -1,7 +1,7 @@
 //! Message types, and calls on the bytes of messages.
 use crate::calls;
+use crate::report::{judged, written, Report};
 use crate::structs::{Field as FieldReport, Frame as FrameReport, Value as Reported};
-use crate::told::{judged, written, Told};
 use crate::value::{scalar, size as size_of};
 use crate::{Error, Frames, Message, Pool, Value};
 use std::io::Read;
@@ -134,10 +134,20 @@ impl MessageType {
         Ok(text(listing))
     }
 
+    /// The listing with each float as the shortest decimal that reads back to the same bits, or `nan`, `inf` or `-inf`.
+    pub fn listing_decimal(&self, bytes: &[u8]) -> Result<String, Error> {
+        let Limits { max_bytes, max_depth } = self.limits;
+        let listing = written(5 * bytes.len(), |out, room, size, fault, path, steps| unsafe {
+            let (at, len) = (bytes.as_ptr(), bytes.len());
+            calls::mb_show_decimal(self.pool.handle(), self.number, at, len, max_bytes, max_depth, out, room, size, fault, path, steps)
+        })?;
+        Ok(text(listing))
+    }
+
     /// What the field of a simple name is.
     pub fn field(&self, name: &str) -> Result<Field, Error> {
         let mut field = FieldReport::default();
-        Told::new().judge(unsafe { calls::mb_pool_field(self.pool.handle(), self.number, name.as_ptr(), name.len(), &mut field) })?;
+        Report::new().judge(unsafe { calls::mb_pool_field(self.pool.handle(), self.number, name.as_ptr(), name.len(), &mut field) })?;
         Ok(Field::of(field))
     }
 
@@ -150,7 +160,7 @@ impl MessageType {
     /// An empty message.
     pub fn empty(&self) -> Result<Message, Error> {
         let message = Message::none(self);
-        Told::new().judge(unsafe { calls::mb_message_new(self.pool.handle(), self.number, message.handle()) })?;
+        Report::new().judge(unsafe { calls::mb_message_new(self.pool.handle(), self.number, message.handle()) })?;
         Ok(message)
     }
 
@@ -169,12 +179,13 @@ impl MessageType {
         Frames::new(self, stream)
     }
 
-    /// Where the message of the frame that the bytes begin with begins and ends, or None where the bytes end before it does.
-    pub(crate) fn frame(&self, bytes: &[u8]) -> Result<Option<(usize, usize)>, Error> {
-        let (mut frame, mut is_part, Limits { max_bytes, max_depth }) = (FrameReport::default(), false, self.limits);
+    /// Judges the frame that the bytes begin with, and reports where its message begins and ends by its length, also where it is refused: zeros where
+    /// that cannot be read. False where the bytes end before the frame does.
+    pub(crate) fn frame(&self, bytes: &[u8], frame: &mut FrameReport) -> Result<bool, Error> {
+        let (mut is_part, Limits { max_bytes, max_depth }) = (false, self.limits);
         judged(|fault, path, steps| unsafe {
             let (at, len) = (bytes.as_ptr(), bytes.len());
-            let answer = calls::mb_frames(self.pool.handle(), self.number, at, len, max_bytes, max_depth, &mut frame, fault, path, steps);
+            let answer = calls::mb_frames(self.pool.handle(), self.number, at, len, max_bytes, max_depth, frame, fault, path, steps);
             is_part = answer == calls::PART;
             if is_part {
                 calls::DONE
@@ -182,7 +193,7 @@ impl MessageType {
                 answer
             }
         })?;
-        Ok((!is_part).then_some((frame.begin, frame.end)))
+        Ok(!is_part)
     }
 
     /// The value of one field of one scalar, read from the bytes of a message without building it, which are checked as by [`MessageType::check`]. The

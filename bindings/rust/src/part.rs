@@ -1,6 +1,6 @@
 //! Parts of a message.
+use crate::report::{written_alone, Report};
 use crate::structs::{Bytes, Value as Reported};
-use crate::told::{written_alone, Told};
 use crate::value::{scalar, size};
 use crate::{calls, Error, Message, MessageType, Value};
 
@@ -121,7 +121,7 @@ impl<'a> Part<'a> {
 
     fn call(&self, call: impl FnOnce(*const Reported, usize, *const Bytes, usize) -> u32) -> Result<(), Error> {
         let keys: Vec<Bytes> = self.keys.iter().map(|key| Bytes { at: key.as_ptr(), len: key.len() }).collect();
-        Told::new().judge(call(self.steps.as_ptr(), self.steps.len(), keys.as_ptr(), keys.len()))
+        Report::new().judge(call(self.steps.as_ptr(), self.steps.len(), keys.as_ptr(), keys.len()))
     }
 
     fn reported(&self) -> Result<Option<Reported>, Error> {

@@ -1,6 +1,6 @@
 //! Pools of types.
+use crate::report::{linked, written_alone, Report};
 use crate::structs::{Bytes, Handle, Refusal};
-use crate::told::{linked, Told};
 use crate::{calls, Error, Limits, MessageType};
 use std::cell::{Cell, UnsafeCell};
 use std::ptr;
@@ -85,6 +85,11 @@ impl Pool {
         Ok(pool)
     }
 
+    /// A descriptor set of the pool's types: linking it makes the same types again. Services and options, which a pool does not hold, are not in it.
+    pub fn to_set(&self) -> Result<Vec<u8>, Error> {
+        written_alone(|out, room, size| unsafe { calls::mb_pool_set(self.handle(), out, room, size) })
+    }
+
     /// How many parts of the set lenient reading left out.
     pub fn left_out(&self) -> usize {
         self.left_out
@@ -94,14 +99,14 @@ impl Pool {
     pub fn try_clone(&self) -> Result<Pool, Error> {
         let mut other = Pool::empty();
         other.left_out = self.left_out;
-        Told::new().judge(unsafe { calls::mb_pool_share(self.handle(), other.handle()) })?;
+        Report::new().judge(unsafe { calls::mb_pool_share(self.handle(), other.handle()) })?;
         Ok(other)
     }
 
     /// The message type of a full name, as `shop.Order`.
     pub fn message_type(&self, name: &str) -> Result<MessageType, Error> {
         let mut number = 0;
-        Told::new().judge(unsafe { calls::mb_pool_type(self.handle(), name.as_ptr(), name.len(), &mut number) })?;
+        Report::new().judge(unsafe { calls::mb_pool_type(self.handle(), name.as_ptr(), name.len(), &mut number) })?;
         Ok(MessageType { pool: self.try_clone()?, number, limits: Limits::FULL })
     }
 }

@@ -1,8 +1,8 @@
 //! What a pool declares.
 use crate::calls;
 use crate::message_type::{kind_name, text, Field};
+use crate::report::{written_alone, Report};
 use crate::structs::{Counts, Enum as EnumReport, Field as FieldReport, File as FileReport, Type as TypeReport};
-use crate::told::{written_alone, Told};
 use crate::{Error, MessageType, Pool, Shape, Step};
 use std::{fmt, ptr};
 
@@ -69,7 +69,7 @@ impl Pool {
     /// What the pool declares.
     pub fn schema(&self) -> Result<Schema, Error> {
         let mut counts = Counts::default();
-        Told::new().judge(unsafe { calls::mb_pool_counts(self.handle(), &mut counts) })?;
+        Report::new().judge(unsafe { calls::mb_pool_counts(self.handle(), &mut counts) })?;
         Ok(Schema {
             files: (0..counts.files).map(|index| self.file(index)).collect::<Result<_, _>>()?,
             messages: (0..counts.messages as u32).map(|number| self.declared_type(number)).collect::<Result<_, _>>()?,
@@ -79,9 +79,9 @@ impl Pool {
 
     fn file(&self, index: usize) -> Result<DeclaredFile, Error> {
         let mut file = FileReport::default();
-        Told::new().judge(unsafe { calls::mb_pool_file(self.handle(), index, &mut file, ptr::null_mut(), 0) })?;
+        Report::new().judge(unsafe { calls::mb_pool_file(self.handle(), index, &mut file, ptr::null_mut(), 0) })?;
         let mut name = vec![0; file.name_len + file.package_len];
-        Told::new().judge(unsafe { calls::mb_pool_file(self.handle(), index, &mut file, name.as_mut_ptr(), name.len()) })?;
+        Report::new().judge(unsafe { calls::mb_pool_file(self.handle(), index, &mut file, name.as_mut_ptr(), name.len()) })?;
         let package = name.split_off(file.name_len);
         Ok(DeclaredFile { name: text(name), package: text(package), imports: file.imports, is_proto2: file.proto2 == 1 })
     }

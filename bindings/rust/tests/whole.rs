@@ -72,6 +72,7 @@ fn decimal_listing() -> Result<(), Error> {
     let pool = Pool::of_sources([("f.proto", "syntax = \"proto3\"; message F { double d = 1; }")])?;
     let mut message = pool.message_type("F")?.empty()?;
     message.set("d", 0.1)?;
+    assert_eq!(message.message_type().listing_decimal(&message.encode()?)?, "d: 0.1\n");
     assert_eq!((message.listing_decimal()?, message.listing()?), ("d: 0.1\n".to_owned(), "d: 0x3fb999999999999a\n".to_owned()));
     Ok(())
 }
@@ -99,5 +100,13 @@ fn two_versions() -> Result<(), Error> {
     let first = Difference { old_type: "M".to_owned(), new_type: "M".to_owned(), number: 1, severity: Severity::Breaks };
     assert_eq!((&found[0], found[0].to_string()), (&first, "M 1 breaks".to_owned()));
     assert_eq!(old.compat(&old)?, []);
+    Ok(())
+}
+
+#[test]
+fn set_of_a_pool() -> Result<(), Error> {
+    let pool = order().message_type().pool().clone();
+    let again = Pool::link(&pool.to_set()?)?;
+    assert_eq!(again.schema()?.to_string(), pool.schema()?.to_string());
     Ok(())
 }

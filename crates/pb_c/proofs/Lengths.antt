@@ -19,6 +19,15 @@ length_read bytes front text rest r joined counted only =
     let within : length front ≤ length bytes = grind (arith, common_steps) in
     only (length text) (length front) within (rw begins counted)
 
+-- the same of a varint, whatever comes after it
+pub varint_read :
+    {E : Type 0} (bytes front rest : List ℕ) (n : ℕ) (r : Result (ℕ × ℕ) E) → bytes ≡ front ++ rest → IsVarint n front
+    → ((k size : ℕ) → size ≤ length bytes → IsVarint k (take size bytes) → r ≡ Ok (k, size)) → r ≡ Ok (n, length front)
+varint_read bytes front rest n r joined counted only =
+    let begins : take (length front) bytes ≡ front = grind (arith, common_steps) in
+    let within : length front ≤ length bytes = grind (arith, common_steps) in
+    only n (length front) within (rw begins counted)
+
 -- where the text begins and how long it is
 pub begin_and_size : {E : Type 0} (r : Result (ℕ × ℕ) E) (size begin n k : ℕ) → r ≡ Ok (size, begin) → r ≡ Ok (n, k) → (size ≡ n) × (begin ≡ k)
 begin_and_size r size begin n k is read =

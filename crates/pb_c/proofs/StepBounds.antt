@@ -18,9 +18,9 @@ use Rattle.pb_decode.specs.Push.{IsFaultOf}
 use Rattle.pb_stream.specs.Frame.{FrameFault}
 use Rattle.pb_c.specs.PoolFault.{PoolFault, TellsBytes, answer_of}
 use Rattle.pb_c.specs.SetPool.{FilesFail}
-use Rattle.pb_c.specs.Told.{Tells}
-use Rattle.pb_c.specs.declared.told.FaultReport.{FaultReport}
-use Rattle.pb_c.specs.declared.told.Step.{Step}
+use Rattle.pb_c.specs.Reporting.{Tells}
+use Rattle.pb_c.specs.declared.reporting.FaultReport.{FaultReport}
+use Rattle.pb_c.specs.declared.reporting.Step.{Step}
 use Rattle.pb_c.proofs.AnswerNumbers.{decl_from, link_from}
 
 -- the steps that are reported are those of the fault's path

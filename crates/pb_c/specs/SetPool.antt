@@ -8,9 +8,10 @@ use Rattle.pb_decl.specs.Decls.{DeclaredFile}
 use Rattle.pb_descr.specs.Causes.{set_causes}
 use Rattle.pb_descr.specs.Lenient.{IsLenientSetOf}
 use Rattle.pb_descr.specs.Omitted.{OmittedView, omitted_in}
-use Rattle.pb_descr.specs.Sets.{IsSetOf, IsSetText, SetFault, HasSetFault}
+use Rattle.pb_descr.specs.Sets.{IsSetOf, IsSetText, SetFault, HasSetFault, set_bytes}
 use Rattle.pb_descr.specs.Without.{without_parts}
 use Rattle.pb_link.specs.Linking.{Links}
+use Rattle.pb_link.specs.ToDecls.{decls_of}
 use Rattle.pb_rules.specs.Faults.{LinkFault}
 use Rattle.pb_c.specs.PoolFault.{PoolFault}
 
@@ -36,6 +37,11 @@ SetMakes set ts = FilesMake (IsSetOf full set) ts
 
 abbrev pub SetFails : List ℕ → PoolFault → Type 0
 SetFails set w = FilesFail (IsSetOf full set) (HasSetFault full set) w
+
+-- the bytes are the canonical ones of a set of the declarations of a pool's types, and make these types
+pub record IsSetOfPool (ts : Types) (set : List ℕ) : Type 0 where
+  pub bytes : set ≡ set_bytes (decls_of ts)
+  pub makes : SetMakes set ts
 
 -- ---- read leniently
 

@@ -13,9 +13,9 @@ ghost use Rattle.pb_descr.specs.declared.cause.DeclCause.{DeclCause};
 ghost use Rattle.pb_rules.specs.declared.cause.LinkCause.{LinkCause};
 ghost use Rattle.pb_json.specs.declared.error.JsonCause.{JsonCause};
 ghost use Rattle.pb_c.specs.CauseNames.{Names, json_number};
-ghost use Rattle.pb_c.specs.Told.{IsLaid};
+ghost use Rattle.pb_c.specs.Reporting.{IsLaid};
 
-use crate::told::{ABSENT, DONE};
+use crate::reporting::{ABSENT, DONE};
 use crate::typed::{TOO_LARGE, write_out};
 use pb_descr::DeclCause;
 use pb_json::JsonCause;

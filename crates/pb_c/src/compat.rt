@@ -6,11 +6,11 @@ ghost use Rattle.pb_compat.specs.Pairs.{IsComparison};
 ghost use Rattle.pb_compat.specs.declared.difference.ComparedTypes.{ComparedTypes as Compared};
 ghost use Rattle.pb_c.specs.Compared.{IsReported, difference_row, rows_of, severity_number};
 ghost use Rattle.pb_c.specs.Held.{types_held};
-ghost use Rattle.pb_c.specs.Told.{laid_over};
+ghost use Rattle.pb_c.specs.Reporting.{laid_over};
 ghost use Rattle.pb_c.specs.Typed.{HasType, LacksType};
 
 use crate::handle::{PoolHandle, put, take};
-use crate::told::{DONE, EMPTY, MEMORY, NO_TYPE};
+use crate::reporting::{DONE, EMPTY, MEMORY, NO_TYPE};
 use crate::typed::type_numbered;
 use pb_compat::{ComparedTypes, Difference, Severity, compare};
 use pb_schema::Pool;

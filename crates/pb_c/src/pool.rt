@@ -7,5 +7,6 @@ pub(crate) mod link;
 pub(crate) mod link_lenient;
 mod linking;
 pub(crate) mod refusal;
+pub(crate) mod set;
 pub(crate) mod share;
 pub(crate) mod type_number;

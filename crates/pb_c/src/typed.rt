@@ -5,7 +5,7 @@ ghost use Rattle.pb_wire.specs.Fault.{Fault};
 ghost use Rattle.pb_value.specs.Data.{Message};
 ghost use Rattle.pb_value.specs.Derives.{Text};
 ghost use Rattle.pb_decode.specs.Push.{IsFaultOf};
-ghost use Rattle.pb_c.specs.Told.{IsLaid, Tells};
+ghost use Rattle.pb_c.specs.Reporting.{IsLaid, Tells};
 ghost use Rattle.pb_c.specs.Typed.{ByFault};
 
 pub(crate) mod canon;
@@ -14,8 +14,9 @@ pub(crate) mod check;
 pub(crate) mod find;
 pub(crate) mod frames;
 pub(crate) mod show;
+pub(crate) mod show_decimal;
 
-use crate::told::{FAULT, FaultReport, MEMORY, NO_TYPE, Step, lay_over, tell_fault};
+use crate::reporting::{FAULT, FaultReport, MEMORY, NO_TYPE, Step, lay_over, tell_fault};
 use pb_decode::{DecodeError, decode};
 use pb_schema::{MessageId, Pool};
 use pb_value::DynamicMessage;

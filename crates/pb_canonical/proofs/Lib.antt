@@ -1,5 +1,7 @@
 -- bytes of records, cut after the first
 pub mod SplitLemmas
+-- varints that are the shortest of their number, by their last byte
+pub mod ShortestVarints
 -- for scalars: the payloads that values of a kind are written as, and their order as keys
 pub mod ScalarLemmas
 -- unknown records, one after another

@@ -54,7 +54,7 @@ pub eight_short : (b : List ℕ) (f : Fault) → FixedFault 8 (given_at 0 None b
 eight_short b f (past_end h e) = absurd (h tt)
 eight_short b f (cut_short w l e) = l
 
-left_part : (s t : List ℕ) → AreBytes (s ++ t) → AreBytes s
+pub left_part : (s t : List ℕ) → AreBytes (s ++ t) → AreBytes s
 left_part [] t h = tt
 left_part (x ∷ s) t h = (h.0, left_part s t h.1)
 

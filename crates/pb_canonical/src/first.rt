@@ -1,14 +1,18 @@
 //! Tokens at the start of bytes, each in its shortest spelling, and the bytes after them.
 
-ghost use Rattle.std.specs.Prelude.{◌≡◌, ◌<◌, ◌^◌, ◌++◌, ℕ, List, IfSome, IsSomeAnd};
+ghost use Rattle.std.specs.Prelude.{◌≡◌, ◌≤◌, ◌<◌, ◌^◌, ◌++◌, ℕ, List, take, length, IfSome, IsSomeAnd};
+ghost use Rattle.std.specs.Bool.{Decides};
 ghost use Rattle.std.specs.Int.{w32, w64, to_le_bytes};
-ghost use Rattle.pb_wire.specs.Varint.{shortest};
+ghost use Rattle.pb_wire.specs.Varint.{IsVarint, shortest};
 ghost use Rattle.pb_wire.specs.Record.{len};
 ghost use Rattle.pb_wire.specs.Ranges.{IsNumber};
 ghost use Rattle.pb_canonical.specs.Parts.{tagged, payload_bytes, IsTagged};
 
+use pb_wire::read_varint;
 use pb_wire::token::{Token, fixed64_token};
-use pb_wire::{put_varint, read_varint};
+
+/// The most bytes that a varint has.
+const MAX_VARINT: usize = 10;
 
 /// A tag: the number of a field and a wire type.
 #[derive(Clone, Copy, PartialEq, Eq)]
@@ -26,7 +30,28 @@ pub(crate) fn varint_first(bytes: &[u8]) -> Option<(u64, &[u8])>
     if !bytes.is_empty() && bytes[0] < 0x80 {
         return Some((u64::from(bytes[0]), &bytes[1..]));
     }
-    long_varint_first(bytes)
+    match two_byte_varint_first(bytes) {
+        Some((number, rest)) => Some((number, rest)),
+        None => long_varint_first(bytes),
+    }
+}
+
+/// As `varint_first`, of two bytes.
+#[inline(always)]
+fn two_byte_varint_first(bytes: &[u8]) -> Option<(u64, &[u8])>
+    ensures split { IfSome result (λ r. bytes.now ≡ shortest r.0 ++ r.1.now) }
+    ensures small { IfSome result (λ r. r.0 < 2 ^ 64) }
+{
+    if bytes.len() < 2 {
+        return None;
+    }
+    let first = bytes[0];
+    let second = bytes[1];
+    if first < 0x80 || 0x80 <= second || second == 0 {
+        return None;
+    }
+    let number = u64::from(first - 0x80) + 0x80 * u64::from(second);
+    Some((number, &bytes[2..]))
 }
 
 /// As `varint_first`, of any size.
@@ -37,12 +62,29 @@ fn long_varint_first(bytes: &[u8]) -> Option<(u64, &[u8])>
     let Ok((number, size)) = read_varint(bytes) else {
         return None;
     };
-    let shortest = put_varint(number);
-    if shortest.as_slice() == &bytes[..size] {
+    if is_shortest(bytes, size) {
         Some((number, &bytes[size..]))
     } else {
         None
     }
+}
+
+/// Whether the varint of this size at the start is the shortest of its number: its last byte is not zero, unless it is the only one, and
+/// the tenth holds the one bit that is left of 64.
+#[inline(always)]
+fn is_shortest(bytes: &[u8], size: usize) -> bool
+    requires some { 0 < size }
+    requires within { size ≤ length bytes.now }
+    ensures { (n : ℕ) → IsVarint n (take size bytes.now) → Decides result (take size bytes.now ≡ shortest n) }
+{
+    let last = bytes[size - 1];
+    if size == 1 {
+        return true;
+    }
+    if last == 0 {
+        return false;
+    }
+    size < MAX_VARINT || last == 1
 }
 
 /// The tag at the start.

@@ -7,7 +7,7 @@ use Rattle.pb_files.specs.Refusal.{names_device, refusal_line, refusal_status}
 use Rattle.pb_command.specs.Steps.{Comes, FailsAt}
 use Rattle.pb_files.specs.declared.report.Refusal.{Refusal}
 use Rattle.pb_files.specs.declared.report.Refusal.TheVariants.{Fault, Set, SetFile, Link, UnknownType, TooLarge, Frame, Frames, Source, Json, Device, File, Memory}
-use Rattle.pb_files.specs.declared.report.Refusal.TheVariants.{Breaks, JsonText}
+use Rattle.pb_files.specs.declared.report.Refusal.TheVariants.{Breaks, FrameJson, JsonText}
 
 module _
     (Out Cut Told : List ℕ → Type 0) (Saved : Option (List ℕ × List ℕ) → Type 0) (Unsaved : List ℕ → Type 0) (status : ℕ)
@@ -35,6 +35,7 @@ module _
   ends_from Quiet (Err (UnknownType name)) quiet h told = stop_ends _ h told
   ends_from Quiet (Err TooLarge) quiet h told = stop_ends _ h told
   ends_from Quiet (Err (Frame index byte path cause)) quiet h told = stop_ends _ h told
+  ends_from Quiet (Err (FrameJson index path cause)) quiet h told = stop_ends _ h told
   ends_from Quiet (Err (Frames lines refused count)) quiet h told = stop_ends _ h told
   ends_from Quiet (Err (Source file byte cause)) quiet h told = stop_ends _ h told
   ends_from Quiet (Err (Json path cause)) quiet h told = stop_ends _ h told
@@ -59,6 +60,7 @@ never_two Quiet Told (Err e) status concluded two = no_two e (sym concluded.0 �
     no_two (UnknownType name) is = omega (arith, is)
     no_two TooLarge is = omega (arith, is)
     no_two (Frame index byte path cause) is = omega (arith, is)
+    no_two (FrameJson index path cause) is = omega (arith, is)
     no_two (Frames lines refused count) is = omega (arith, is)
     no_two (Source file byte cause) is = omega (arith, is)
     no_two (Json path cause) is = omega (arith, is)
@@ -84,6 +86,7 @@ kept_but_at_three Quiet Told (Err e) status Kept concluded kept other = by e con
     by (UnknownType name) is kept = kept refl
     by TooLarge is kept = kept refl
     by (Frame index byte path cause) is kept = kept refl
+    by (FrameJson index path cause) is kept = kept refl
     by (Frames lines refused count) is kept = kept refl
     by (Source file byte cause) is kept = kept refl
     by (Json path cause) is kept = kept refl
@@ -109,6 +112,7 @@ device_told Quiet Told (Err e) status Kept concluded kept failed = by e conclude
     by (UnknownType name) told kept = absurd (failed (kept refl))
     by TooLarge told kept = absurd (failed (kept refl))
     by (Frame index byte path cause) told kept = absurd (failed (kept refl))
+    by (FrameJson index path cause) told kept = absurd (failed (kept refl))
     by (Frames lines refused count) told kept = absurd (failed (kept refl))
     by (Source file byte cause) told kept = absurd (failed (kept refl))
     by (Json path cause) told kept = absurd (failed (kept refl))

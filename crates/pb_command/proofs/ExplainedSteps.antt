@@ -4,7 +4,7 @@ use Rattle.std.specs.Prelude.{Result, Ok, Err, MatchResult}
 use Rattle.pb_files.specs.Refusal.{refusal_status}
 use Rattle.pb_files.specs.declared.report.Refusal.{Refusal}
 use Rattle.pb_files.specs.declared.report.Refusal.TheVariants.{Fault, Set, SetFile, Link, UnknownType, TooLarge, Frame, Frames, Source, Json, Device, File, Memory}
-use Rattle.pb_files.specs.declared.report.Refusal.TheVariants.{Breaks, JsonText}
+use Rattle.pb_files.specs.declared.report.Refusal.TheVariants.{Breaks, FrameJson, JsonText}
 use Rattle.pb_output.specs.Sending.{Cut, Sent, SentOrCut}
 use Rattle.pb_command.specs.Explained.{WithMore}
 use Rattle.pb_command.proofs.JsonSteps.{cut_longer, sent_cut, sent_then}
@@ -36,6 +36,7 @@ quiet_at_zero Quiet Told (Err e) status concluded zero = absurd (no_zero e (sym 
     no_zero (UnknownType name) is = omega (arith, is)
     no_zero TooLarge is = omega (arith, is)
     no_zero (Frame index byte path cause) is = omega (arith, is)
+    no_zero (FrameJson index path cause) is = omega (arith, is)
     no_zero (Frames lines refused count) is = omega (arith, is)
     no_zero (Source file byte cause) is = omega (arith, is)
     no_zero (Json path cause) is = omega (arith, is)

@@ -1,21 +1,24 @@
 -- A line of JSON that goes out: a text, and then a line feed.
-use Rattle.std.proofs.Common.{◌≡◌, ◌≤◌, ◌+◌, ℕ, List, [], ◌++◌, Option, None, min, length, take, arith, ap, inl, inr, refl, sym, ◌∙◌, subst}
+use Rattle.std.proofs.Common.{◌≡◌, ◌≤◌, ◌+◌, ℕ, List, [], ◌++◌, Option, false, min, length, take, arith, ap, inl, inr, refl, sym, ◌∙◌, subst}
 use Rattle.std.specs.Io.KnownBytes.{Appends}
 use Rattle.std.specs.Prelude.{Ok, Err}
 use Rattle.std.proofs.KnownBytes.{Appends-nil, Appends-trans}
 use Rattle.std.proofs.lemmas.List.{take_min, take-append-le}
 use Rattle.std.proofs.Math.Seq.{take-append-add}
+use Rattle.pb_wire.specs.declared.device.DeviceFault.{DeviceFault}
 use Rattle.pb_value.specs.Dynamic.{Dynamic}
 use Rattle.pb_output.specs.Sending.{Cut, Sent}
-use Rattle.pb_listing.specs.RawListing.{line_feed}
-use Rattle.pb_json.specs.Answers.{FailsAs, Whole}
-use Rattle.pb_json.specs.Refusals as json
+use Rattle.pb_output.specs.Sink.{Finishes}
+use Rattle.pb_output.specs.declared.sink.Sink.{Sink}
+use Rattle.pb_output.proofs.SinkLemmas.{finished}
+use Rattle.pb_listing.specs.Putting.{PutsSome}
+use Rattle.pb_json.specs.Answers.{RefusedAs}
 use Rattle.pb_json.specs.declared.error.JsonError.{JsonError}
 use Rattle.pb_json.specs.declared.error.JsonError.TheVariants as json_error
 use Rattle.pb_json.specs.declared.form.Layout.{Layout}
 use Rattle.pb_files.specs.Answer.{done}
 use Rattle.pb_files.specs.Report.{output_name}
-use Rattle.pb_command.specs.JsonAnswer.{JsonAnswer, has_form, json_form}
+use Rattle.pb_command.specs.JsonAnswer.{IsJsonLine, JsonAnswer, has_form}
 use Rattle.pb_command.specs.Steps.{Comes, FailsAt, IsNothing, NoFile, WritesLine}
 
 module _ {D : Type 0} (written : D → Option (List ℕ)) (failures : D → ℕ) (old mid new : D) (xs ys : List ℕ) where
@@ -48,27 +51,22 @@ nothing_sent written failures old new same =
 -- A LINE OF JSON
 
 module _ {D : Type 0} (written : D → Option (List ℕ)) (failures : D → ℕ) (old : D) (layout : Layout) (m : Dynamic) where
-  -- the text did not go out
-  pub unwritten : (new : D) (e : JsonError) → FailsAs written failures old new (json_form layout) m e → WritesLine written failures old new layout m (Err e)
-  unwritten new json_error.Output h =
-      let text = h.1.0 in (h.0, (text ++ line_feed, (text, h.1.1, refl), cut_longer written failures old new text line_feed h.1.2))
-  unwritten new (json_error.Refused x) h = h
-  unwritten new json_error.Memory h = h.1
+  -- there is none
+  pub unwritten : (new : D) (e : JsonError) → RefusedAs m e → new ≡ old → WritesLine written failures old new layout m (Err e)
+  unwritten new json_error.Output h same = absurd h
+  unwritten new (json_error.Refused x) h same = (h, same)
+  unwritten new json_error.Memory h same = same
 
-  module _ (mid new : D) (silent : json.refused m ≡ None) (whole : Whole written failures old mid (json_form layout) m) where
-    -- the line feed went out after it
-    pub line_sent : Sent written failures mid new line_feed → WritesLine written failures old new layout m (Ok tt)
-    line_sent end = (
-      silent,
-      (whole.0 ++ line_feed, (whole.0, whole.1, refl), sent_then written failures old mid new whole.0 line_feed whole.2 end),
-    )
+  module _
+      (mid new : D) {a b : Sink} (empty : a ≡ record { held = []; sent = 0; failed = false })
+      (put : PutsSome written failures old mid a b (IsJsonLine layout m)) where
+    -- it went out
+    pub line_sent : Finishes written failures mid new b (Ok tt) → WritesLine written failures old new layout m (Ok tt)
+    line_sent ends = (put.0, put.1, finished empty put.2 ends)
 
     -- or did not
-    pub line_cut : Cut written failures mid new line_feed → WritesLine written failures old new layout m (Err json_error.Output)
-    line_cut end = (
-      silent,
-      (whole.0 ++ line_feed, (whole.0, whole.1, refl), sent_cut written failures old mid new whole.0 line_feed whole.2 end),
-    )
+    pub line_cut : (e : DeviceFault) → Finishes written failures mid new b (Err e) → WritesLine written failures old new layout m (Err json_error.Output)
+    line_cut e ends = (put.0, put.1, finished empty put.2 ends)
 
 -- WHAT COMES OF IT
 
@@ -77,11 +75,10 @@ module _ {D : Type 0} (written : D → Option (List ℕ)) (failures : D → ℕ)
   pub line_comes :
       WritesLine written failures old new layout m (Ok tt)
       → Comes (Sent written failures old new) (Cut written failures old new) NoFile (λ path. ⊥) (JsonAnswer layout m) IsNothing (Ok tt)
-  line_comes (silent, (line, is, sent)) = (done line, has_form {line = line} silent is refl, refl, refl, sent, refl)
+  line_comes (line, is, sent) = (done line, has_form {line = line} is refl, refl, refl, sent, refl)
 
   -- the output failed
   pub cut_comes :
       (path : List ℕ) → path ≡ output_name → WritesLine written failures old new layout m (Err json_error.Output)
       → FailsAt (Sent written failures old new) (Cut written failures old new) NoFile (λ path. ⊥) (JsonAnswer layout m) IsNothing path
-  cut_comes path named (silent, (line, is, cut)) =
-      inr (inl (line, named, inl (done line, has_form {line = line} silent is refl, refl), cut, refl))
+  cut_comes path named (line, is, cut) = inr (inl (line, named, inl (done line, has_form {line = line} is refl, refl), cut, refl))

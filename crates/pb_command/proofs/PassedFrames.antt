@@ -235,6 +235,7 @@ module _
   over_answered (Err (refusal.UnknownType name)) h none = absurd none
   over_answered (Err refusal.TooLarge) h none = absurd none
   over_answered (Err (refusal.Frame index byte steps cause)) h none = absurd none
+  over_answered (Err (refusal.FrameJson index steps cause)) h none = absurd none
   over_answered (Err (refusal.Source file byte cause)) h none = absurd none
   over_answered (Err (refusal.Json steps cause)) h none = absurd none
   over_answered (Err (refusal.JsonText byte cause)) h none = absurd none

@@ -7,8 +7,7 @@ use Rattle.pb_wire.specs.Limits.{Bounds, full}
 use Rattle.pb_schema.specs.Types.{Types}
 use Rattle.pb_value.specs.Dynamic.{Dynamic}
 use Rattle.pb_value.specs.WellFormed.{IsWellFormed}
-use Rattle.pb_json.specs.Answers.{refused_view}
-use Rattle.pb_json.specs.Refusals as json
+use Rattle.pb_json.specs.Answers.{IsRefused, refused_view}
 use Rattle.pb_json.specs.declared.error.JsonError.{JsonError}
 use Rattle.pb_json.specs.declared.error.JsonError.TheVariants as json_error
 use Rattle.pb_json.specs.declared.form.Layout.{Layout}
@@ -86,9 +85,9 @@ NoFile saved = saved ≡ None
 module _ {D : Type 0} (written : D → Option (List ℕ)) (failures : D → ℕ) (old new : D) (layout : Layout) (m : Dynamic) where
   -- its line went out whole, or a prefix of it before the output failed; or there is none, and nothing went out
   abbrev pub WritesLine : Result Unit JsonError → Type 0
-  WritesLine (Ok u) = (json.refused m ≡ None) × ((line : List ℕ) × IsJsonLine layout m line × Sent written failures old new line)
-  WritesLine (Err json_error.Output) = (json.refused m ≡ None) × ((line : List ℕ) × IsJsonLine layout m line × Cut written failures old new line)
-  WritesLine (Err (json_error.Refused x)) = (json.refused m ≡ Some (refused_view x)) × (new ≡ old)
+  WritesLine (Ok u) = (line : List ℕ) × IsJsonLine layout m line × Sent written failures old new line
+  WritesLine (Err json_error.Output) = (line : List ℕ) × IsJsonLine layout m line × Cut written failures old new line
+  WritesLine (Err (json_error.Refused x)) = IsRefused m (refused_view x) × (new ≡ old)
   WritesLine (Err json_error.Memory) = new ≡ old
 
 module _ {F : Type 0} (contents : F → Option FileMap) (is_steady : F → Bool) (files : F) where

@@ -1,12 +1,14 @@
 //! What is made of a message.
 
-ghost use Rattle.std.specs.Prelude.{◌≡◌, ◌++◌, ◌<◌, ◌≤◌, ◌^◌, [], codes, length, IfOk, IfErr, MatchResult, true};
+ghost use Rattle.std.specs.Prelude.{◌≡◌, ◌++◌, ◌<◌, ◌≤◌, ◌^◌, [], codes, length, IfOk, IfErr, OnOk, MatchResult, true};
 ghost use Rattle.hex.specs.Hex.{encode_lower};
 ghost use Rattle.pb_encode.specs.Encoding.{bytes_of};
 ghost use Rattle.pb_files.specs.Answer.{done, saves, refused};
 ghost use Rattle.pb_files.specs.FileMap.{IsSaved, IsUnsaved};
-ghost use Rattle.pb_command.specs.JsonAnswer.{JsonAnswer};
+ghost use Rattle.pb_json.specs.Answers.{RefusedAs};
+ghost use Rattle.pb_command.specs.JsonAnswer.{IsJsonLine, JsonAnswer};
 ghost use Rattle.pb_command.specs.MessageAnswer.{CanonAnswer, FormAnswer, ListingAnswer};
+ghost use Rattle.pb_listing.specs.Putting.{PutsSome};
 ghost use Rattle.pb_listing.specs.RawListing.{line_feed};
 ghost use Rattle.pb_files.specs.Refusal.{KeepsFailures, Refuses};
 ghost use Rattle.pb_files.specs.Report.{too_large_line};
@@ -15,7 +17,7 @@ ghost use Rattle.pb_command.specs.Steps.{Comes, IsNothing, NoFile, WritesLine};
 
 use pb_encode::{EncodeError, encode};
 use pb_files::{Files, OUTPUT, Refusal};
-use pb_json::{JsonError, JsonForm, Layout, Names, write_json};
+use pb_json::{JsonError, JsonForm, Layout, Names, put_json};
 use pb_listing::{FloatForm, write_message_as};
 use pb_output::Sink;
 use pb_value::DynamicMessage;
@@ -101,7 +103,7 @@ fn print_json<'a, O: Output>(
     }
 }
 
-/// The JSON text of a message, and a line feed.
+/// Writes the JSON text of a message, and a line feed.
 fn write_json_line<O: Output>(
     layout: Layout,
     message: &DynamicMessage<'_>,
@@ -109,16 +111,36 @@ fn write_json_line<O: Output>(
 ) -> Result<(), JsonError>
     ensures { WritesLine O.written O.failures out.old out.new layout message.now result }
 {
+    let mut sink = Sink::new();
+    if let Err(error) = put_json_line(&mut sink, out, layout, message) {
+        return Err(error);
+    }
+    match sink.finish(out) {
+        Ok(()) => Ok(()),
+        Err(_) => Err(JsonError::Output),
+    }
+}
+
+/// Puts the JSON text of a message, and a line feed. Where a part of the message has no JSON form, nothing is put.
+pub(crate) fn put_json_line<O: Output>(
+    sink: &mut Sink,
+    out: &mut O,
+    layout: Layout,
+    message: &DynamicMessage<'_>,
+) -> Result<(), JsonError>
+    ensures put { OnOk result (PutsSome O.written O.failures out.old out.new sink.old sink.new (IsJsonLine layout message.now)) }
+    ensures failed { IfErr result (λ e. RefusedAs message.now e × (out.new ≡ out.old) × (sink.new ≡ sink.old)) }
+{
     let form = JsonForm {
         names: Names::LowerCamel,
         layout,
     };
-    if let Err(error) = write_json(out, message.alloc(), &message.view(), form) {
-        return Err(error);
-    }
-    match write_all(out, b"\n") {
-        Ok(()) => Ok(()),
-        Err(_) => Err(JsonError::Output),
+    match put_json(sink, out, message.alloc(), &message.view(), form) {
+        Ok(()) => {
+            sink.put(out, b"\n");
+            Ok(())
+        }
+        Err(error) => Err(error),
     }
 }
 

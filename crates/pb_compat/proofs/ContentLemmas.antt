@@ -117,13 +117,13 @@ bytes_declared : (new : Types) (o : Option ℕ) (s : List ℕ) → is_undeclared
 bytes_declared new None s = refl
 bytes_declared new (Some e) s = refl
 
-module _ (old new : Types) (inner : ℕ → List Record → Message) (a b : Kind) (keeps : keeps_kind old new a b ≡ true) (name : List ℕ) (n : ℕ) where
-  one_counted : (t : Shape) (d : Datum) → not (is_map t) ≡ true → Reads old new inner a b d → IsCounted new n t b (record_of n (payload_of old a d))
-  one_counted t d plain r = (refl, fits_shape_one t b (wire_type (payload_of old a d)) plain r.wire, shaped_declared new t b (payload_of old a d) plain r.declared)
+pub one_counted : (old new : Types) (inner : ℕ → List Record → Message) (a b : Kind) (n : ℕ) (t : Shape) (d : Datum) → not (is_map t) ≡ true → Reads old new inner a b d → IsCounted new n t b (record_of n (payload_of old a d))
+one_counted old new inner a b n t d plain r = (refl, fits_shape_one t b (wire_type (payload_of old a d)) plain r.wire, shaped_declared new t b (payload_of old a d) plain r.declared)
 
+module _ (old new : Types) (inner : ℕ → List Record → Message) (a b : Kind) (keeps : keeps_kind old new a b ≡ true) (name : List ℕ) (n : ℕ) where
   each_counted : (s t : Shape) (ds : Datums) → not (is_map t) ≡ true → AllRead old new inner a b ds → AllByRecursion (IsCounted new n t b) (canon_each old (field_with name n a s) ds)
   each_counted s t no_datums plain r = tt
-  each_counted s t (datum d ds) plain r = (one_counted t d plain r.0, each_counted s t ds plain r.1)
+  each_counted s t (datum d ds) plain r = (one_counted old new inner a b n t d plain r.0, each_counted s t ds plain r.1)
 
   packed_counted : (t : Shape) (d : Datum) (ds : Datums) → is_list t ≡ true → is_packable a ≡ true → AreDatums old a (datum d ds) → datums_declared old a (datum d ds) ≡ true → IsCounted new n t b (record_of n (len (packed_bytes a (datum d ds))))
   packed_counted t (scalar x) ds listed can w declared =
@@ -140,9 +140,9 @@ module _ (old new : Types) (inner : ℕ → List Record → Message) (a b : Kind
 
   pub holding_counted : (s t : Shape) (h : Holding) → MayBePacked s a → keeps_shape old new s t ≡ true → IsOfShape s h → IsHeld old s a h → holds_declared old a h ≡ true → ContentRead old new inner a b h
       → AllByRecursion (IsCounted new n t b) (canon_holding old (field_with name n a s) h)
-  holding_counted shape.Implicit t (one d) can fit shaped w declared r = (one_counted t d fit r, tt)
-  holding_counted shape.Explicit t (one d) can fit shaped w declared r = (one_counted t d fit r, tt)
-  holding_counted (shape.OneofMember o) t (one d) can fit shaped w declared r = (one_counted t d fit r, tt)
+  holding_counted shape.Implicit t (one d) can fit shaped w declared r = (one_counted old new inner a b n t d fit r, tt)
+  holding_counted shape.Explicit t (one d) can fit shaped w declared r = (one_counted old new inner a b n t d fit r, tt)
+  holding_counted (shape.OneofMember o) t (one d) can fit shaped w declared r = (one_counted old new inner a b n t d fit r, tt)
   holding_counted (shape.List true) t (list (datum d ds)) can fit shaped w declared r = (packed_counted t d ds fit can w declared, tt)
   holding_counted (shape.List false) t (list (datum d ds)) can fit shaped w declared r = each_counted (shape.List false) t (datum d ds) (list_no_map t fit) r
   holding_counted (shape.Map key) (shape.Map l) (map_of (entry x d es)) can fit shaped w declared r = entries_counted key l (entry x d es)
@@ -159,7 +159,7 @@ opened_for shape.Explicit b s = s
 opened_for (shape.OneofMember o) b s = s
 opened_for (shape.Map key) b s = s
 
-varint_uncut : (p : Payload) (t : Bool) (o : Option ℕ) → wire_type p ≡ 0 → IsUncut p t o
+pub varint_uncut : (p : Payload) (t : Bool) (o : Option ℕ) → wire_type p ≡ 0 → IsUncut p t o
 varint_uncut (varint i) t o e = tt
 varint_uncut (fixed64 i) t o e = absurd (omega (arith, e))
 varint_uncut (len s) t o e = absurd (omega (arith, e))

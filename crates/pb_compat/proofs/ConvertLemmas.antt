@@ -1,5 +1,5 @@
 -- What the new kind reads of the payload of one value of the old kind: a scalar, a message, or a message as bytes.
-use Rattle.std.proofs.Common.{◌≡◌, ℕ, pos, negsuc, zero, suc, ◌<◌, ◌≤◌, List, [], ◌∷◌, ◌++◌, map, true, false, not, Option, Some, None, refl, sym, ◌∙◌, ap, subst, arith, append-nil}
+use Rattle.std.proofs.Common.{◌≡◌, ℕ, pos, negsuc, zero, suc, ◌<◌, ◌≤◌, List, [], ◌∷◌, ◌++◌, map, true, false, not, Option, Some, None, option_map, refl, sym, ◌∙◌, ap, subst, arith, append-nil}
 use Rattle.std.specs.Prelude.{unwrap_or, ◌==◌}
 use Rattle.std.proofs.lemmas.Bool.Decides.{Decides-eqb}
 use Rattle.pb_wire.specs.Record.{Payload, varint, fixed64, len, group, fixed32, Record, wire_type}
@@ -11,19 +11,19 @@ use Rattle.pb_schema.specs.Scalar.{Scalar, int32, int64, uint32, uint64, boolean
 use Rattle.pb_schema.specs.Kinds.{wire_type_of, message_of_kind, closed_enum, default_of, IsOfKind, read, written}
 use Rattle.pb_schema.specs.Closed.{is_declared, is_undeclared}
 use Rattle.pb_value.specs.Data.{Datum, scalar, message, Message, levels_of, message_depth}
-use Rattle.pb_value.specs.Value.{all_elements, one_value, list_values}
+use Rattle.pb_value.specs.Value.{last_of, all_elements, one_value, list_values}
 use Rattle.pb_value.specs.Canon.{payload_of, canon, canon_bytes, record_of, sealed}
 use Rattle.pb_value.specs.WellFormed.{IsDatum, IsBody, datum_declared}
 use Rattle.pb_value.proofs.CanonLemmas.{AreGood}
 use Rattle.pb_value.proofs.BytesLemmas.{AreBytes-shortest_records}
 use Rattle.pb_value.proofs.GroupLemmas.{inside-wrapped}
 use Rattle.pb_value.proofs.Options.{some_of}
-use Rattle.pb_value.proofs.ShapeSteps.{list_values-scalar}
-use Rattle.pb_compat.specs.Scalars.{meaning, keeps_scalars}
+use Rattle.pb_value.proofs.ShapeSteps.{one_value-scalar, list_values-scalar}
+use Rattle.pb_compat.specs.Scalars.{meaning, KeepsScalar, keeps_scalars}
 use Rattle.pb_compat.specs.Fields.{keeps_kind}
 use Rattle.pb_compat.specs.Agrees.{IsSameValue, Agrees, HasNoUnknown, ValueHasNoUnknown}
 use Rattle.pb_compat.proofs.ScalarLemmas.{MeansTo, scalars_kept}
-use Rattle.pb_compat.proofs.FieldLemmas.{read_as, kept_scalars, written_wire, new_scalar, elements_as, one_as}
+use Rattle.pb_compat.proofs.FieldLemmas.{read_as, kept_scalars, read_wire, read_scalar, packable_wire, elements_read}
 
 no_zero : (n : ℕ) → (suc n == 0) ≡ true → ⊥
 no_zero n e = omega (arith, (Decides-eqb (suc n) 0).0 e)
@@ -105,23 +105,27 @@ module _ (old new : Types) (inner : ℕ → List Record → Message) where
     pub alone : (n : ℕ) → one_value inner b (record_of n (payload_of old a d) ∷ []) ≡ Some value
     pub listed : (n : ℕ) (rs : List Record) → list_values inner b (record_of n (payload_of old a d) ∷ rs) ≡ value ∷ list_values inner b rs
 
-  scalar_read : (a b : Kind) (x : Scalar) → keeps_scalars old new a b ≡ true → IsOfKind a x → is_declared old a x ≡ true → Reads a b (scalar x)
-  scalar_read a b x keeps h d =
-      let r = some_of (read b (written a x)) (MeansTo new b (meaning x)) (scalars_kept new old a b keeps x h d) in
-      let same : read_as a b x ≡ r.0 = ap (λ (o : Option Scalar). unwrap_or o x) r.1 in
-      let none = new_scalar old new a b keeps x h d in
+  pub kept_read : (a b : Kind) (x : Scalar) → KeepsScalar new a b x → Reads a b (scalar x)
+  kept_read a b x kept =
+      let r = some_of (read b (written a x)) (MeansTo new b (meaning x)) kept in
+      let none = read_scalar b (written a x) r.0 r.1 in
+      let wire = read_wire b (written a x) r.0 r.1 in
+      let gives = elements_read b (written a x) r.0 (λ can w. (packable_wire b can).0 (sym wire ∙ w)) r.1 in
       record {
-        value = scalar (read_as a b x);
-        is_read = subst (IsOfKind b) (sym same) r.2.0;
-        same = ap meaning same ∙ r.2.2;
-        wire = written_wire old new a b keeps x h d;
+        value = scalar r.0;
+        is_read = r.2.0;
+        same = r.2.2;
+        wire = wire;
         declared = declared_number new b (written a x) r.0 r.1 r.2.1;
-        alone = λ n. one_as old new a b keeps inner n x h d;
+        alone = λ n. one_value-scalar inner b (record_of n (written a x) ∷ []) none ∙ ap (λ (l : List Scalar). option_map scalar (last_of (l ++ []))) gives;
         listed = λ n rs.
             list_values-scalar inner b (record_of n (written a x) ∷ rs) none
-            ∙ ap (λ (l : List Scalar). map scalar (l ++ all_elements b rs)) (elements_as old new a b keeps x h d)
-            ∙ ap (λ (l : List Datum). scalar (read_as a b x) ∷ l) (sym (list_values-scalar inner b rs none));
+            ∙ ap (λ (l : List Scalar). map scalar (l ++ all_elements b rs)) gives
+            ∙ ap (λ (l : List Datum). scalar r.0 ∷ l) (sym (list_values-scalar inner b rs none));
       }
+
+  scalar_read : (a b : Kind) (x : Scalar) → keeps_scalars old new a b ≡ true → IsOfKind a x → is_declared old a x ≡ true → Reads a b (scalar x)
+  scalar_read a b x keeps h d = kept_read a b x (scalars_kept new old a b keeps x h d)
 
   module _ (Pair : ℕ → ℕ → Type 0) (levels : ℕ)
       (inside : (m n : ℕ) (v : Message) → Pair m n → IsBody old m v → HasNoUnknown v → message_depth v < levels → Agrees old new m n v (inner n (canon old m v)))

@@ -16,7 +16,7 @@ use Rattle.pb_compat.proofs.OnlyLemmas.{EachField, AtMostOne, rises_lower}
 use Rattle.pb_compat.proofs.FieldLemmas.{and_both}
 
 -- the number is among these
-abbrev has : List ℕ → ℕ → Bool
+abbrev pub has : List ℕ → ℕ → Bool
 has ns n = list_any (λ i. i == n) ns
 
 -- both are members of a oneof
@@ -30,7 +30,7 @@ member_of o shape.Explicit e = absurd (cc)
 member_of o (shape.List p) e = absurd (cc)
 member_of o (shape.Map key) e = absurd (cc)
 
-share_both : (s t : Shape) → share_oneof s t ≡ true → Share s t
+pub share_both : (s t : Shape) → share_oneof s t ≡ true → Share s t
 share_both (shape.OneofMember o) t e = (o, refl, member_of o t e)
 share_both shape.Implicit t e = absurd (cc)
 share_both shape.Explicit t e = absurd (cc)
@@ -38,10 +38,10 @@ share_both (shape.List p) t e = absurd (cc)
 share_both (shape.Map key) t e = absurd (cc)
 
 -- two that share with a third
-share_three : (r s t : Shape) → Share r s → Share r t → Share s t
+pub share_three : (r s t : Shape) → Share r s → Share r t → Share s t
 share_three r s t a b = let e = a.1 in let f = b.1 in let same : a.0 ≡ b.0 = cc in (a.0, a.2, b.2 ∙ ap (λ (i : ℕ). Some i) (sym same))
 
-share_turned : (s t : Shape) → Share s t → Share t s
+pub share_turned : (s t : Shape) → Share s t → Share t s
 share_turned s t a = (a.0, a.2, a.1)
 
 -- what is said of all shapes of some numbers is said of each
@@ -63,7 +63,7 @@ each_shares fs s (i ∷ ns) n f all here found = by (i == n) refl (field_numbere
     by false e (Some g) at all here later = later (and_both (share_oneof s g.shape) (list_all (share_oneof s) (shapes_of fs ns)) all).1 here found
 
 -- two of some numbers that differ
-two_share : (fs : List FieldView) (ns : List ℕ) (n k : ℕ) (f g : FieldView) → at_most_one (shapes_of fs ns) ≡ true → has ns n ≡ true → has ns k ≡ true → n ≢ k → field_numbered n fs ≡ Some f → field_numbered k fs ≡ Some g → Share f.shape g.shape
+pub two_share : (fs : List FieldView) (ns : List ℕ) (n k : ℕ) (f g : FieldView) → at_most_one (shapes_of fs ns) ≡ true → has ns n ≡ true → has ns k ≡ true → n ≢ k → field_numbered n fs ≡ Some f → field_numbered k fs ≡ Some g → Share f.shape g.shape
 two_share fs [] n k f g most here there differ found_f found_g = absurd (cc)
 two_share fs (i ∷ ns) n k f g most here there differ found_f found_g =
     by (i == n) refl (i == k) refl (field_numbered i fs) refl most here there (λ m a b. two_share fs ns n k f g m a b differ found_f found_g)
@@ -93,7 +93,7 @@ two_share fs (i ∷ ns) n k f g most here there differ found_f found_g =
         share_three x.shape f.shape g.shape (each_shares fs x.shape ns n f most here found_f) (each_shares fs x.shape ns k g most there found_g)
 
 -- a member is among the numbers of the members
-member_listed : (o n : ℕ) (gs : List FieldView) → is_member_at o (field_numbered n gs) ≡ true → has (member_numbers o gs) n ≡ true
+pub member_listed : (o n : ℕ) (gs : List FieldView) → is_member_at o (field_numbered n gs) ≡ true → has (member_numbers o gs) n ≡ true
 member_listed o n [] e = absurd (cc)
 member_listed o n (g ∷ gs) e = by (g.number == n) refl e (member_listed o n gs)
   where

@@ -1,5 +1,5 @@
 -- The canonical records of an old message are sound for the new type.
-use Rattle.std.proofs.Common.{◌≡◌, ℕ, zero, suc, ◌≤◌, List, [], ◌∷◌, ◌++◌, Bool, true, false, not, Option, Some, None, refl, sym, ◌∙◌, ap, subst, arith, append-nil}
+use Rattle.std.proofs.Common.{◌≡◌, ℕ, zero, suc, ◌≤◌, List, [], ◌∷◌, ◌++◌, Bool, true, false, not, ◌&&◌, ◌||◌, Option, Some, None, refl, sym, ◌∙◌, ap, subst, arith, append-nil}
 use Rattle.std.specs.Prelude.{◌==◌, if◌then◌else◌}
 use Rattle.pb_wire.specs.Record.{Payload, varint, fixed64, len, group, fixed32, Group, no_more, more, Record, group_of, records_in, depth, group_depth, records_depth, wire_type}
 use Rattle.pb_wire.specs.Spell.{AreRecords, shortest_records}
@@ -24,6 +24,7 @@ use Rattle.pb_schema.specs.Context.{Context, a_message, an_entry, unknown_group,
 use Rattle.pb_value.specs.Data.{Datum, scalar, message, Datums, no_datums, datum, Entries, no_entries, entry, Holding, one, list, map as map_of, Fields, no_fields, field, Message, body, levels_of, levels_in_entry, datums_depth, entries_depth, holding_depth, fields_depth, message_depth}
 use Rattle.pb_value.specs.Canon.{payload_of, packed_bytes, canon, canon_each, canon_entries, canon_holding, canon_fields, by_field, by_type, record_of, sealed, wrapped, is_packed}
 use Rattle.pb_value.specs.WellFormed.{IsOfShape, key_of, IsDatum, AreDatums, AreEntries, IsHeld, AreFields, IsBody, datums_declared, holds_declared}
+use Rattle.pb_value.specs.Judge.Forms.{is_implicit}
 use Rattle.pb_value.specs.Value.{value}
 use Rattle.pb_value.proofs.BodyBack.{can_pack, canon-good}
 use Rattle.pb_value.proofs.FieldBack.{AllNumbered, numbered_at}
@@ -34,11 +35,11 @@ use Rattle.pb_value.proofs.HeldBack.{field_with, entry_records, entry_records-go
 use Rattle.pb_value.proofs.Numbers.{found_number}
 use Rattle.pb_value.proofs.Options.{some_of}
 use Rattle.pb_compat.specs.Scalars.{keeps_scalars}
-use Rattle.pb_compat.specs.Fields.{keeps_kind, keeps_shape, is_map, is_list}
+use Rattle.pb_compat.specs.Fields.{keeps_kind, keeps_others, keeps_shape, is_map, is_list}
 use Rattle.pb_compat.specs.Agrees.{HasNoUnknown, ValueHasNoUnknown, ValuesHaveNoUnknown, EntriesHaveNoUnknown, HoldsNoUnknown, FieldsHaveNoUnknown, ReadsEncodings}
 use Rattle.pb_compat.specs.Pairs.{Reached, begun}
 use Rattle.pb_compat.specs.Agrees.{NoneBreaks}
-use Rattle.pb_compat.proofs.BreaksLemmas.{kept_unbroken}
+use Rattle.pb_compat.proofs.BreaksLemmas.{IsKept, kept_unbroken}
 use Rattle.pb_compat.proofs.WholeLemmas.{key_kinds, may_be_value, Pair, lead, messages_read}
 use Rattle.pb_compat.proofs.FieldLemmas.{and_both, kept_scalars, packable_too, same_wire}
 use Rattle.pb_compat.proofs.HoldingLemmas.{key_scalar}
@@ -378,6 +379,29 @@ module _ (old new : Types) (Pair : ℕ → ℕ → Type 0) (room : ℕ) (inside 
     sound_holding (shape.Map k) t (map_of (entry x d es)) reading grouping can may key fit shaped w declared known l short = absurd (cc)
     sound_holding s t h reading grouping can may key fit shaped w declared known l short = absurd shaped
 
+  -- values of a field of implicit presence, of which the new kind keeps all but the default
+  sound_others : (u n : ℕ) (a b : Kind) (h : Holding) (s : Shape) → is_implicit s ≡ true → keeps_others new a b ≡ true → IsOfShape s h → IsHeld old s a h → (name : List ℕ)
+      → AllSound (schema_of new) (a_message u) room (canon_holding old (field_with name n a s) h)
+  sound_others u n a b (one (scalar x)) s i keeps shaped w name = AllSound.one (by a b x keeps w) AllSound.none
+    where
+      by : (a b : Kind) (x : Scalar) → keeps_others new a b ≡ true → IsOfKind a x → Sound (schema_of new) (a_message u) room n (written a x)
+      by kind.Bool (kind.ClosedEnum e) (boolean x) keeps w = Sound.is_varint
+      by kind.Int32 (kind.ClosedEnum e) (int32 z) keeps w = Sound.is_varint
+      by (kind.Enum j) (kind.ClosedEnum e) (enum z) keeps w = Sound.is_varint
+      by kind.Bool (kind.ClosedEnum e) x keeps w = absurd w
+      by kind.Int32 (kind.ClosedEnum e) x keeps w = absurd w
+      by (kind.Enum j) (kind.ClosedEnum e) x keeps w = absurd w
+      by a b x keeps w = absurd (cc)
+  sound_others u n a b (one (message v)) s i keeps shaped w name = absurd (by a keeps w)
+    where
+      by : (a : Kind) → keeps_others new a b ≡ true → IsDatum old a (message v) → ⊥
+      by (kind.Message j) e w = absurd (cc)
+      by (kind.Group j) e w = absurd (cc)
+      by a e w = w
+  sound_others u n a b (list ds) shape.Implicit i keeps shaped w name = absurd shaped
+  sound_others u n a b (map_of es) shape.Implicit i keeps shaped w name = absurd shaped
+  sound_others u n a b h s i keeps shaped w name = absurd (cc)
+
   -- records of a number that the new type does not declare
   sound_lost_all : (u k : ℕ) (rs : List Record) → field_numbered k (message_fields new u) ≡ None → AllNumbered k rs → records_depth rs ≤ room → AllSound (schema_of new) (a_message u) room rs
   unfolding AllNumbered
@@ -393,16 +417,22 @@ module _ (old new : Types) (rules_old : IsPool old) (rules_new : IsPool new) (st
         → AreWritable (canon_holding old f h) → AllSound (schema_of new) (a_message n) room (canon_holding old f h)
     sound_at k f h found shaped w declared known l short = by (field_numbered k (message_fields new n)) refl
       where
+        by_kept : (g : FieldView) → IsKept old new m n f g → field_numbered f.number (message_fields new n) ≡ Some g → field_numbered k (message_fields new n) ≡ Some g → (b : Bool) → keeps_kind old new f.kind g.kind ≡ b
+            → AllSound (schema_of new) (a_message n) room (canon_holding old f h)
+        by_kept g kept there e true keeps =
+            sound_holding old new (Pair old new rules_old rules_new start unbroken) room inside (canon-good old rules_old) n f.kind g.kind keeps (lead old new rules_old rules_new start unbroken m n k f g pair found e) f.name f.number f.shape g.shape h
+            (ap (read_field (a_message n)) there) (ap group_of_field there) (can_pack old m rules_old k f found) (may_be_value old m k f rules_old found) (key_kinds old m k f rules_old found) kept.shape shaped w declared known l short
+        by_kept g kept there e false loses =
+            let others = and_both (is_implicit f.shape) (keeps_others new f.kind g.kind) (ap (λ (b : Bool). b || (is_implicit f.shape && keeps_others new f.kind g.kind)) (sym loses) ∙ kept.kind) in
+            sound_others old new (Pair old new rules_old rules_new start unbroken) room inside (canon-good old rules_old) n f.number f.kind g.kind h f.shape others.0 others.1 shaped w f.name
+
         by : (o : Option FieldView) → field_numbered k (message_fields new n) ≡ o → AllSound (schema_of new) (a_message n) room (canon_holding old f h)
         by None e =
             let deep = depth_holding old f h in
             sound_lost_all old new (Pair old new rules_old rules_new start unbroken) room inside (canon-good old rules_old) n k (canon_holding old f h) e (numbered_at old (message_fields old m) (can_pack old m rules_old) k h f found) (omega (arith, deep, l))
         by (Some g) e =
-            let kept = kept_unbroken old new m n k f g (unbroken (m, n) pair) found e in
             let number : f.number ≡ k = found_number k (message_fields old m) f found in
-            let there : field_numbered f.number (message_fields new n) ≡ Some g = ap (λ (i : ℕ). field_numbered i (message_fields new n)) number ∙ e in
-            sound_holding old new (Pair old new rules_old rules_new start unbroken) room inside (canon-good old rules_old) n f.kind g.kind kept.kind (lead old new rules_old rules_new start unbroken m n k f g pair found e) f.name f.number f.shape g.shape h
-            (ap (read_field (a_message n)) there) (ap group_of_field there) (can_pack old m rules_old k f found) (may_be_value old m k f rules_old found) (key_kinds old m k f rules_old found) kept.shape shaped w declared known l short
+            by_kept g (kept_unbroken old new m n k f g (unbroken (m, n) pair) found e) (ap (λ (i : ℕ). field_numbered i (message_fields new n)) number ∙ e) e (keeps_kind old new f.kind g.kind) refl
 
     sound_fields : (fs : Fields) → AreFields old (message_fields old m) fs → FieldsHaveNoUnknown fs → fields_depth fs ≤ room → AreWritable (canon_fields old (message_fields old m) fs) → AllSound (schema_of new) (a_message n) room (canon_fields old (message_fields old m) fs)
     sound_fields no_fields w known l short = AllSound.none

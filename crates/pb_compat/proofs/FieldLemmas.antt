@@ -135,9 +135,6 @@ module _ (old new : Types) (a b : Kind) (keeps : keeps_scalars old new a b ≡ t
   new_scalar x h d = read_scalar b (written a x) (read_as a b x) (reads x h d).0
 
   module _ (inner : ℕ → List Record → Message) where
-    pub one_as : (n : ℕ) (x : Scalar) → IsOfKind a x → is_declared old a x ≡ true → one_value inner b (record_of n (written a x) ∷ []) ≡ Some (scalar (read_as a b x))
-    one_as n x h d = one_value-scalar inner b (record_of n (written a x) ∷ []) (new_scalar x h d) ∙ ap (λ (l : List Scalar). option_map scalar (last_of (l ++ []))) (elements_as x h d)
-
     listed_one : (n : ℕ) (x : Scalar) → IsOfKind a x → is_declared old a x ≡ true → list_values inner b (record_of n (written a x) ∷ []) ≡ scalar (read_as a b x) ∷ []
     listed_one n x h d = list_values-scalar inner b (record_of n (written a x) ∷ []) (new_scalar x h d) ∙ ap (λ (l : List Scalar). map scalar (l ++ [])) (elements_as x h d)
 

@@ -52,6 +52,10 @@ pub mod WitnessLemmas
 pub mod ReadingLemmas
 -- values of messages that show a break
 pub mod SampleLemmas
+-- packed lists of one element that another kind reads
+pub mod ElementLemmas
+-- values that the new kind does not read as the same, wherever they are
+pub mod LostValueLemmas
 -- values that the new kind reads otherwise, or whose records do not fit
 pub mod OtherwiseLemmas
 -- how long the records of small contents are
@@ -64,6 +68,12 @@ pub mod PackedLemmas
 pub mod MapLemmas
 -- messages of two fields that the new type has in one oneof
 pub mod PairLemmas
+-- fields that the new type has in one oneof: a partner exactly where the oneof is crowded
+pub mod PartnerLemmas
+-- a message is built exactly where a difference breaks
+pub mod ExactLemmas
+-- values and keys that fields may hold
+pub mod FillLemmas
 -- bodies into which a content is put
 pub mod BodyLemmas
 -- the messages that the call builds

@@ -13,7 +13,7 @@ use Rattle.pb_schema.specs.Kinds.{wire_type_of, is_key_kind, message_of_kind, de
 use Rattle.pb_schema.specs.Closed.{closed_of, is_list_field, settled}
 use Rattle.pb_schema.specs.Rules.{IsPool, HasKeyKind}
 use Rattle.pb_value.specs.Data.{Datum, scalar, message, no_entries, entry, map as map_of, Message, no_fields, body, fields_of, get_field}
-use Rattle.pb_value.specs.Value.{last_of, all_elements, unless_no_entries, one_value, missing, entry_key, entry_value, held_as}
+use Rattle.pb_value.specs.Value.{last_of, all_elements, unless_no_entries, one_value, missing, entry_key, entry_value, held_as, value_within}
 use Rattle.pb_value.specs.Canon.{payload_of, record_of, sealed, canon_holding}
 use Rattle.pb_value.specs.WellFormed.{IsOfShape, IsDatum, key_of}
 use Rattle.pb_value.proofs.BodyBack.{canon-good}
@@ -24,7 +24,7 @@ use Rattle.pb_value.proofs.WrittenLemmas.{wire_type-written}
 use Rattle.pb_compat.specs.Scalars.{meaning}
 use Rattle.pb_compat.specs.Agrees.{IsSameValue, HoldsSame}
 use Rattle.pb_compat.specs.Samples.{IsValue, IsNeverSame, IsReadOtherwise, IsUnlikeEntry, never_entry, otherwise_entry, missing_entry}
-use Rattle.pb_compat.specs.Witness.{IsWitness, alone, AreFieldsAt, MapIsShown}
+use Rattle.pb_compat.specs.Witness.{alone, AreFieldsAt, MapIsShown}
 use Rattle.pb_compat.proofs.FieldLemmas.{read_wire}
 use Rattle.pb_compat.proofs.HoldingLemmas.{open_declared, key_open}
 use Rattle.pb_compat.proofs.NeverLemmas.{MayHold, never_key, never_map}
@@ -32,7 +32,7 @@ use Rattle.pb_compat.proofs.OtherwiseLemmas.{got, gives, gives_one, none_unknown
 use Rattle.pb_compat.proofs.ReadingLemmas.{AreAt, read_whole}
 use Rattle.pb_compat.proofs.ShownLemmas.{can_hold}
 use Rattle.pb_compat.proofs.WholeLemmas.{key_kinds, may_be_value}
-use Rattle.pb_compat.proofs.WitnessLemmas.{CanHold, same_alone, witness_alone, witness_read}
+use Rattle.pb_compat.proofs.WitnessLemmas.{CanHold, IsMisread, alone_shows, same_alone, witness_alone, witness_read}
 
 module _ (old new : Types) (inner : ℕ → List Record → Message) (key l a b : Kind) (x : Scalar) (d : Datum) where
   -- KEYS
@@ -101,7 +101,7 @@ module _ (old new : Types) (rules_old : IsPool old) (rules_new : IsPool new) (m 
   -- the new field holds one entry, which is read of the records of the old one
   pub witness_map : ((inner : ℕ → List Record → Message)
       → HoldsSame old new f.kind g.kind (shape.Map l) (map_of (entry x d no_entries)) (Some (map_of (entry (entry_key inner l (entry_records old key f.kind x d)) (entry_value inner g.kind (entry_records old key f.kind x d)) no_entries))) → ⊥)
-      → IsWitness old new m n (alone k (map_of (entry x d no_entries)))
+      → IsMisread old new m n (alone k (map_of (entry x d no_entries)))
   unfolding entry_record
   witness_map other =
       let h = map_of (entry x d no_entries) in
@@ -112,35 +112,41 @@ module _ (old new : Types) (rules_old : IsPool old) (rules_new : IsPool new) (m 
       ap (settled gs) map_record ∙ settled-same gs (entry_record ∷ []) (subst (λ (o : Option FieldView). IsUncut entry_record.payload (is_list_field o) (closed_of o)) (sym there) (subst (λ (s : Shape). IsUncut entry_record.payload (is_list_field (Some (record { name = g.name; number = g.number; kind = g.kind; shape = s }))) (closed_of (Some (record { name = g.name; number = g.number; kind = g.kind; shape = s })))) (sym stays) tt), tt) in
       let good = entry_records-good old (λ i rs. body no_fields rs) 0 (λ i v u q. absurd (omega (arith, q))) (canon-good old rules_old) key f.kind x d typed_key typed in
       witness_read old new rules_old rules_new m n k f g at.old_field at.new_field h can
-      (λ w e a.
-      let whole = read_whole new rules_new n k g at.new_field (canon_holding old f h) w (subst (AreAt k) (sym map_record) (number, tt)) e (none_unknown old new rules_old rules_new m n k f g at.old_field at.new_field h can w a) in
-      let read : get_field k (fields_of w) ≡ Some (map_of (entry (entry_key whole.inner l (entry_records old key f.kind x d)) (entry_value whole.inner g.kind (entry_records old key f.kind x d)) no_entries)) =
-      whole.holds ∙ ap (held_as whole.inner g.shape g.kind) whole_record ∙ ap (λ (s : Shape). held_as whole.inner s g.kind (entry_record ∷ [])) stays
-      ∙ ap (λ (rs : List Record). unless_no_entries ((entry_key whole.inner l rs, entry_value whole.inner g.kind rs) ∷ [])) (records_spelled-shortest (entry_records old key f.kind x d) good.in_range good.numbered) in
-      other whole.inner
-      (subst (λ (s : Shape). HoldsSame old new f.kind g.kind s h (Some (map_of (entry (entry_key whole.inner l (entry_records old key f.kind x d)) (entry_value whole.inner g.kind (entry_records old key f.kind x d)) no_entries)))) stays
+      (λ levels w e a.
+      let inner : ℕ → List Record → Message = value_within new levels in
+      let whole = read_whole new rules_new n k g at.new_field levels (canon_holding old f h) w (subst (AreAt k) (sym map_record) (number, tt)) e (none_unknown old new rules_old rules_new m n k f g at.old_field at.new_field h can w a) in
+      let read : get_field k (fields_of w) ≡ Some (map_of (entry (entry_key inner l (entry_records old key f.kind x d)) (entry_value inner g.kind (entry_records old key f.kind x d)) no_entries)) =
+      whole.holds ∙ ap (held_as inner g.shape g.kind) whole_record ∙ ap (λ (s : Shape). held_as inner s g.kind (entry_record ∷ [])) stays
+      ∙ ap (λ (rs : List Record). unless_no_entries ((entry_key inner l rs, entry_value inner g.kind rs) ∷ [])) (records_spelled-shortest (entry_records old key f.kind x d) good.in_range good.numbered) in
+      other inner
+      (subst (λ (s : Shape). HoldsSame old new f.kind g.kind s h (Some (map_of (entry (entry_key inner l (entry_records old key f.kind x d)) (entry_value inner g.kind (entry_records old key f.kind x d)) no_entries)))) stays
       (subst (HoldsSame old new f.kind g.kind g.shape h) read (same_alone old new rules_old rules_new m n k f g at.old_field at.new_field h can w a))))
 
 -- KEYS OR VALUES
 
-pub map_is_shown : (old new : Types) → IsPool old → IsPool new → MapIsShown old new
-map_is_shown old new rules_old rules_new m n k f g key l x d at maps stays keyed v unlike = by unlike
-  where
-    shaped : IsOfShape f.shape (map_of (entry x d no_entries))
-    shaped = subst (λ (s : Shape). IsOfShape s (map_of (entry x d no_entries))) (sym maps) tt
+-- a map of one entry is a content of the field
+module _ (old : Types) (rules_old : IsPool old) (m k : ℕ) (f : FieldView) (found : field_numbered k (message_fields old m) ≡ Some f) (key : Kind) (x : Scalar) (d : Datum) where
+  pub map_can : f.shape ≡ shape.Map key → IsValue old key (scalar x) → IsValue old f.kind d → CanHold old f (map_of (entry x d no_entries))
+  map_can maps keyed v =
+      can_hold old rules_old m k f found d (map_of (entry x d no_entries)) v (x, subst (λ (s : Shape). IsSomeAnd (key_of s) (λ c. IsValue old c (scalar x))) (sym maps) keyed, refl)
+      (subst (λ (s : Shape). IsOfShape s (map_of (entry x d no_entries))) (sym maps) tt)
 
+pub map_is_misread : (old new : Types) → IsPool old → IsPool new → (m n k : ℕ) (f g : FieldView) (key l : Kind) (x : Scalar) (d : Datum) → AreFieldsAt old new m n k f g → f.shape ≡ shape.Map key → g.shape ≡ shape.Map l
+    → IsValue old key (scalar x) → IsValue old f.kind d → IsUnlikeEntry old new key l (scalar x) ⊎ IsUnlikeEntry old new f.kind g.kind d → IsMisread old new m n (alone k (map_of (entry x d no_entries)))
+map_is_misread old new rules_old rules_new m n k f g key l x d at maps stays keyed v unlike = by unlike
+  where
     can : CanHold old f (map_of (entry x d no_entries))
-    can = can_hold old rules_old m k f at.old_field d (map_of (entry x d no_entries)) v (x, subst (λ (s : Shape). IsSomeAnd (key_of s) (λ c. IsValue old c (scalar x))) (sym maps) keyed, refl) shaped
+    can = map_can old rules_old m k f at.old_field key x d maps keyed v
 
     by_what_is_read : ((inner : ℕ → List Record → Message)
         → HoldsSame old new f.kind g.kind (shape.Map l) (map_of (entry x d no_entries)) (Some (map_of (entry (entry_key inner l (entry_records old key f.kind x d)) (entry_value inner g.kind (entry_records old key f.kind x d)) no_entries))) → ⊥)
-        → IsWitness old new m n (alone k (map_of (entry x d no_entries)))
+        → IsMisread old new m n (alone k (map_of (entry x d no_entries)))
     by_what_is_read other = witness_map old new rules_old rules_new m n k f g at key l maps stays x d can keyed.value v.value other
 
     key_can : IsTrue (is_key_kind l)
     key_can = subst HasKeyKind stays (key_kinds new n k g rules_new at.new_field)
 
-    by_key : IsUnlikeEntry old new key l (scalar x) → IsWitness old new m n (alone k (map_of (entry x d no_entries)))
+    by_key : IsUnlikeEntry old new key l (scalar x) → IsMisread old new m n (alone k (map_of (entry x d no_entries)))
     by_key (never_entry nv) =
         witness_alone old new rules_old rules_new m n k f g at.old_field at.new_field (map_of (entry x d no_entries)) can
         (λ o may same.
@@ -149,7 +155,7 @@ map_is_shown old new rules_old rules_new m n k f g key l x d at maps stays keyed
     by_key (otherwise_entry o) = by_what_is_read (λ inner same. key_otherwise old new inner key l f.kind g.kind x d o same.0)
     by_key (missing_entry wires none) = by_what_is_read (λ inner same. key_apart old new inner key l f.kind g.kind x d keyed.value wires none.1 same.0)
 
-    by_value : (e : Datum) → d ≡ e → IsUnlikeEntry old new f.kind g.kind e → IsWitness old new m n (alone k (map_of (entry x d no_entries)))
+    by_value : (e : Datum) → d ≡ e → IsUnlikeEntry old new f.kind g.kind e → IsMisread old new m n (alone k (map_of (entry x d no_entries)))
     by_value e z (never_entry nv) =
         witness_alone old new rules_old rules_new m n k f g at.old_field at.new_field (map_of (entry x d no_entries)) can
         (λ o may same. never_map old new g.shape f.kind g.kind x d no_entries o (subst (IsNeverSame old new f.kind g.kind) (sym z) nv) (may_be_value new n k g rules_new at.new_field) may same)
@@ -164,6 +170,11 @@ map_is_shown old new rules_old rules_new m n k f g key l x d at maps stays keyed
     by_value (message b) z (otherwise_entry o) = absurd o
     by_value (message b) z (missing_entry wires none) = absurd none
 
-    by : IsUnlikeEntry old new key l (scalar x) ⊎ IsUnlikeEntry old new f.kind g.kind d → IsWitness old new m n (alone k (map_of (entry x d no_entries)))
+    by : IsUnlikeEntry old new key l (scalar x) ⊎ IsUnlikeEntry old new f.kind g.kind d → IsMisread old new m n (alone k (map_of (entry x d no_entries)))
     by (inl u) = by_key u
     by (inr u) = by_value d refl u
+
+pub map_is_shown : (old new : Types) → IsPool old → IsPool new → MapIsShown old new
+map_is_shown old new rules_old rules_new m n k f g key l x d at maps stays keyed v unlike =
+    alone_shows old new rules_old rules_new m n k f g at.old_field at.new_field (map_of (entry x d no_entries)) (map_can old rules_old m k f at.old_field key x d maps keyed v)
+    (map_is_misread old new rules_old rules_new m n k f g key l x d at maps stays keyed v unlike)

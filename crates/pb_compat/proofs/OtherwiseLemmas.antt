@@ -15,7 +15,7 @@ use Rattle.pb_schema.specs.Fits.{fits_shape}
 use Rattle.pb_schema.specs.Packed.{elements}
 use Rattle.pb_schema.specs.Rules.{IsPool}
 use Rattle.pb_value.specs.Data.{Datum, scalar, no_datums, datum, Holding, one, list, Message, no_fields, field, unknown_of}
-use Rattle.pb_value.specs.Value.{last_of, unless_default, unless_no_elements, one_value, list_values, held_as}
+use Rattle.pb_value.specs.Value.{last_of, unless_default, unless_no_elements, one_value, list_values, held_as, value_within}
 use Rattle.pb_value.specs.Canon.{payload_of, record_of, canon_fields, canon_holding}
 use Rattle.pb_value.specs.WellFormed.{IsDatum}
 use Rattle.pb_value.proofs.HeldBack.{wire_type-payload_of}
@@ -27,11 +27,11 @@ use Rattle.pb_compat.specs.Scalars.{meaning}
 use Rattle.pb_compat.specs.Fields.{is_map}
 use Rattle.pb_compat.specs.Agrees.{Agrees, HoldsSame}
 use Rattle.pb_compat.specs.Samples.{IsReadOtherwise, IsUnfit}
-use Rattle.pb_compat.specs.Witness.{IsWitness, alone}
+use Rattle.pb_compat.specs.Witness.{alone}
 use Rattle.pb_compat.proofs.ContentLemmas.{IsCounted}
 use Rattle.pb_compat.proofs.FieldLemmas.{read_wire, read_scalar, packable_wire, elements_read}
 use Rattle.pb_compat.proofs.ReadingLemmas.{AreAt, read_whole}
-use Rattle.pb_compat.proofs.WitnessLemmas.{CanHold, same_alone, witness_read}
+use Rattle.pb_compat.proofs.WitnessLemmas.{CanHold, IsMisread, same_alone, witness_read}
 
 -- A SCALAR THAT IS READ OTHERWISE
 
@@ -139,12 +139,12 @@ module _ (old new : Types) (rules_old : IsPool old) (rules_new : IsPool new) (m 
         ∙ settled-same gs (record_written ∷ []) (subst (λ (o : Option FieldView). IsUncut (payload_of old f.kind d) (is_list_field o) (closed_of o)) (sym there) u, tt)
 
     -- a record that fits no such field is unknown
-    pub witness_apart : IsUnfit f.kind g.kind → IsWitness old new m n (alone k h)
+    pub witness_apart : IsUnfit f.kind g.kind → IsMisread old new m n (alone k h)
     witness_apart unfit =
         let no : fits_shape g.shape g.kind (wire_type (payload_of old f.kind d)) ≡ false = ap (fits_shape g.shape g.kind) (wire_type-payload_of old f.kind d typed) ∙ unfit g.shape plain in
         witness_read old new rules_old rules_new m n k f g found_f found_g h can
-        (λ w e a.
-        let whole = read_whole new rules_new n k g found_g (canon_holding old f h) w at e (none_unknown w a) in
+        (λ levels w e a.
+        let whole = read_whole new rules_new n k g found_g levels (canon_holding old f h) w at e (none_unknown w a) in
         let counted = subst (AllByRecursion (IsCounted new k g.shape g.kind)) (alone_settled (uncut_unfit g.shape g.kind (payload_of old f.kind d) no)) whole.counted in
         clash (sym no ∙ counted.0.1))
       where
@@ -153,11 +153,11 @@ module _ (old new : Types) (rules_old : IsPool old) (rules_new : IsPool new) (m 
 
     -- a value that is read as another one
     pub witness_otherwise : IsUncut (payload_of old f.kind d) (is_list g.shape) (closed_shaped g.shape g.kind)
-        → ((inner : ℕ → List Record → Message) → HoldsSame old new f.kind g.kind g.shape h (held_as inner g.shape g.kind (record_written ∷ [])) → ⊥) → IsWitness old new m n (alone k h)
+        → ((inner : ℕ → List Record → Message) → HoldsSame old new f.kind g.kind g.shape h (held_as inner g.shape g.kind (record_written ∷ [])) → ⊥) → IsMisread old new m n (alone k h)
     witness_otherwise u other =
         witness_read old new rules_old rules_new m n k f g found_f found_g h can
-        (λ w e a.
-        let whole = read_whole new rules_new n k g found_g (canon_holding old f h) w at e (none_unknown w a) in
-        other whole.inner
-        (subst (HoldsSame old new f.kind g.kind g.shape h) (whole.holds ∙ ap (held_as whole.inner g.shape g.kind) (alone_settled u))
+        (λ levels w e a.
+        let whole = read_whole new rules_new n k g found_g levels (canon_holding old f h) w at e (none_unknown w a) in
+        other (value_within new levels)
+        (subst (HoldsSame old new f.kind g.kind g.shape h) (whole.holds ∙ ap (held_as (value_within new levels) g.shape g.kind) (alone_settled u))
         (same_alone old new rules_old rules_new m n k f g found_f found_g h can w a)))

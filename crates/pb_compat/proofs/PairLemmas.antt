@@ -1,5 +1,5 @@
 -- Messages of two fields that the new type has in one oneof, of which it holds at most one.
-use Rattle.std.proofs.Common.{◌≡◌, ◌≢◌, ℕ, ◌+◌, ◌<◌, ◌^◌, length, List, [], ◌∷◌, ◌++◌, Bool, true, false, Option, Some, None, IfSome, IsSomeAnd, refl, sym, ◌∙◌, ap, subst, arith, append-nil}
+use Rattle.std.proofs.Common.{◌≡◌, ◌≢◌, ℕ, ◌+◌, ◌<◌, ◌≤◌, ◌^◌, length, List, [], ◌∷◌, ◌++◌, Bool, true, false, Option, Some, None, IfSome, IsSomeAnd, refl, sym, ◌∙◌, ap, subst, arith, append-nil}
 use Rattle.std.specs.Prelude.{option_and_then, ◌==◌}
 use Rattle.std.proofs.lemmas.Bool.Decides.{nat_tests}
 use Rattle.std.proofs.lemmas.List.{length-append}
@@ -10,7 +10,7 @@ use Rattle.pb_schema.specs.declared.types.Shape.{Shape}
 use Rattle.pb_schema.specs.declared.types.Shape.TheVariants as shape
 use Rattle.pb_schema.specs.Types.{FieldView, Types, message_fields, field_numbered}
 use Rattle.pb_schema.specs.Rules.{IsPool}
-use Rattle.pb_value.specs.Data.{Holding, one, list, map as map_of, Fields, no_fields, field, Message, body, fields_of, get_field}
+use Rattle.pb_value.specs.Data.{Datum, Holding, one, list, map as map_of, Fields, no_fields, field, put_field, Message, body, fields_of, get_field, message_depth}
 use Rattle.pb_value.specs.Canon.{canon, canon_bytes, canon_holding, canon_fields, by_field}
 use Rattle.pb_value.specs.WellFormed.{IsOfShape, IsHeld, IsBody, IsWellFormed, holds_declared, oneof_of, oneof_at, HasNoMember, HasOneMemberEach}
 use Rattle.pb_value.proofs.ChangeLemmas.{by_order}
@@ -18,9 +18,10 @@ use Rattle.pb_value.proofs.Numbers.{self_equal, number_is}
 use Rattle.pb_value.proofs.Options.{if_some, at_some}
 use Rattle.pb_compat.specs.Oneofs.{share_oneof}
 use Rattle.pb_compat.specs.Agrees.{HoldsSame}
-use Rattle.pb_compat.specs.Witness.{IsWitness, AreFieldsAt, PairIsShown}
+use Rattle.pb_compat.specs.Samples.{IsValue}
+use Rattle.pb_compat.specs.Witness.{IsContentOf, AreFieldsAt, PairIsShown}
 use Rattle.pb_compat.proofs.ShownLemmas.{can_hold}
-use Rattle.pb_compat.proofs.WitnessLemmas.{CanHold, read_well}
+use Rattle.pb_compat.proofs.WitnessLemmas.{CanHold, IsMisread, misread_shows}
 
 -- ONEOFS
 
@@ -117,7 +118,7 @@ module _ (old new : Types) (rules_old : IsPool old) (rules_new : IsPool new) (m 
       ∙ ap (λ (l : List Record). canon_holding old f h ++ l)
       (append-nil (by_field (field_numbered j (message_fields old m)) (λ (y : FieldView). canon_holding old y i)) ∙ ap (λ (x : Option FieldView). by_field x (λ (y : FieldView). canon_holding old y i)) also.old_field)
 
-  pair_small : length (canon_bytes old m (pair k h j i)) < 2 ^ 31
+  pair_small : length (canon_bytes old m (pair k h j i)) < 2 ^ 22
   pair_small =
       let one = can.short in
       let two = can_too.short in
@@ -134,20 +135,23 @@ module _ (old new : Types) (rules_old : IsPool old) (rules_new : IsPool new) (m 
       let second = something old new p.kind q.kind o i (get_field j fs) (subst (λ (s : Shape). HoldsSame old new p.kind q.kind s i (get_field j fs)) there held_p) in
       two_members (message_fields new n) o k j first.0 second.0 fs differ w.2 (member_there k g at.new_field here) (member_there j q also.new_field there) first.1 second.1
 
-  pub pair_shown : k < j → IsWitness old new m n (pair k h j i)
-  pair_shown less =
-      let well = pair_well less in
-      record {
-        well_formed = well;
-        known = (refl, (can.known, (can_too.known, tt)));
-        size = pair_small;
-        unread = λ w t a.
-            unread_by w (read_well old new rules_old rules_new m n (pair k h j i) well w t).parts (λ e. omega (arith, less, e))
-            (at_some (field_numbered k (message_fields new n)) (λ x. HoldsSame old new f.kind x.kind x.shape h (get_field k (fields_of w))) g
-            (at_some (field_numbered k (message_fields old m)) (λ y. IfSome (field_numbered k (message_fields new n)) (λ x. HoldsSame old new y.kind x.kind x.shape h (get_field k (fields_of w)))) f a.0.0 at.old_field) at.new_field)
-            (at_some (field_numbered j (message_fields new n)) (λ x. HoldsSame old new p.kind x.kind x.shape i (get_field j (fields_of w))) q
-            (at_some (field_numbered j (message_fields old m)) (λ y. IfSome (field_numbered j (message_fields new n)) (λ x. HoldsSame old new y.kind x.kind x.shape i (get_field j (fields_of w)))) p a.0.1.0 also.old_field) also.new_field);
-      }
+  pub pair_misread : k < j → IsMisread old new m n (pair k h j i)
+  pair_misread less = record {
+    parts = (pair_well less).parts;
+    known = (refl, (can.known, (can_too.known, tt)));
+    short = let small = pair_small in omega (arith, small);
+    unread = λ levels w deep b e a.
+        unread_by w b (λ e. omega (arith, less, e))
+        (at_some (field_numbered k (message_fields new n)) (λ x. HoldsSame old new f.kind x.kind x.shape h (get_field k (fields_of w))) g
+        (at_some (field_numbered k (message_fields old m)) (λ y. IfSome (field_numbered k (message_fields new n)) (λ x. HoldsSame old new y.kind x.kind x.shape h (get_field k (fields_of w)))) f a.0.0 at.old_field) at.new_field)
+        (at_some (field_numbered j (message_fields new n)) (λ x. HoldsSame old new p.kind x.kind x.shape i (get_field j (fields_of w))) q
+        (at_some (field_numbered j (message_fields old m)) (λ y. IfSome (field_numbered j (message_fields new n)) (λ x. HoldsSame old new y.kind x.kind x.shape i (get_field j (fields_of w)))) p a.0.1.0 also.old_field) also.new_field);
+  }
+
+-- a message that is misread, of two fields of at most one level
+pub record IsPairMisread (old new : Types) (m n : ℕ) (v : Message) : Type 0 where
+  pub misread : IsMisread old new m n v
+  pub depth : message_depth v ≤ 1
 
 share_back : (s t : Shape) → share_oneof s t ≡ false → share_oneof t s ≡ false
 share_back s t e = by (share_oneof t s) refl
@@ -181,12 +185,29 @@ together shape.Explicit t e = absurd (cc)
 together (shape.List p) t e = absurd (cc)
 together (shape.Map key) t e = absurd (cc)
 
-pub pair_is_shown : (old new : Types) → IsPool old → IsPool new → PairIsShown old new
-pair_is_shown old new rules_old rules_new m n k j f g p q d e h i at also differ shared_new apart made shaped v made_too shaped_too v_too =
+pub pair_is_misread : (old new : Types) → IsPool old → IsPool new → (m n k j : ℕ) (f g p q : FieldView) (d e : Datum) (h i : Holding) → AreFieldsAt old new m n k f g → AreFieldsAt old new m n j p q → k ≢ j
+    → share_oneof g.shape q.shape ≡ true → share_oneof f.shape p.shape ≡ false
+    → IsContentOf old f.shape d h → IsOfShape f.shape h → IsValue old f.kind d → IsContentOf old p.shape e i → IsOfShape p.shape i → IsValue old p.kind e
+    → IsPairMisread old new m n (body (put_field j i (field k h no_fields)) [])
+pair_is_misread old new rules_old rules_new m n k j f g p q d e h i at also differ shared_new apart made shaped v made_too shaped_too v_too =
     let both = together g.shape q.shape shared_new in
     let can = can_hold old rules_old m k f at.old_field d h v made shaped in
     let can_too = can_hold old rules_old m j p also.old_field e i v_too made_too shaped_too in
-    by_order (λ (fs : Fields). IsWitness old new m n (body fs [])) j k (field j i (field k h no_fields)) (field k i no_fields) (field k h (field j i no_fields))
-    (λ l. pair_shown old new rules_old rules_new m n j k both.0 p q f g also at (share_back f.shape p.shape apart) both.2 both.1 i h can_too can l)
+    let one = can.depth in
+    let two = can_too.depth in
+    by_order (λ (fs : Fields). IsPairMisread old new m n (body fs [])) j k (field j i (field k h no_fields)) (field k i no_fields) (field k h (field j i no_fields))
+    (λ l. record {
+      misread = pair_misread old new rules_old rules_new m n j k both.0 p q f g also at (share_back f.shape p.shape apart) both.2 both.1 i h can_too can l;
+      depth = omega (arith, one, two);
+    })
     (λ same. absurd (differ (sym same)))
-    (λ l. pair_shown old new rules_old rules_new m n k j both.0 f g p q at also apart both.1 both.2 h i can can_too l)
+    (λ l. record {
+      misread = pair_misread old new rules_old rules_new m n k j both.0 f g p q at also apart both.1 both.2 h i can can_too l;
+      depth = omega (arith, one, two);
+    })
+
+pub pair_is_shown : (old new : Types) → IsPool old → IsPool new → PairIsShown old new
+pair_is_shown old new rules_old rules_new m n k j f g p q d e h i at also differ shared_new apart made shaped v made_too shaped_too v_too =
+    let pair = pair_is_misread old new rules_old rules_new m n k j f g p q d e h i at also differ shared_new apart made shaped v made_too shaped_too v_too in
+    let deep = pair.depth in
+    misread_shows old new rules_old rules_new m n (body (put_field j i (field k h no_fields)) []) pair.misread (omega (arith, deep))

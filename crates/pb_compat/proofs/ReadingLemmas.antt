@@ -1,5 +1,5 @@
 -- What a message of the new type holds in a field whose records are all known: all that they give.
-use Rattle.std.proofs.Common.{◌≡◌, ℕ, List, [], ◌∷◌, ◌++◌, Bool, true, false, not, ◌&&◌, Option, Some, None, refl, sym, ◌∙◌, ap, subst}
+use Rattle.std.proofs.Common.{◌≡◌, ℕ, suc, List, [], ◌∷◌, ◌++◌, Bool, true, false, not, ◌&&◌, Option, Some, None, refl, sym, ◌∙◌, ap, subst}
 use Rattle.std.specs.Prelude.{filter, ◌==◌, if◌then◌else◌}
 use Rattle.std.specs.List.{AllByRecursion}
 use Rattle.pb_wire.specs.Record.{Payload, varint, fixed64, len, group, fixed32, Record, wire_type}
@@ -11,7 +11,7 @@ use Rattle.pb_schema.specs.Oneofs.{members, is_member}
 use Rattle.pb_schema.specs.Closed.{closed_of, closed_shaped, is_undeclared, is_list_field, cut_as, cut_at, numbered, settled, counts, known, unknown}
 use Rattle.pb_schema.specs.Rules.{IsPool}
 use Rattle.pb_value.specs.Data.{Message, fields_of, unknown_of, get_field}
-use Rattle.pb_value.specs.Value.{held, held_as, counting, counting_as, last_run, value, value_within}
+use Rattle.pb_value.specs.Value.{held, held_as, counting, counting_as, last_run, value_within}
 use Rattle.pb_value.proofs.BodyBack.{numbers_differ}
 use Rattle.pb_value.proofs.JudgeLemmas.{fits_any-found}
 use Rattle.pb_value.proofs.ListLemmas.{all_weaker}
@@ -111,21 +111,19 @@ module _ (new : Types) (rules : IsPool new) (n k : ℕ) (g : FieldView) (found :
           ∙ last_run-all (fits g) rs all_fit
 
   -- where no record is unknown
-  pub record IsReadWhole (rs : List Record) (w : Message) : Type 0 where
+  pub record IsReadWhole (levels : ℕ) (rs : List Record) (w : Message) : Type 0 where
     pub counted : AllByRecursion (IsCounted new k g.shape g.kind) (settled (message_fields new n) rs)
-    pub inner : ℕ → List Record → Message
-    pub holds : get_field k (fields_of w) ≡ held_as inner g.shape g.kind (settled (message_fields new n) rs)
+    pub holds : get_field k (fields_of w) ≡ held_as (value_within new levels) g.shape g.kind (settled (message_fields new n) rs)
 
-  pub read_whole : (rs : List Record) (w : Message) → AreAt k rs → w ≡ value new n rs → unknown_of w ≡ [] → IsReadWhole rs w
-  unfolding value value_within
-  read_whole rs w at same none =
-      let inner : ℕ → List Record → Message = value_within new 100 in
+  pub read_whole : (levels : ℕ) (rs : List Record) (w : Message) → AreAt k rs → w ≡ value_within new (suc levels) n rs → unknown_of w ≡ [] → IsReadWhole levels rs w
+  unfolding value_within
+  read_whole levels rs w at same none =
+      let inner : ℕ → List Record → Message = value_within new levels in
       let nothing : unknown new gs rs ≡ [] = ap unknown_of (sym same) ∙ none in
       let pass = none_fails (counts new gs) (settled gs rs) nothing in
       let c = all_counted (settled gs rs) (at_settled gs k rs at) pass in
       record {
         counted = c;
-        inner = inner;
         holds =
             ap (λ (x : Message). get_field k (fields_of x)) same
             ∙ get_field-fields_held inner gs gs (known new gs rs) k (numbers_differ new n rules) ∙ ap (held_at inner gs (known new gs rs)) found

@@ -31,7 +31,7 @@ use Rattle.pb_compat.proofs.NameLemmas.{is_ascii}
 ascii_a : IsUtf8 (97 ∷ [])
 ascii_a = IsUtf8-from_ascii (97 ∷ []) (is_ascii (97 ∷ []) (omega arith, tt))
 
-sample_typed : (old : Types) (a : Kind) → IsDatum old a (sample a)
+pub sample_typed : (old : Types) (a : Kind) → IsDatum old a (sample a)
 sample_typed old kind.Double = omega arith
 sample_typed old kind.Float = omega arith
 sample_typed old kind.Int64 = grind (arith, ints)
@@ -220,12 +220,12 @@ form_meaning (kind.ClosedEnum e) (enum z) h = refl
 form_meaning b x h = absurd h
 
 -- a scalar of another form
-never_scalar : (old new : Types) (a b : Kind) (x : Scalar) → IsOfKind a x → form_of a ≢ form_of b → IsNeverSame old new a b (scalar x)
+pub never_scalar : (old new : Types) (a b : Kind) (x : Scalar) → IsOfKind a x → form_of a ≢ form_of b → IsNeverSame old new a b (scalar x)
 never_scalar old new a b x h differ (scalar y) w declared same = differ (sym (form_meaning a x h) ∙ sym (ap meaning_form same) ∙ form_meaning b y w)
 never_scalar old new a b x h differ (message v) w declared same = same
 
 -- a message, where the new kind is no message and no bytes
-never_message : (old new : Types) (a b : Kind) (v : Message) → form_of b ≢ 4 → is_bytes b ≡ false → IsNeverSame old new a b (message v)
+pub never_message : (old new : Types) (a b : Kind) (v : Message) → form_of b ≢ 4 → is_bytes b ≡ false → IsNeverSame old new a b (message v)
 never_message old new a b v other none (scalar y) w declared same = by b _ (subst (IsOfKind b) same w) none
   where
     by : (b : Kind) (s : List ℕ) → IsOfKind b (bytes s) → is_bytes b ≡ false → ⊥

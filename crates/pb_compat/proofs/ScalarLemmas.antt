@@ -1,6 +1,6 @@
 -- Scalars that a new kind reads of what an old kind wrote.
-use Rattle.std.proofs.Common.{◌≡◌, ℕ, zero, suc, ℤ, pos, ◌<◌, ◌≤◌, ◌^◌, ◌&&◌, ◌||◌, List, [], ◌∷◌, Bool, true, false, refl, sym, subst, arith}
-use Rattle.std.specs.Prelude.{IsSomeAnd, IsTrue, nat_le, ◌==◌}
+use Rattle.std.proofs.Common.{◌≡◌, ◌≢◌, ⊎_elim, ℕ, zero, suc, ◌+◌, ℤ, pos, negsuc, ◌<◌, ◌≤◌, ◌^◌, ◌&&◌, ◌||◌, List, [], ◌∷◌, Bool, true, false, refl, sym, ◌∙◌, ap, subst, arith, inl, inr}
+use Rattle.std.specs.Prelude.{IsSomeAnd, IsTrue, nat_le, ◌==◌, ◌⊎◌}
 use Rattle.std.specs.List.{list_any}
 use Rattle.std.specs.Int.{cast_unsigned, w32, w64}
 use Rattle.std.specs.Int.RustNames.{FitsSigned}
@@ -11,13 +11,16 @@ use Rattle.pb_wire.specs.Record.{varint}
 use Rattle.pb_schema.specs.declared.types.Kind.{Kind}
 use Rattle.pb_schema.specs.declared.types.Kind.TheVariants as kind
 use Rattle.pb_schema.specs.Types.{Types}
-use Rattle.pb_schema.specs.Scalar.{Scalar, int32, int64, uint32, uint64, boolean, enum, text}
+use Rattle.pb_schema.specs.Scalar.{Scalar, int32, int64, uint32, uint64, boolean, enum, text, is_default}
 use Rattle.pb_schema.specs.Kinds.{IsOfKind, read}
-use Rattle.pb_schema.specs.Closed.{is_declared}
+use Rattle.pb_schema.specs.Closed.{declares, is_declared}
 use Rattle.pb_schema.specs.EnumValues.{enum_values}
 use Rattle.pb_schema.specs.ReadBack.{read-written}
 use Rattle.pb_value.proofs.BytesLemmas.{AreBytes-IsUtf8}
-use Rattle.pb_compat.specs.Scalars.{Meaning, integer, meaning, KeepsScalar, KeepsScalars, holds_number, holds_values, holds_int32, holds_uint32, holds_sint32, holds_text, keeps_scalars}
+use Rattle.pb_value.proofs.Numbers.{not_equal}
+use Rattle.pb_value.proofs.FieldExtent.{equal_or_not}
+use Rattle.pb_compat.specs.Scalars.{Meaning, integer, meaning, KeepsScalar, KeepsScalars, holds_number, holds_values, holds_int32, holds_uint32, holds_sint32, holds_text, declares_within, declares_others, keeps_scalars}
+use Rattle.pb_compat.specs.Fields.{keeps_others}
 
 -- what is read means the same
 abbrev pub MeansTo : Types → Kind → Meaning → Scalar → Type 0
@@ -26,6 +29,89 @@ MeansTo new b m y = IsOfKind b y × IsTrue (is_declared new b y) × (meaning y �
 both : (a b : Bool) → (a && b) ≡ true → (a ≡ true) × (b ≡ true)
 both true b e = (refl, e)
 both false b e = absurd (cc)
+
+-- a number that an enum declares if it declares all of some
+module _ (pool : Types) (e : ℕ) where
+  parts : (n : ℕ) → declares_within pool e (suc n) ≡ true → (((n == 0) || declares pool e (pos n)) ≡ true) × (declares pool e (negsuc n) ≡ true) × (declares_within pool e n ≡ true)
+  unfolding declares_within
+  parts n h =
+      let last = both (((n == 0) || declares pool e (pos n)) && declares pool e (negsuc n)) (declares_within pool e n) h in
+      let first = both ((n == 0) || declares pool e (pos n)) (declares pool e (negsuc n)) last.0 in (first.0, first.1, last.1)
+
+  -- one of the first, or the last
+  last_or_less : (n i : ℕ) → i < suc n → (i ≡ n) ⊎ (i < n)
+  last_or_less n i l = by (equal_or_not i n)
+    where
+      by : (i ≡ n) ⊎ (i ≢ n) → (i ≡ n) ⊎ (i < n)
+      by (inl e) = inl e
+      by (inr d) = inr (omega (arith, l, d))
+
+  within_pos : (n i : ℕ) → i < n → (i == 0) ≡ false → declares_within pool e n ≡ true → declares pool e (pos i) ≡ true
+  within_pos zero i l some h = absurd (omega (arith, l))
+  within_pos (suc n) i l some h =
+      let each = parts n h in
+      ⊎_elim (λ (same : i ≡ n). ap (λ (b : Bool). b || declares pool e (pos i)) (sym some) ∙ subst (λ (j : ℕ). ((j == 0) || declares pool e (pos j)) ≡ true) (sym same) each.0)
+      (λ less. within_pos n i less some each.2) (last_or_less n i l)
+
+  within_neg : (n i : ℕ) → i < n → declares_within pool e n ≡ true → declares pool e (negsuc i) ≡ true
+  within_neg zero i l h = absurd (omega (arith, l))
+  within_neg (suc n) i l h =
+      let each = parts n h in
+      ⊎_elim (λ (same : i ≡ n). subst (λ (j : ℕ). declares pool e (negsuc j) ≡ true) (sym same) each.1) (λ less. within_neg n i less each.2) (last_or_less n i l)
+
+  below_half : (n : ℕ) → FitsSigned w32 (pos n) → n < 2 ^ 31
+  below_half n h = grind (arith, ints)
+
+  within_half : (n : ℕ) → FitsSigned w32 (negsuc n) → n < 2 ^ 31
+  within_half n h = grind (arith, ints)
+
+  pub declared_others : (z : ℤ) → FitsSigned w32 z → z ≢ pos 0 → declares_others pool e ≡ true → declares pool e z ≡ true
+  unfolding declares_others
+  declared_others (pos n) fits other h = within_pos (2 ^ 31) n (below_half n fits) (not_equal n 0 (λ q. other (ap pos q))) h
+  declared_others (negsuc n) fits other h = within_neg (2 ^ 31) n (within_half n fits) h
+
+  pub declared_all : (z : ℤ) → FitsSigned w32 z → (declares pool e (pos 0) && declares_others pool e) ≡ true → declares pool e z ≡ true
+  declared_all (pos zero) fits h = (both (declares pool e (pos 0)) (declares_others pool e) h).0
+  declared_all (pos (suc n)) fits h = declared_others (pos (suc n)) fits (λ q. no_zero n q) (both (declares pool e (pos 0)) (declares_others pool e) h).1
+    where
+      no_zero : (n : ℕ) → pos (suc n) ≢ pos 0
+      no_zero n q = absurd (cc)
+  declared_all (negsuc n) fits h = declared_others (negsuc n) fits (λ q. no_zero n q) (both (declares pool e (pos 0)) (declares_others pool e) h).1
+    where
+      no_zero : (n : ℕ) → negsuc n ≢ pos 0
+      no_zero n q = absurd (cc)
+
+  -- one that is not declared shows that not all are
+  pub undeclared_other : (z : ℤ) → FitsSigned w32 z → z ≢ pos 0 → declares pool e z ≡ false → declares_others pool e ≡ false
+  undeclared_other z fits other none = by (declares_others pool e) refl
+    where
+      clash : true ≡ false → ⊥
+      clash q = cc
+
+      by : (b : Bool) → declares_others pool e ≡ b → b ≡ false
+      by true q = absurd (clash (sym (declared_others z fits other q) ∙ none))
+      by false q = refl
+
+  pub within_none : declares_within pool e 0 ≡ true
+  unfolding declares_within
+  within_none = refl
+
+  -- they are all declared where those within 2 ^ 31 are
+  pub others_all : declares_within pool e (2 ^ 31) ≡ true → declares_others pool e ≡ true
+  unfolding declares_others
+  others_all h = h
+
+  pub within_more : (n : ℕ) → ((n == 0) || declares pool e (pos n)) ≡ true → declares pool e (negsuc n) ≡ true → declares_within pool e n ≡ true → declares_within pool e (suc n) ≡ true
+  unfolding declares_within
+  within_more n above below rest =
+      ap (λ (b : Bool). (b && declares pool e (negsuc n)) && declares_within pool e n) above ∙ ap (λ (b : Bool). b && declares_within pool e n) below ∙ rest
+
+  -- one step more, where neither number of a size is undeclared
+  pub within_next : (n : ℕ) (b : Bool) → b ≡ true → b ≡ (((n == 0) || declares pool e (pos n)) && declares pool e (negsuc n)) → declares_within pool e n ≡ true → declares_within pool e (n + 1) ≡ true
+  within_next n b none exact rest =
+      let parts = both ((n == 0) || declares pool e (pos n)) (declares pool e (negsuc n)) (sym exact ∙ none) in
+      let more : suc n ≡ n + 1 = omega arith in
+      subst (λ (i : ℕ). declares_within pool e i ≡ true) more (within_more n parts.0 parts.1 rest)
 
 bit_below : (n : ℕ) → nat_le n 1 ≡ true → n ≤ 1
 bit_below n e = grind (arith, nat_tests)
@@ -79,11 +165,12 @@ module _ (new : Types) where
   number_kept kind.Sint64 (pos n) h e = by_plain kind.Sint64 n h (zero_number64 n e)
   number_kept k z h e = absurd (cc)
 
-  each_int32 : (k : Kind) (z : ℤ) → holds_int32 k ≡ true → holds_number new k z ≡ true
-  each_int32 kind.Int32 z e = refl
-  each_int32 kind.Int64 z e = refl
-  each_int32 (kind.Enum i) z e = refl
-  each_int32 k z e = absurd (cc)
+  each_int32 : (k : Kind) (z : ℤ) → FitsSigned w32 z → holds_int32 new k ≡ true → holds_number new k z ≡ true
+  each_int32 kind.Int32 z h e = refl
+  each_int32 kind.Int64 z h e = refl
+  each_int32 (kind.Enum i) z h e = refl
+  each_int32 (kind.ClosedEnum i) z h e = declared_all new i.0 z h e
+  each_int32 k z h e = absurd (cc)
 
   -- of an enum whose values are all held, a declared number is
   declared_held : (k : Kind) (z : ℤ) (values : List (List ℕ × ℤ)) → holds_values new k values ≡ true → list_any (λ v. int_eq v.1 z) values ≡ true → holds_number new k z ≡ true
@@ -126,7 +213,7 @@ module _ (new : Types) where
   scalars_kept old kind.Int64 b e x h d = absurd (cc)
   scalars_kept old kind.Uint64 kind.Uint64 e x h d = itself kind.Uint64 x h refl
   scalars_kept old kind.Uint64 b e x h d = absurd (cc)
-  scalars_kept old kind.Int32 b e (int32 z) h d = number_kept b z h (each_int32 b z e)
+  scalars_kept old kind.Int32 b e (int32 z) h d = number_kept b z h (each_int32 b z h e)
   scalars_kept old kind.Int32 b e x h d = absurd h
   scalars_kept old kind.Fixed64 kind.Fixed64 e x h d = itself kind.Fixed64 x h refl
   scalars_kept old kind.Fixed64 b e x h d = absurd (cc)
@@ -148,9 +235,30 @@ module _ (new : Types) where
   scalars_kept old kind.Sint32 b e x h d = absurd h
   scalars_kept old kind.Sint64 kind.Sint64 e x h d = itself kind.Sint64 x h refl
   scalars_kept old kind.Sint64 b e x h d = absurd (cc)
-  scalars_kept old (kind.Enum i) b e (enum z) h d = number_kept b z h (each_int32 b z e)
+  scalars_kept old (kind.Enum i) b e (enum z) h d = number_kept b z h (each_int32 b z h e)
   scalars_kept old (kind.Enum i) b e x h d = absurd h
   scalars_kept old (kind.Message m) b e x h d = absurd (cc)
   scalars_kept old (kind.Group m) b e x h d = absurd (cc)
   scalars_kept old (kind.ClosedEnum i) b e (enum z) h d = number_kept b z h (declared_held b z (enum_values old i.0) e d)
   scalars_kept old (kind.ClosedEnum i) b e x h d = absurd h
+
+  -- with implicit presence a default is not written
+  number_other : (z : ℤ) → is_default (int32 z) ≡ false → z ≢ pos 0
+  number_other (pos zero) d q = absurd (cc)
+  number_other (pos (suc n)) d q = absurd (cc)
+  number_other (negsuc n) d q = absurd (cc)
+
+  value_other : (z : ℤ) → is_default (enum z) ≡ false → z ≢ pos 0
+  value_other (pos zero) d q = absurd (cc)
+  value_other (pos (suc n)) d q = absurd (cc)
+  value_other (negsuc n) d q = absurd (cc)
+
+  pub others_kept : (a b : Kind) → keeps_others new a b ≡ true → (x : Scalar) → IsOfKind a x → is_default x ≡ false → KeepsScalar new a b x
+  others_kept kind.Bool (kind.ClosedEnum i) e (boolean true) h d = number_kept (kind.ClosedEnum i) (pos 1) (grind (arith, ints)) e
+  others_kept kind.Bool (kind.ClosedEnum i) e (boolean false) h d = absurd (cc)
+  others_kept kind.Bool (kind.ClosedEnum i) e x h d = absurd h
+  others_kept kind.Int32 (kind.ClosedEnum i) e (int32 z) h d = number_kept (kind.ClosedEnum i) z h (declared_others new i.0 z h (number_other z d) e)
+  others_kept kind.Int32 (kind.ClosedEnum i) e x h d = absurd h
+  others_kept (kind.Enum j) (kind.ClosedEnum i) e (enum z) h d = number_kept (kind.ClosedEnum i) z h (declared_others new i.0 z h (value_other z d) e)
+  others_kept (kind.Enum j) (kind.ClosedEnum i) e x h d = absurd h
+  others_kept a b e x h d = absurd (cc)

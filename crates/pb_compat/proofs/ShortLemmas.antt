@@ -17,7 +17,7 @@ use Rattle.pb_value.specs.WellFormed.{IsDatum}
 use Rattle.pb_value.proofs.CanonLemmas.{IsInRange-written}
 use Rattle.pb_compat.specs.Samples.{octets_in, IsValue}
 
--- a number below 2 ^ 64, at most so many bytes, or an empty group
+-- a number below 2 ^ 64, at most c bytes, or an empty group
 abbrev pub IsBrief : ℕ → Payload → Type 0
 IsBrief c (varint n) = n < 2 ^ 64
 IsBrief c (fixed64 n) = Unit {0}

@@ -25,11 +25,11 @@ use Rattle.pb_compat.specs.Scalars.{meaning}
 use Rattle.pb_compat.specs.Fields.{keeps_shape, is_map, is_list}
 use Rattle.pb_compat.specs.Agrees.{HoldsSame, ValueHasNoUnknown}
 use Rattle.pb_compat.specs.Samples.{IsValue, IsBare, IsUnlike, never, otherwise, apart}
-use Rattle.pb_compat.specs.Witness.{IsWitness, alone, IsContentOf, AreFieldsAt, is_one_by_one, OneIsShown, ShapeIsShown}
+use Rattle.pb_compat.specs.Witness.{alone, IsContentOf, AreFieldsAt, is_one_by_one, OneIsShown, ShapeIsShown}
 use Rattle.pb_compat.proofs.NeverLemmas.{MayHold, implicit_default, never_one, never_list, one_is_no_map, list_is_list, map_is_map}
 use Rattle.pb_compat.proofs.OtherwiseLemmas.{otherwise_one, otherwise_list, uncut_read, witness_apart, witness_otherwise}
 use Rattle.pb_compat.proofs.ShortLemmas.{IsBrief, record_short, value_brief}
-use Rattle.pb_compat.proofs.WitnessLemmas.{CanHold, witness_alone}
+use Rattle.pb_compat.proofs.WitnessLemmas.{CanHold, IsMisread, alone_shows, witness_alone}
 
 -- WHAT A FIELD CAN HOLD
 
@@ -133,7 +133,7 @@ module _ (old : Types) (rules : IsPool old) (m k : ℕ) (f : FieldView) (found :
                 (subst (λ s. length (shortest_records (record_of 1 (written (key_kind s f.kind) x) ∷ record_of 2 (payload_of old f.kind d) ∷ [])) ≤ 42) (sym e) (entry_length old key f.kind x d vx v)) refl;
           }
         where
-          by_datum : (c : Datum) → levels_of c ≤ 1 → entries_depth (entry x c no_entries) ≤ 100
+          by_datum : (c : Datum) → levels_of c ≤ 1 → entries_depth (entry x c no_entries) ≤ 1
           by_datum (scalar y) l = omega arith
           by_datum (message w) l = omega (arith, l)
 
@@ -144,7 +144,7 @@ module _ (old new : Types) (rules_old : IsPool old) (rules_new : IsPool new) (m 
 
   -- A FIELD OF ONE VALUE
 
-  shown_one : (d : Datum) → is_map g.shape ≡ false → IsOfShape f.shape (one d) → IsValue old f.kind d → IsUnlike old new f.kind g.kind d → IsWitness old new m n (alone k (one d))
+  shown_one : (d : Datum) → is_map g.shape ≡ false → IsOfShape f.shape (one d) → IsValue old f.kind d → IsUnlike old new f.kind g.kind d → IsMisread old new m n (alone k (one d))
   shown_one d plain shaped v (never nv) =
       witness_alone old new rules_old rules_new m n k f g at.old_field at.new_field (one d) (can_hold old rules_old m k f at.old_field d (one d) v refl shaped)
       (λ o may same. never_one old new g.shape f.kind g.kind d o nv (implicit_default new n k g rules_new at.new_field) may same)
@@ -157,7 +157,7 @@ module _ (old new : Types) (rules_old : IsPool old) (rules_new : IsPool new) (m 
   shown_one (message b) plain shaped v (otherwise o) = absurd o
 
   shown_list : (d : Datum) → is_packed f.shape ≡ false → is_list g.shape ≡ true → is_map g.shape ≡ false → IsOfShape f.shape (list (datum d no_datums)) → IsValue old f.kind d → IsUnlike old new f.kind g.kind d
-      → IsWitness old new m n (alone k (list (datum d no_datums)))
+      → IsMisread old new m n (alone k (list (datum d no_datums)))
   shown_list d loose listed plain shaped v (never nv) =
       witness_alone old new rules_old rules_new m n k f g at.old_field at.new_field (list (datum d no_datums)) (can_hold old rules_old m k f at.old_field d (list (datum d no_datums)) v refl shaped)
       (λ o may same. never_list old new g.shape f.kind g.kind d no_datums o nv may same)
@@ -204,26 +204,33 @@ list_no_map : (t : Shape) → is_list t ≡ true → is_map t ≡ false
 list_no_map (shape.Map key) e = absurd (cc)
 list_no_map t e = refl
 
-pub one_is_shown : (old new : Types) → IsPool old → IsPool new → OneIsShown old new
-one_is_shown old new rules_old rules_new m n k f g d (one e) at loose keeps made shaped v u =
+pub one_is_misread : (old new : Types) → IsPool old → IsPool new → (m n k : ℕ) (f g : FieldView) (d : Datum) (h : Holding) → AreFieldsAt old new m n k f g → is_one_by_one f.shape ≡ true → keeps_shape old new f.shape g.shape ≡ true
+    → IsContentOf old f.shape d h → IsOfShape f.shape h → IsValue old f.kind d → IsUnlike old new f.kind g.kind d → IsMisread old new m n (alone k h)
+one_is_misread old new rules_old rules_new m n k f g d (one e) at loose keeps made shaped v u =
     shown_one old new rules_old rules_new m n k f g at e (no_map_kept old new f.shape g.shape e shaped keeps) shaped (subst (IsValue old f.kind) (sym made) v) (subst (IsUnlike old new f.kind g.kind) (sym made) u)
-one_is_shown old new rules_old rules_new m n k f g d (list ds) at loose keeps made shaped v u =
+one_is_misread old new rules_old rules_new m n k f g d (list ds) at loose keeps made shaped v u =
     let listed = list_kept old new f.shape g.shape ds shaped keeps in
-    subst (λ (es : Datums). IsWitness old new m n (alone k (list es))) (sym made)
+    subst (λ (es : Datums). IsMisread old new m n (alone k (list es))) (sym made)
     (shown_list old new rules_old rules_new m n k f g at d (one_by_one_open f.shape loose) listed (list_no_map g.shape listed) (subst (λ (es : Datums). IsOfShape f.shape (list es)) made shaped) v u)
-one_is_shown old new rules_old rules_new m n k f g d (map_of es) at loose keeps made shaped v u = by f.shape loose shaped
+one_is_misread old new rules_old rules_new m n k f g d (map_of es) at loose keeps made shaped v u = by f.shape loose shaped
   where
-    by : (s : Shape) → is_one_by_one s ≡ true → IsOfShape s (map_of es) → IsWitness old new m n (alone k (map_of es))
+    by : (s : Shape) → is_one_by_one s ≡ true → IsOfShape s (map_of es) → IsMisread old new m n (alone k (map_of es))
     by shape.Implicit e shaped = absurd shaped
     by shape.Explicit e shaped = absurd shaped
     by (shape.OneofMember o) e shaped = absurd shaped
     by (shape.List p) e shaped = absurd shaped
     by (shape.Map key) e shaped = absurd (cc)
 
+pub one_is_shown : (old new : Types) → IsPool old → IsPool new → OneIsShown old new
+one_is_shown old new rules_old rules_new m n k f g d h at loose keeps made shaped v u =
+    alone_shows old new rules_old rules_new m n k f g at.old_field at.new_field h (can_hold old rules_old m k f at.old_field d h v made shaped)
+    (one_is_misread old new rules_old rules_new m n k f g d h at loose keeps made shaped v u)
+
 -- SHAPES
 
-pub shape_is_shown : (old new : Types) → IsPool old → IsPool new → ShapeIsShown old new
-shape_is_shown old new rules_old rules_new m n k f g d h at loses maps made shaped v =
+pub shape_is_misread : (old new : Types) → IsPool old → IsPool new → (m n k : ℕ) (f g : FieldView) (d : Datum) (h : Holding) → AreFieldsAt old new m n k f g → keeps_shape old new f.shape g.shape ≡ false
+    → (is_map f.shape && is_map g.shape) ≡ false → IsContentOf old f.shape d h → IsOfShape f.shape h → IsValue old f.kind d → IsMisread old new m n (alone k h)
+shape_is_misread old new rules_old rules_new m n k f g d h at loses maps made shaped v =
     witness_alone old new rules_old rules_new m n k f g at.old_field at.new_field h (can_hold old rules_old m k f at.old_field d h v made shaped)
     (λ o may same. by f.shape g.shape h loses maps shaped o may same)
   where
@@ -238,3 +245,8 @@ shape_is_shown old new rules_old rules_new m n k f g d h at loses maps made shap
     by (shape.List p) t (list (datum d ds)) loses maps shaped o may same = list_is_list old new t f.kind g.kind d ds o loses may same
     by (shape.Map key) t (map_of (entry x d es)) loses maps shaped o may same = map_is_map old new t f.kind g.kind x d es o maps may same
     by s t h loses maps shaped o may same = absurd shaped
+
+pub shape_is_shown : (old new : Types) → IsPool old → IsPool new → ShapeIsShown old new
+shape_is_shown old new rules_old rules_new m n k f g d h at loses maps made shaped v =
+    alone_shows old new rules_old rules_new m n k f g at.old_field at.new_field h (can_hold old rules_old m k f at.old_field d h v made shaped)
+    (shape_is_misread old new rules_old rules_new m n k f g d h at loses maps made shaped v)

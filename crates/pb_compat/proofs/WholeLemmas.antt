@@ -1,32 +1,40 @@
 -- What the new type reads of the canonical records of a message of any depth.
-use Rattle.std.proofs.Common.{◌≡◌, ℕ, zero, suc, ◌<◌, ◌≤◌, List, ◌++◌, Bool, true, false, Option, Some, None, sym, ◌∙◌, ap, subst, arith, append-nil}
+use Rattle.std.proofs.Common.{◌≡◌, ℕ, zero, suc, ◌<◌, ◌≤◌, List, [], ◌∷◌, ◌++◌, Bool, true, false, ◌&&◌, ◌||◌, Option, Some, None, refl, sym, ◌∙◌, ap, subst, arith, append-nil}
 use Rattle.std.specs.Prelude.{option_and_then}
 use Rattle.std.specs.List.{AllByRecursion}
-use Rattle.pb_wire.specs.Record.{Record}
+use Rattle.pb_wire.specs.Record.{Record, wire_type}
 use Rattle.pb_schema.specs.declared.types.Kind.{Kind}
+use Rattle.pb_schema.specs.declared.types.Kind.TheVariants as kind
 use Rattle.pb_schema.specs.declared.types.Shape.{Shape}
 use Rattle.pb_schema.specs.declared.types.Shape.TheVariants as shape
 use Rattle.pb_schema.specs.Types.{FieldView, MessageView, Types, message_fields, field_numbered}
-use Rattle.pb_schema.specs.Kinds.{message_of_kind, closed_enum}
-use Rattle.pb_schema.specs.Closed.{known, unknown}
+use Rattle.pb_schema.specs.Kinds.{wire_type_of, message_of_kind, closed_enum, written}
+use Rattle.pb_schema.specs.Closed.{closed_of, is_list_field, known, unknown}
 use Rattle.pb_schema.specs.Rules.{IsPool, MayBePacked, MayBeValue, HasKeyKind}
-use Rattle.pb_value.specs.Data.{no_datums, datum, Holding, one, list, map, Fields, no_fields, field, Message, body, fields_depth, holding_depth, message_depth}
+use Rattle.pb_value.specs.Data.{scalar, message, no_datums, datum, Holding, one, list, map, Fields, no_fields, field, Message, body, fields_depth, holding_depth, message_depth}
 use Rattle.pb_value.specs.Value.{fields_held, value_within, value}
-use Rattle.pb_value.specs.Canon.{canon, canon_fields, canon_holding}
-use Rattle.pb_value.specs.WellFormed.{IsOfShape, IsHeld, holds_declared, AreFields, IsBody}
+use Rattle.pb_value.specs.Canon.{canon, canon_fields, canon_holding, record_of}
+use Rattle.pb_value.specs.Judge.Forms.{is_implicit}
+use Rattle.pb_value.specs.WellFormed.{IsOfShape, IsDatum, IsHeld, holds_declared, AreFields, IsBody}
 use Rattle.pb_value.proofs.FieldBack.{numbered_at}
+use Rattle.pb_value.proofs.HeldBack.{field_with}
+use Rattle.pb_value.proofs.KnownLemmas.{settled-same}
 use Rattle.pb_value.proofs.BodyBack.{can_pack, numbers_differ, canon-good}
 use Rattle.pb_value.proofs.JudgeLemmas.{found_in, fields_all}
 use Rattle.pb_value.proofs.Numbers.{found_number}
 use Rattle.pb_value.proofs.OpenedLemmas.{opened_shape}
 use Rattle.pb_value.proofs.Options.{some_of}
 use Rattle.pb_compat.specs.Oneofs.{is_crowded}
-use Rattle.pb_compat.specs.Fields.{keeps_shape, is_in_crowd}
+use Rattle.pb_compat.specs.Fields.{keeps_kind, keeps_others, keeps_shape, is_in_crowd}
 use Rattle.pb_compat.specs.Pairs.{pair_of, message_at, Reached, begun, further}
 use Rattle.pb_compat.specs.Agrees.{NoneBreaks}
 use Rattle.pb_compat.specs.Agrees.{Agrees, HasNoUnknown, FieldsHaveNoUnknown, HoldsNoUnknown, ReadsMessages}
-use Rattle.pb_compat.proofs.BreaksLemmas.{kept_unbroken}
-use Rattle.pb_compat.proofs.ContentLemmas.{content_read, holding_read, IsCounted, holding_counted, opened_for, holding_settled}
+use Rattle.pb_compat.proofs.BreaksLemmas.{IsKept, kept_unbroken}
+use Rattle.pb_compat.proofs.ContentLemmas.{content_read, holding_read, IsCounted, one_counted, holding_counted, varint_uncut, opened_for, holding_settled}
+use Rattle.pb_compat.proofs.ConvertLemmas.{kept_read}
+use Rattle.pb_compat.proofs.FieldLemmas.{and_both}
+use Rattle.pb_compat.proofs.HoldingLemmas.{single_read}
+use Rattle.pb_compat.proofs.ScalarLemmas.{others_kept}
 use Rattle.pb_compat.proofs.OnlyLemmas.{EachField}
 use Rattle.pb_compat.proofs.MessageLemmas.{opened, FieldRead, IsReadAt, fields_agree, nothing_more, unknown_fields}
 
@@ -38,6 +46,14 @@ key_kinds pool m n f rules e = (found_in (λ (g : FieldView). (t : MessageView) 
 pub may_be_value : (pool : Types) (m n : ℕ) (f : FieldView) → IsPool pool → field_numbered n (message_fields pool m) ≡ Some f → MayBeValue f.shape f.kind
 may_be_value pool m n f rules e =
     (found_in (λ (g : FieldView). (t : MessageView) × MayBeValue g.shape g.kind) n (message_fields pool m) f (fields_all (λ t g. MayBeValue g.shape g.kind) pool pool.messages m rules.fields.shapes.values) e).1
+
+-- KINDS THAT KEEP ALL BUT THE DEFAULT
+
+others_wire : (new : Types) (a b : Kind) → keeps_others new a b ≡ true → wire_type_of b ≡ 0
+others_wire new kind.Bool (kind.ClosedEnum e) q = refl
+others_wire new kind.Int32 (kind.ClosedEnum e) q = refl
+others_wire new (kind.Enum i) (kind.ClosedEnum e) q = refl
+others_wire new a b q = absurd (cc)
 
 -- LISTS AS IF NOT PACKED
 
@@ -89,25 +105,64 @@ module _ (old new : Types) (rules_old : IsPool old) (rules_new : IsPool new) (st
     abbrev gs : List FieldView
     gs = message_fields new n
 
-    field_read : (k : ℕ) (f g : FieldView) (h : Holding) → field_numbered k all ≡ Some f → field_numbered k gs ≡ Some g → IsOfShape f.shape h → IsHeld old f.shape f.kind h → holds_declared old f.kind h ≡ true → HoldsNoUnknown h → holding_depth h ≤ levels
+    -- where the new kind keeps all values but the default
+    others_read : (k : ℕ) (f g : FieldView) (h : Holding) → f.number ≡ k → (is_implicit f.shape && keeps_others new f.kind g.kind) ≡ true → keeps_shape old new f.shape g.shape ≡ true → IsOfShape f.shape h → IsHeld old f.shape f.kind h
         → FieldRead old new gs inner k f g h
-    field_read k f g h found_f found_g shaped w declared none l =
-        let kept = kept_unbroken old new m n k f g (unbroken (m, n) pair) found_f found_g in
+    others_read k f g h number others fit shaped w = by f.shape h (and_both (is_implicit f.shape) (keeps_others new f.kind g.kind) others).0 fit shaped w
+      where
+        keeps : keeps_others new f.kind g.kind ≡ true
+        keeps = (and_both (is_implicit f.shape) (keeps_others new f.kind g.kind) others).1
+
+        by : (s : Shape) (h : Holding) → is_implicit s ≡ true → keeps_shape old new s g.shape ≡ true → IsOfShape s h → IsHeld old s f.kind h → FieldRead old new gs inner k (field_with f.name f.number f.kind s) g h
+        by shape.Implicit (one (scalar x)) i fit shaped w =
+            let r = kept_read old new inner f.kind g.kind x (others_kept new f.kind g.kind keeps x w shaped) in
+            let written_so : wire_type (written f.kind x) ≡ 0 = r.wire ∙ others_wire new f.kind g.kind keeps in
+            record {
+              settles = settled-same gs (record_of f.number (written f.kind x) ∷ [])
+                  (varint_uncut (written f.kind x) (is_list_field (field_numbered f.number gs)) (closed_of (field_numbered f.number gs)) written_so, tt);
+              counted = subst (λ (j : ℕ). AllByRecursion (IsCounted new j g.shape g.kind) (record_of f.number (written f.kind x) ∷ [])) number
+                  (one_counted old new inner f.kind g.kind f.number g.shape (scalar x) fit r, tt);
+              agrees = single_read old new inner f.kind g.kind f.name f.number shape.Implicit g.shape (scalar x) fit r;
+            }
+        by shape.Implicit (one (message v)) i fit shaped w = absurd (others_scalar f.kind keeps w)
+          where
+            others_scalar : (a : Kind) → keeps_others new a g.kind ≡ true → IsDatum old a (message v) → ⊥
+            others_scalar (kind.Message j) e w = absurd (cc)
+            others_scalar (kind.Group j) e w = absurd (cc)
+            others_scalar a e w = w
+        by shape.Implicit h i fit shaped w = absurd shaped
+        by s h i fit shaped w = absurd (cc)
+
+    kept_read_at : (k : ℕ) (f g : FieldView) (h : Holding) → field_numbered k all ≡ Some f → field_numbered k gs ≡ Some g → keeps_kind old new f.kind g.kind ≡ true → keeps_shape old new f.shape g.shape ≡ true
+        → IsOfShape f.shape h → IsHeld old f.shape f.kind h → holds_declared old f.kind h ≡ true → HoldsNoUnknown h → holding_depth h ≤ levels → FieldRead old new gs inner k f g h
+    kept_read_at k f g h found_f found_g keeps fit shaped w declared none l =
         let can = can_pack old m rules_old k f found_f in
-        let content = content_read old new inner Pair levels inside (canon-good old rules_old) f.kind g.kind kept.kind (lead m n k f g pair found_f found_g) f.shape h (may_be_value old m k f rules_old found_f) w declared none l in
+        let content = content_read old new inner Pair levels inside (canon-good old rules_old) f.kind g.kind keeps (lead m n k f g pair found_f found_g) f.shape h (may_be_value old m k f rules_old found_f) w declared none l in
         let number : f.number ≡ k = found_number k all f found_f in
         let there : field_numbered f.number gs ≡ Some g = ap (λ (i : ℕ). field_numbered i gs) number ∙ found_g in
         let can_still : MayBePacked (opened_for g.shape g.kind f.shape) f.kind = opened_carries (λ s. MayBePacked s f.kind) (λ p x. tt) g.shape g.kind f.shape can in
         let key_still : HasKeyKind (opened_for g.shape g.kind f.shape) = opened_carries HasKeyKind (λ p x. tt) g.shape g.kind f.shape (key_kinds old m k f rules_old found_f) in
-        let keeps_still : keeps_shape old new (opened_for g.shape g.kind f.shape) g.shape ≡ true = opened_carries (λ s. keeps_shape old new s g.shape ≡ true) (λ p x. x) g.shape g.kind f.shape kept.shape in
+        let keeps_still : keeps_shape old new (opened_for g.shape g.kind f.shape) g.shape ≡ true = opened_carries (λ s. keeps_shape old new s g.shape ≡ true) (λ p x. x) g.shape g.kind f.shape fit in
         let shaped_still : IsOfShape (opened_for g.shape g.kind f.shape) h = opened_carries (λ s. IsOfShape s h) (shape_carries h) g.shape g.kind f.shape shaped in
         let held_still : IsHeld old (opened_for g.shape g.kind f.shape) f.kind h = opened_carries (λ s. IsHeld old s f.kind h) (held_carries old f.kind h) g.shape g.kind f.shape w in
         record {
-          settles = holding_settled old new inner f.kind g.kind kept.kind f.name g.name f.number g.number gs f.shape g.shape h there can kept.shape shaped w declared content;
+          settles = holding_settled old new inner f.kind g.kind keeps f.name g.name f.number g.number gs f.shape g.shape h there can fit shaped w declared content;
           counted = subst (λ (i : ℕ). AllByRecursion (IsCounted new i g.shape g.kind) (canon_holding old (opened f g) h)) number
-              (holding_counted old new inner f.kind g.kind kept.kind f.name f.number (opened_for g.shape g.kind f.shape) g.shape h can_still keeps_still shaped_still held_still declared content);
-          agrees = holding_read old new inner (canon-good old rules_old) f.kind g.kind kept.kind f.name f.number (opened_for g.shape g.kind f.shape) g.shape h can_still key_still (key_kinds new n k g rules_new found_g) keeps_still shaped_still held_still declared content;
+              (holding_counted old new inner f.kind g.kind keeps f.name f.number (opened_for g.shape g.kind f.shape) g.shape h can_still keeps_still shaped_still held_still declared content);
+          agrees = holding_read old new inner (canon-good old rules_old) f.kind g.kind keeps f.name f.number (opened_for g.shape g.kind f.shape) g.shape h can_still key_still (key_kinds new n k g rules_new found_g) keeps_still shaped_still held_still declared content;
         }
+
+    field_read : (k : ℕ) (f g : FieldView) (h : Holding) → field_numbered k all ≡ Some f → field_numbered k gs ≡ Some g → IsOfShape f.shape h → IsHeld old f.shape f.kind h → holds_declared old f.kind h ≡ true → HoldsNoUnknown h → holding_depth h ≤ levels
+        → FieldRead old new gs inner k f g h
+    field_read k f g h found_f found_g shaped w declared none l = by (keeps_kind old new f.kind g.kind) refl
+      where
+        kept : IsKept old new m n f g
+        kept = kept_unbroken old new m n k f g (unbroken (m, n) pair) found_f found_g
+
+        by : (b : Bool) → keeps_kind old new f.kind g.kind ≡ b → FieldRead old new gs inner k f g h
+        by true e = kept_read_at k f g h found_f found_g e kept.shape shaped w declared none l
+        by false e =
+            others_read k f g h (found_number k all f found_f) (ap (λ (b : Bool). b || (is_implicit f.shape && keeps_others new f.kind g.kind)) (sym e) ∙ kept.kind) kept.shape shaped w
 
     read_fields : (fs : Fields) → AreFields old all fs → FieldsHaveNoUnknown fs → fields_depth fs ≤ levels → EachField (IsReadAt old new all gs inner) fs
     read_fields no_fields w none l = tt

@@ -1,5 +1,5 @@
 -- What a change of a field does to messages of the old type that the new type reads (language guide, "Updating A Message Type").
-use Rattle.std.specs.Prelude.{ℕ, ◌+◌, List, [], ◌∷◌, ◌++◌, Bool, true, false, not, ◌==◌, ◌&&◌, ◌||◌, Option, Some, None, map, if◌then◌else◌}
+use Rattle.std.specs.Prelude.{ℕ, ◌+◌, pos, List, [], ◌∷◌, ◌++◌, Bool, true, false, not, ◌==◌, ◌&&◌, ◌||◌, Option, Some, None, map, if◌then◌else◌}
 use Rattle.std.specs.Option.{option_to_list}
 use Rattle.std.specs.Str.{bytes_eq}
 use Rattle.pb_schema.specs.declared.types.Kind.{Kind}
@@ -8,10 +8,12 @@ use Rattle.pb_schema.specs.declared.types.Shape.{Shape}
 use Rattle.pb_schema.specs.declared.types.Shape.TheVariants as shape
 use Rattle.pb_schema.specs.Types.{FieldView, Types, message_fields, field_numbered}
 use Rattle.pb_schema.specs.Kinds.{is_group}
+use Rattle.pb_schema.specs.Closed.{declares}
+use Rattle.pb_value.specs.Judge.Forms.{is_implicit}
 use Rattle.pb_compat.specs.declared.difference.Severity.{Severity}
 use Rattle.pb_compat.specs.declared.difference.Severity.TheVariants.{BreaksReading, Loses, ChangesPresence, Converts, Renames}
 use Rattle.pb_compat.specs.declared.difference.Difference.{Difference}
-use Rattle.pb_compat.specs.Scalars.{keeps_scalars}
+use Rattle.pb_compat.specs.Scalars.{declares_others, keeps_scalars}
 use Rattle.pb_compat.specs.Oneofs.{is_crowded}
 
 -- KINDS
@@ -24,8 +26,8 @@ abbrev pub is_bytes : Kind → Bool
 is_bytes kind.Bytes = true
 is_bytes _ = false
 
--- Values of the old kind are kept. Whether a message keeps what is in it is asked of its fields; read as bytes it is its encoding. A group
--- stands between tags and a message after its length, so neither is read as the other.
+-- Values of the old kind are kept. Whether a message keeps what is in it is asked of its fields; read as bytes it is its encoding. The
+-- records of a group are between tags and those of a message after their length, so neither is read as the other.
 abbrev pub keeps_kind : Types → Types → Kind → Kind → Bool
 keeps_kind old new (kind.Message _) b = is_message b || is_bytes b
 keeps_kind old new (kind.Group _) b = is_group b
@@ -46,6 +48,18 @@ keeps_kind old new kind.Sint32 b = keeps_scalars old new kind.Sint32 b
 keeps_kind old new kind.Sint64 b = keeps_scalars old new kind.Sint64 b
 keeps_kind old new (kind.Enum e) b = keeps_scalars old new (kind.Enum e) b
 keeps_kind old new (kind.ClosedEnum e) b = keeps_scalars old new (kind.ClosedEnum e) b
+
+-- All values of the old kind but its default are kept: of a bool true, and of an int32 or an open enum each number but 0. Other kinds that keep
+-- these keep the default too.
+abbrev pub keeps_others : Types → Kind → Kind → Bool
+keeps_others new kind.Bool (kind.ClosedEnum e) = declares new e.0 (pos 1)
+keeps_others new kind.Int32 (kind.ClosedEnum e) = declares_others new e.0
+keeps_others new (kind.Enum _) (kind.ClosedEnum e) = declares_others new e.0
+keeps_others new _ _ = false
+
+-- values of the old field are kept; with implicit presence its default is not written
+abbrev pub keeps_values : Types → Types → FieldView → FieldView → Bool
+keeps_values old new f g = keeps_kind old new f.kind g.kind || (is_implicit f.shape && keeps_others new f.kind g.kind)
 
 -- SHAPES
 
@@ -127,7 +141,7 @@ shape_form (shape.Map key) = 4 + kind_form key
 
 -- whether a field is a member of a crowded oneof is `crowded`
 abbrev pub keeps_field : Types → Types → Bool → FieldView → FieldView → Bool
-keeps_field old new crowded f g = keeps_kind old new f.kind g.kind && keeps_shape old new f.shape g.shape && not crowded
+keeps_field old new crowded f g = keeps_values old new f g && keeps_shape old new f.shape g.shape && not crowded
 
 abbrev pub is_same_form : FieldView → FieldView → Bool
 is_same_form f g = (kind_form f.kind == kind_form g.kind) && (shape_form f.shape == shape_form g.shape)

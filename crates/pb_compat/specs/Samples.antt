@@ -1,16 +1,19 @@
 -- The values of messages that show a break.
-use Rattle.std.specs.Prelude.{◌≡◌, ◌≢◌, ◌≤◌, ℕ, pos, negsuc, length, [], ◌∷◌, true, false, None, IsSomeAnd}
+use Rattle.std.specs.Prelude.{◌≡◌, ◌≢◌, ◌≤◌, ◌⊎◌, ℕ, ℤ, pos, negsuc, length, List, [], ◌∷◌, Bool, true, false, Option, Some, None, IsSomeAnd}
+use Rattle.pb_wire.specs.Record.{len}
 use Rattle.pb_schema.specs.declared.types.Kind.{Kind}
 use Rattle.pb_schema.specs.declared.types.Kind.TheVariants as kind
 use Rattle.pb_schema.specs.Types.{Types}
-use Rattle.pb_schema.specs.Scalar.{int32, int64, uint32, uint64, boolean, float, double, enum, text, bytes}
+use Rattle.pb_schema.specs.Scalar.{Scalar, int32, int64, uint32, uint64, boolean, float, double, enum, text, bytes}
 use Rattle.pb_schema.specs.declared.types.Shape.{Shape}
 use Rattle.pb_schema.specs.Fits.{fits_shape}
-use Rattle.pb_schema.specs.Kinds.{wire_type_of, message_of_kind, default_of, read, written}
+use Rattle.pb_schema.specs.Kinds.{wire_type_of, is_packable, is_of_proto2, message_of_kind, closed_enum, default_of, read, written}
+use Rattle.pb_schema.specs.Packed.{elements, element_bytes}
 use Rattle.pb_value.specs.Data.{Datum, scalar, message, empty}
+use Rattle.pb_value.specs.Judge.Forms.{is_default_datum}
 use Rattle.pb_value.specs.WellFormed.{IsDatum, datum_declared}
 use Rattle.pb_compat.specs.Scalars.{meaning}
-use Rattle.pb_compat.specs.Fields.{is_map}
+use Rattle.pb_compat.specs.Fields.{is_map, keeps_others}
 use Rattle.pb_compat.specs.Agrees.{IsSameValue}
 
 -- a value of a kind that is no default: 1, true, the string `a`, the byte 255, a message without fields; a closed enum need not declare it
@@ -112,3 +115,44 @@ pub data IsUnlikeEntry (old new : Types) (a b : Kind) (d : Datum) : Type 0 where
   never_entry : IsNeverSame old new a b d → IsUnlikeEntry old new a b d
   otherwise_entry : IsReadOtherwise a b d → IsUnlikeEntry old new a b d
   missing_entry : wire_type_of a ≢ wire_type_of b → IsNoDefault b d → IsUnlikeEntry old new a b d
+
+-- what the new kind reads of a packed list of the scalar alone is not one value that means the same
+abbrev pub IsReadOtherwisePacked : Kind → Kind → Datum → Type 0
+IsReadOtherwisePacked a b (scalar x) = (y : Scalar) → elements b (len (element_bytes a x)) ≡ y ∷ [] → meaning y ≢ meaning x
+IsReadOtherwisePacked a b (message v) = ⊥
+
+-- the same of the one element of a packed list
+pub data IsUnlikeElement (old new : Types) (a b : Kind) (d : Datum) : Type 0 where
+  never_element : IsNeverSame old new a b d → IsUnlikeElement old new a b d
+  otherwise_element : IsReadOtherwisePacked a b d → IsUnlikeElement old new a b d
+
+-- VALUES THAT ARE BUILT
+
+-- the number of the first value of an enum
+abbrev pub first_number : List (List ℕ × ℤ) → Option ℤ
+first_number [] = None
+first_number (v ∷ vs) = Some v.1
+
+-- the scalar may be the key of a map
+abbrev pub is_key_value : Datum → Bool
+is_key_value (scalar (int32 z)) = true
+is_key_value (scalar (int64 z)) = true
+is_key_value (scalar (uint32 n)) = true
+is_key_value (scalar (uint64 n)) = true
+is_key_value (scalar (boolean b)) = true
+is_key_value (scalar (text s)) = true
+is_key_value (scalar (float n)) = false
+is_key_value (scalar (double n)) = false
+is_key_value (scalar (enum z)) = false
+is_key_value (scalar (bytes s)) = false
+is_key_value (message v) = false
+
+-- A value of the old kind that is unlike what the new kind reads of it, alone, in a list, and in a map, of which no value is a group or of a
+-- closed enum. It is no default, unless that is the one value that is not kept. Of packed lists of a closed enum this is said where the wire
+-- type stays.
+pub record IsLostValue (old new : Types) (a b : Kind) (d : Datum) : Type 0 where
+  pub value : IsValue old a d
+  pub unlike : IsUnlike old new a b d
+  pub other : closed_enum a ≡ None → keeps_others new a b ≡ false → is_default_datum d ≡ false
+  pub in_entry : is_of_proto2 a ≡ false → is_of_proto2 b ≡ false → IsUnlikeEntry old new a b d
+  pub in_packed : is_packable a ≡ true → (closed_enum a ≡ None) ⊎ (wire_type_of a ≡ wire_type_of b) → IsUnlikeElement old new a b d

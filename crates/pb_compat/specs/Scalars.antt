@@ -1,6 +1,6 @@
 -- Which scalars a field keeps if its kind changes: what the new kind reads of what the old kind wrote means the same (language guide, "Updating A
 -- Message Type"; encoding guide, "More Integer Types").
-use Rattle.std.specs.Prelude.{◌≡◌, ℕ, ℤ, pos, List, Bool, true, false, cond, ◌==◌, ◌&&◌, nat_le, IsTrue, IsSomeAnd, None}
+use Rattle.std.specs.Prelude.{◌≡◌, ℕ, zero, suc, ℤ, pos, negsuc, ◌^◌, List, Bool, true, false, cond, ◌==◌, ◌&&◌, ◌||◌, nat_le, IsTrue, IsSomeAnd, None}
 use Rattle.std.specs.List.{list_all}
 use Rattle.pb_schema.specs.declared.types.Kind.{Kind}
 use Rattle.pb_schema.specs.declared.types.Kind.TheVariants as kind
@@ -59,12 +59,22 @@ holds_number new _ z = false
 abbrev pub holds_values : Types → Kind → List (List ℕ × ℤ) → Bool
 holds_values new k values = list_all (λ v. holds_number new k v.1) values
 
+-- an enum declares each number from -n to n - 1 but 0
+unfoldable pub declares_within : Types → ℕ → ℕ → Bool
+declares_within pool e zero = true
+declares_within pool e (suc n) = ((n == 0) || declares pool e (pos n)) && declares pool e (negsuc n) && declares_within pool e n
+
+-- each int32 but 0
+unfoldable pub declares_others : Types → ℕ → Bool
+declares_others pool e = declares_within pool e (2 ^ 31)
+
 -- each int32
-abbrev pub holds_int32 : Kind → Bool
-holds_int32 kind.Int32 = true
-holds_int32 kind.Int64 = true
-holds_int32 (kind.Enum _) = true
-holds_int32 _ = false
+abbrev pub holds_int32 : Types → Kind → Bool
+holds_int32 new kind.Int32 = true
+holds_int32 new kind.Int64 = true
+holds_int32 new (kind.Enum _) = true
+holds_int32 new (kind.ClosedEnum e) = declares new e.0 (pos 0) && declares_others new e.0
+holds_int32 new _ = false
 
 abbrev pub holds_int64 : Kind → Bool
 holds_int64 kind.Int64 = true
@@ -122,13 +132,13 @@ abbrev pub holds_bytes : Kind → Bool
 holds_bytes kind.Bytes = true
 holds_bytes _ = false
 
--- each value of the old kind is kept; a bool or a closed enum has few values, and each is looked at
+-- each value of the old kind is kept
 abbrev pub keeps_scalars : Types → Types → Kind → Kind → Bool
 keeps_scalars old new kind.Double b = holds_double b
 keeps_scalars old new kind.Float b = holds_float b
 keeps_scalars old new kind.Int64 b = holds_int64 b
 keeps_scalars old new kind.Uint64 b = holds_uint64 b
-keeps_scalars old new kind.Int32 b = holds_int32 b
+keeps_scalars old new kind.Int32 b = holds_int32 new b
 keeps_scalars old new kind.Fixed64 b = holds_fixed64 b
 keeps_scalars old new kind.Fixed32 b = holds_fixed32 b
 keeps_scalars old new kind.Bool b = holds_number new b (pos 0) && holds_number new b (pos 1)
@@ -139,7 +149,7 @@ keeps_scalars old new kind.Sfixed32 b = holds_sfixed32 b
 keeps_scalars old new kind.Sfixed64 b = holds_sfixed64 b
 keeps_scalars old new kind.Sint32 b = holds_sint32 b
 keeps_scalars old new kind.Sint64 b = holds_sint64 b
-keeps_scalars old new (kind.Enum _) b = holds_int32 b
+keeps_scalars old new (kind.Enum _) b = holds_int32 new b
 keeps_scalars old new (kind.Message _) b = false
 keeps_scalars old new (kind.Group _) b = false
 keeps_scalars old new (kind.ClosedEnum e) b = holds_values new b (enum_values old e.0)

@@ -4,7 +4,6 @@ ghost use Rattle.std.specs.Prelude.{◌≡◌, ◌<◌, ◌++◌, length, map, I
 ghost use Rattle.pb_schema.specs.View.{field_view};
 ghost use Rattle.pb_compat.specs.Oneofs.{HasCrowds};
 ghost use Rattle.std.specs.Option.{option_to_list};
-ghost use Rattle.pb_schema.specs.Rules.{NamesType, HasKeyKind};
 ghost use Rattle.pb_compat.specs.Fields.{change_of_field, renaming_of, differences_of, differences_at};
 ghost use Rattle.pb_compat.specs.Pairs.{AreRising, AreDifferences};
 ghost use Rattle.pb_schema.specs.Types.{message_fields};
@@ -37,8 +36,6 @@ fn add_changes(
     from: &Field,
     to: &Field,
 ) -> Result<(), AllocError>
-    requires kind { NamesType (length old.now.messages) (length old.now.enums) from.now.kind }
-    requires key { HasKeyKind from.now.shape }
     ensures { OnOk result (differences.new.items ≡ differences.old.items ++ differences_of number
         (option_to_list (change_of_field old.now new.now crowded (field_view from.now) (field_view to.now))
         ++ renaming_of (field_view from.now) (field_view to.now))) }

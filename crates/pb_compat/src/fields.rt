@@ -1,20 +1,18 @@
 //! What the change of a field does.
 
-ghost use Rattle.std.specs.Prelude.{◌≡◌, ◌≤◌, length, not};
+ghost use Rattle.std.specs.Prelude.{◌≡◌, ◌≤◌, not};
 ghost use Rattle.std.specs.Str.{bytes_eq};
-ghost use Rattle.pb_schema.specs.Rules.{NamesType, HasKeyKind};
 ghost use Rattle.pb_schema.specs.View.{field_view};
-ghost use Rattle.pb_compat.specs.Fields.{keeps_kind as keeps_value, keeps_shape as keeps_form};
+ghost use Rattle.pb_compat.specs.Fields.{keeps_kind as keeps_value, keeps_others as keeps_rest, keeps_values as keeps_all, keeps_shape as keeps_form};
 ghost use Rattle.pb_compat.specs.Fields.{presence as presence_of, changes_presence as presence_changes, kind_form as form_of_kind, shape_form as form_of_shape};
 ghost use Rattle.pb_compat.specs.Fields.{keeps_field as keeps, is_same_form as same_form, change_of_field};
 
 use crate::difference::Severity;
-use crate::scalars::keeps_scalars;
+use crate::scalars::{keeps_scalars, undeclared};
 use pb_schema::{Field, Kind, Pool, Shape};
 
 /// Whether values of one kind are kept by another. What is in a message is not looked at.
 pub(crate) fn keeps_kind(old: &Pool, new: &Pool, from: Kind, to: Kind) -> bool
-    requires { NamesType (length old.now.messages) (length old.now.enums) from }
     ensures { result ≡ keeps_value old.now new.now from to }
 {
     match from {
@@ -40,9 +38,27 @@ pub(crate) fn keeps_kind(old: &Pool, new: &Pool, from: Kind, to: Kind) -> bool
     }
 }
 
+/// Whether all values of one kind but its default are kept by another, of kinds that do not keep each other's values.
+fn keeps_others(new: &Pool, from: Kind, to: Kind) -> bool
+    ensures { result ≡ keeps_rest new.now from to }
+{
+    match (from, to) {
+        (Kind::Bool, Kind::ClosedEnum(entry)) => new.declares(entry, 1),
+        (Kind::Int32 | Kind::Enum(_), Kind::ClosedEnum(entry)) => undeclared(new, entry).is_none(),
+        _ => false,
+    }
+}
+
+/// Whether the values of a field are kept by the kind of another. With implicit presence a default is not written.
+pub(crate) fn keeps_values(old: &Pool, new: &Pool, from: &Field, to: &Field) -> bool
+    ensures { result ≡ keeps_all old.now new.now (field_view from.now) (field_view to.now) }
+{
+    keeps_kind(old, new, from.kind, to.kind)
+        || matches!(from.shape, Shape::Implicit) && keeps_others(new, from.kind, to.kind)
+}
+
 /// Whether values in one shape are kept in another.
 pub(crate) fn keeps_shape(old: &Pool, new: &Pool, from: Shape, to: Shape) -> bool
-    requires { HasKeyKind from }
     ensures { result ≡ keeps_form old.now new.now from to }
 {
     match from {
@@ -126,13 +142,9 @@ fn is_same_form(from: &Field, to: &Field) -> bool
 
 /// Whether a field keeps the values of an old one. It may be a member of a crowded oneof.
 fn keeps_field(old: &Pool, new: &Pool, crowded: bool, from: &Field, to: &Field) -> bool
-    requires kind { NamesType (length old.now.messages) (length old.now.enums) from.now.kind }
-    requires key { HasKeyKind from.now.shape }
     ensures { result ≡ keeps old.now new.now crowded (field_view from.now) (field_view to.now) }
 {
-    keeps_kind(old, new, from.kind, to.kind)
-        && keeps_shape(old, new, from.shape, to.shape)
-        && !crowded
+    keeps_values(old, new, from, to) && keeps_shape(old, new, from.shape, to.shape) && !crowded
 }
 
 /// What the change of a field does, but for its name.
@@ -143,8 +155,6 @@ pub(crate) fn change_of(
     from: &Field,
     to: &Field,
 ) -> Option<Severity>
-    requires kind { NamesType (length old.now.messages) (length old.now.enums) from.now.kind }
-    requires key { HasKeyKind from.now.shape }
     ensures { result ≡ change_of_field old.now new.now crowded (field_view from.now) (field_view to.now) }
 {
     if !keeps_field(old, new, crowded, from, to) {

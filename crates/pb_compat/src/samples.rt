@@ -1,17 +1,18 @@
 //! Values for messages that show a break.
 
-ghost use Rattle.std.specs.Prelude.{◌≡◌, ◌==◌, true, false, cond, pos, IfOk, IfSome, FitsSigned};
-ghost use Rattle.std.specs.Int.{w32};
+ghost use Rattle.std.specs.Prelude.{◌≡◌, ◌≢◌, ◌==◌, ◌<◌, ◌&&◌, true, false, pos, length, Some, None, is_some, IfOk, IfSome};
 ghost use Rattle.pb_schema.specs.Closed.{declares as declares_in};
-ghost use Rattle.pb_schema.specs.Kinds.{wire_type_of};
+ghost use Rattle.pb_schema.specs.EnumValues.{enum_values};
+ghost use Rattle.pb_schema.specs.Kinds.{wire_type_of, closed_enum};
+ghost use Rattle.pb_schema.specs.Rules.{NamesType};
 ghost use Rattle.pb_value.specs.Data.{scalar};
 ghost use Rattle.pb_value.specs.Judge.Forms.{is_default_datum};
 ghost use Rattle.pb_value.specs.View.{key_view, value_view};
 ghost use Rattle.pb_compat.specs.Fields.{keeps_kind as keeps_value};
-ghost use Rattle.pb_compat.specs.Samples.{sample as sample_of, edge as edge_of, IsValue, IsUnlike};
-ghost use Rattle.pb_compat.specs.Scalars.{holds_number as holds};
+ghost use Rattle.pb_compat.specs.Samples.{sample as sample_of, edge as edge_of, first_number as first_of, is_key_value, IsValue, IsLostValue};
+ghost use Rattle.pb_compat.specs.Scalars.{declares_others, holds_number as holds, holds_values};
 
-use crate::scalars::holds_number;
+use crate::scalars::{holds_number, undeclared, values_of};
 use pb_schema::{EnumId, Kind, Pool};
 use pb_value::parts::empty_body;
 use pb_value::{MapKey, Value};
@@ -60,70 +61,42 @@ fn edge(alloc: Global, kind: Kind) -> Result<Value, AllocError>
 }
 
 /// The number of the first value of an enum.
-fn first_number(pool: &Pool, entry: EnumId) -> Option<i32>
-    ensures declared { IfSome result (λ z. declares_in pool.now entry.0 z ≡ true) }
-    ensures range { IfSome result (FitsSigned w32) }
+fn first_number(pool: &Pool, entry: EnumId) -> i32
+    requires { entry.0 < length pool.now.enums }
+    ensures { first_of (enum_values pool.now entry.0) ≡ Some result }
 {
-    for value in &pool.enums().get(entry.0)?.values {
-        let number = value.1;
-        if pool.declares(entry, number) {
-            return Some(number);
-        }
+    match values_of(pool, entry).first() {
+        Some(value) => value.1,
+        None => 0, // an enum has a value
     }
-    None
 }
 
-/// A value that a field of a kind can hold, and no default where the kind is not a closed enum.
-pub(crate) fn any_value(alloc: Global, pool: &Pool, kind: Kind) -> Result<Option<Value>, AllocError>
-    ensures { IfOk result (λ o. IfSome o (λ v. IsValue pool.now kind (value_view v))) }
+/// A value that a field of a kind can hold, and no default where the kind is no closed enum.
+pub(crate) fn any_value(alloc: Global, pool: &Pool, kind: Kind) -> Result<Value, AllocError>
+    requires { NamesType (length pool.now.messages) (length pool.now.enums) kind }
+    ensures value { IfOk result (λ v. IsValue pool.now kind (value_view v)) }
+    ensures other { closed_enum kind ≡ None → IfOk result (λ v. is_default_datum (value_view v) ≡ false) }
 {
     match kind {
-        Kind::ClosedEnum(entry) => Ok(match first_number(pool, entry) {
-            Some(number) => Some(Value::Enum(number)),
-            None => None,
-        }),
-        _ => Ok(Some(sample(alloc, kind)?)),
+        Kind::ClosedEnum(entry) => Ok(Value::Enum(first_number(pool, entry))),
+        _ => sample(alloc, kind),
     }
-}
-
-/// A positive number that an enum does not declare.
-fn undeclared(pool: &Pool, entry: EnumId) -> Option<i32>
-    ensures { IfSome result (λ z. declares_in pool.now entry.0 z ≡ false) }
-{
-    for number in 1..i32::MAX {
-        if !pool.declares(entry, number) {
-            return Some(number);
-        }
-    }
-    None
 }
 
 /// A number of an enum that a kind does not read as this number.
-fn number_not_held(pool: &Pool, entry: EnumId, new: &Pool, kind: Kind) -> Option<i32>
-    ensures declared { IfSome result (λ z. declares_in pool.now entry.0 z ≡ true) }
-    ensures other { IfSome result (λ z. holds new.now kind z ≡ false) }
-    ensures range { IfSome result (FitsSigned w32) }
+fn number_not_held(pool: &Pool, entry: EnumId, new: &Pool, kind: Kind) -> i32
+    requires { holds_values new.now kind (enum_values pool.now entry.0) ≡ false }
+    ensures declared { declares_in pool.now entry.0 result ≡ true }
+    ensures other { holds new.now kind result ≡ false }
 {
-    for value in &pool.enums().get(entry.0)?.values {
+    let values = values_of(pool, entry);
+    for value in values {
         let number = value.1;
-        if pool.declares(entry, number) && !holds_number(new, kind, number) {
-            return Some(number);
+        if !holds_number(new, kind, number) {
+            return number;
         }
     }
-    None
-}
-
-/// True or false, of which an enum does not declare the number.
-fn undeclared_bool(pool: &Pool, entry: EnumId) -> Option<bool>
-    ensures { IfSome result (λ b. declares_in pool.now entry.0 (pos (cond b 1 0)) ≡ false) }
-{
-    if !pool.declares(entry, 1) {
-        Some(true)
-    } else if !pool.declares(entry, 0) {
-        Some(false)
-    } else {
-        None
-    }
+    0 // one of them is not held
 }
 
 /// A value of the old kind that the new kind, which does not keep the old one, reads otherwise or not at all.
@@ -133,30 +106,26 @@ pub(crate) fn lost_value(
     new: &Pool,
     from: Kind,
     to: Kind,
-) -> Result<Option<Value>, AllocError>
+) -> Result<Value, AllocError>
     requires { keeps_value old.now new.now from to ≡ false }
-    ensures value { IfOk result (λ o. IfSome o (λ v. IsValue old.now from (value_view v))) }
-    ensures unlike { IfOk result (λ o. IfSome o (λ v. IsUnlike old.now new.now from to (value_view v))) }
+    ensures { IfOk result (λ v. IsLostValue old.now new.now from to (value_view v)) }
 {
     match (from, to) {
-        (Kind::ClosedEnum(entry), _) => Ok(match number_not_held(old, entry, new, to) {
-            Some(number) => Some(Value::Enum(number)),
-            None => None,
-        }),
-        (Kind::Int32, Kind::ClosedEnum(entry)) => Ok(match undeclared(new, entry) {
-            Some(number) => Some(Value::I32(number)),
-            None => None,
-        }),
-        (Kind::Enum(_), Kind::ClosedEnum(entry)) => Ok(match undeclared(new, entry) {
-            Some(number) => Some(Value::Enum(number)),
-            None => None,
-        }),
-        (Kind::Bool, Kind::ClosedEnum(entry)) => Ok(match undeclared_bool(new, entry) {
-            Some(value) => Some(Value::Bool(value)),
-            None => None,
-        }),
-        _ => Ok(Some(open_value(alloc, from, to)?)),
+        (Kind::ClosedEnum(entry), _) => Ok(Value::Enum(number_not_held(old, entry, new, to))),
+        (Kind::Int32, Kind::ClosedEnum(entry)) => Ok(Value::I32(number_lost(new, entry))),
+        (Kind::Enum(_), Kind::ClosedEnum(entry)) => Ok(Value::Enum(number_lost(new, entry))),
+        (Kind::Bool, Kind::ClosedEnum(entry)) => Ok(Value::Bool(!new.declares(entry, 1))),
+        _ => open_value(alloc, from, to),
     }
+}
+
+/// A number that an enum does not declare, and 0 only if that is the only one.
+fn number_lost(pool: &Pool, entry: EnumId) -> i32
+    requires { (declares_in pool.now entry.0 (pos 0) && declares_others pool.now entry.0) ≡ false }
+    ensures undeclared { declares_in pool.now entry.0 result ≡ false }
+    ensures other { declares_others pool.now entry.0 ≡ false → result ≢ pos 0 }
+{
+    undeclared(pool, entry).unwrap_or(0)
 }
 
 /// A value of the old kind that the new kind, which does not keep the old one, reads otherwise or not at all, of other pairs than the above.
@@ -173,7 +142,8 @@ fn open_value(alloc: Global, from: Kind, to: Kind) -> Result<Value, AllocError>
 
 /// A value as the key of a map.
 pub(crate) fn key_of(value: Value) -> Option<MapKey>
-    ensures { IfSome result (λ k. value_view value ≡ scalar (key_view k)) }
+    ensures key { IfSome result (λ k. value_view value ≡ scalar (key_view k)) }
+    ensures some { is_some result ≡ is_key_value (value_view value) }
 {
     match value {
         Value::I32(number) => Some(MapKey::I32(number)),
@@ -183,21 +153,5 @@ pub(crate) fn key_of(value: Value) -> Option<MapKey>
         Value::Bool(value) => Some(MapKey::Bool(value)),
         Value::Text(string) => Some(MapKey::Text(string)),
         _ => None,
-    }
-}
-
-/// Whether a value is the default of its kind. A message is none.
-pub(crate) fn is_default(value: &Value) -> bool
-    ensures { result ≡ is_default_datum (value_view value.now) }
-{
-    match value {
-        Value::I32(number) | Value::Enum(number) => *number == 0,
-        Value::I64(number) => *number == 0,
-        Value::U32(number) | Value::F32(number) => *number == 0,
-        Value::U64(number) | Value::F64(number) => *number == 0,
-        Value::Bool(value) => !*value,
-        Value::Text(string) => string.is_empty(),
-        Value::Bytes(bytes) => bytes.is_empty(),
-        Value::Message(_) => false,
     }
 }

@@ -120,6 +120,16 @@ const CASES: &[Case] = &[
     ("a 1 closed e", "a 1 sint32 e", "0", "0", "1 Converts"),
     ("a 1 bool e", "a 1 closed e", "0", "1,2", "1 BreaksReading"),
     ("a 1 bool e", "a 1 closed e", "0", "0,1", "1 Converts"),
+    // with implicit presence false is not written
+    (
+        "a 1 bool i",
+        "a 1 closed e",
+        "0",
+        "1,2",
+        "1 ChangesPresence",
+    ),
+    ("a 1 bool i", "a 1 closed u", "0", "1", "1 Converts"),
+    ("a 1 bool i", "a 1 closed e", "0", "0,2", "1 BreaksReading"),
     // open enums have all numbers of 32 bits
     ("a 1 enum i", "a 1 enum i", "0,1", "0", ""),
     // keys of maps

@@ -46,6 +46,7 @@ const WITNESSES: &[Witness] = &[
     ("a 1 closed u", "a 1 closed p", "1,2", "1", "08010802"),
     ("a 1 enum e", "a 1 closed e", "0", "0,1", "0802"),
     ("a 1 bool e", "a 1 closed e", "0", "1,2", "0800"),
+    ("a 1 bool i", "a 1 closed e", "0", "0,2", "0801"),
     ("a 1 int32 e", "a 1 closed e", "0", "0,1", "0802"),
     // a number that the new kind does not hold
     ("a 1 closed e", "a 1 bool e", "0,2", "0", "0802"),
@@ -57,6 +58,21 @@ const WITNESSES: &[Witness] = &[
         "08feffffffffffffffff01",
     ),
     ("a 1 closed e", "a 1 sint32 e", "0,2", "0", "0802"),
+    // a packed list whose bytes are no whole elements of the new kind
+    (
+        "a 1 closed p",
+        "a 1 sfixed64 p",
+        "-1",
+        "0",
+        "0a0affffffffffffffffff01",
+    ),
+    (
+        "a 1 closed p",
+        "a 1 fixed32 p",
+        "2097152",
+        "0",
+        "0a0480808001",
+    ),
     // a key is cut, a map is no list, and a list no map
     (
         "a 1 string mint64",

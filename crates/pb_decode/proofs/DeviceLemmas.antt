@@ -111,10 +111,6 @@ if_fault_refused error.Memory P Q h bad = tt
 if_fault_refused error.Device P Q h bad = absurd bad
 if_fault_refused error.Finished P Q h bad = bad
 
-pub refused_weaker : {A : Type 0} (r : Result A DecodeError) (P Q : Fault → Type 0) → ((f : Fault) → P f → Q f) → IfErr r (λ e. IfRefused e P) → IfErr r (λ e. IfRefused e Q)
-refused_weaker (Ok a) P Q h bad = tt
-refused_weaker (Err e) P Q h bad = if_refused_weaker e P Q h bad
-
 pub err_refused : {A : Type 0} (r : Result A DecodeError) (P Q : Fault → Type 0) → ((f : Fault) → P f → Q f) → IfErr r (λ e. IfFault e P) → IfErr r (λ e. IfRefused e Q)
 err_refused (Ok a) P Q h bad = tt
 err_refused (Err e) P Q h bad = if_fault_refused e P Q h bad

@@ -32,9 +32,6 @@ next_given p here more l = both_given p (take here l) (take ((here + more) - her
 pub last_given : (p : Place) (here : ℕ) (l : List ℕ) → longer (longer p (take here l)) (take (length l - here) (drop here l)) ≡ longer p l
 last_given p here l = both_given p (take here l) (take (length l - here) (drop here l)) l (slice_last here l)
 
-pub none_given : (p : Place) → p ≡ longer p []
-none_given p = ap (λ (z : List ℕ). record p { rest = z }) (sym (append-nil p.rest))
-
 pub all_given : (p : Place) (here : ℕ) (l : List ℕ) → here ≡ length l → longer p (take here l) ≡ longer p l
 all_given p here l is = ap (λ (z : List ℕ). record p { rest = p.rest ++ z }) (take_all here l (omega (arith, is)))
 

@@ -11,6 +11,7 @@ use Rattle.pb_value.specs.Data.{Message}
 use Rattle.pb_parts.specs.declared.open.part.Slot.{Slot}
 use Rattle.pb_parts.specs.declared.open.part.Slot.TheVariants as slot
 use Rattle.pb_parts.specs.declared.open.purpose.Purpose.TheVariants as purpose
+use Rattle.pb_parts.specs.declared.tokens.record_tag.RecordTag.{RecordTag}
 use Rattle.pb_parts.specs.declared.tokens.step.Step.{Step}
 use Rattle.pb_parts.specs.declared.tokens.step.Step.TheVariants as step
 use Rattle.pb_parts.specs.Open.Frames.{Part, message_part, entry_part, frame_of, CanHold, up_to, Stands}
@@ -18,7 +19,9 @@ use Rattle.pb_parts.specs.Open.Openings.{taken_message, without_message, room_in
 use Rattle.pb_parts.specs.Open.Purposes.{Means, part_context}
 use Rattle.pb_parts.specs.Tokens.After.{IsRoomFor, After}
 use Rattle.pb_whole.specs.Reads.{IsOpen}
-use Rattle.pb_decode.specs.Reader.{State, left_of, here, Reads, StandsAt, IsReading}
+use Rattle.pb_decode.specs.declared.reader.state.Reader.{Reader}
+use Rattle.pb_decode.specs.Reader.{State, state_view, left_of, here, Reads, StandsAt, IsReading}
+use Rattle.pb_decode.specs.Reader.Steps.{IsAtTag}
 use Rattle.pb_parts.proofs.AfterLemmas.{after_record}
 use Rattle.pb_parts.proofs.PlaceLemmas.{slice_from}
 use Rattle.pb_parts.proofs.WellLemmas.{can_hold}
@@ -36,6 +39,18 @@ tag_can s rest ok begun tag = can_hold ok s.now (tag_stands s rest begun tag)
 
 pub tag_few : {pool : Types} {m depth levels : ℕ} {base : List Record} {p0 : Place} (s : State) (rest : List ℕ) (k : ℕ) → Reads pool m depth levels base p0 s rest → s.next ≡ step.Tag → s.scope.counts k ≤ s.at
 tag_few s rest k begun tag = counts_fit k (tag_stands s rest begun tag)
+
+-- A TAG begins the bytes
+pub at_tag :
+    {pool : Types} (reader : Reader) (rest : List ℕ) (tag : RecordTag) (left : Option ℕ) → IsPool pool → IsReading pool (state_view reader) rest → reader.step ≡ step.Tag → left ≡ left_of (state_view reader) → tag.size ≤ length rest
+    → ((at : ℕ) → HasTag (given_at at left rest) tag.number tag.wire_type (passed (given_at at left rest) tag.size)) → IsAtTag pool reader rest tag
+at_tag reader rest tag left ok reading is left_is within told = record {
+  rules = ok;
+  reading = reading;
+  step = is;
+  within = within;
+  there = subst (λ (z : Option ℕ). HasTag (given_at reader.at z rest) tag.number tag.wire_type (passed (given_at reader.at z rest) tag.size)) left_is (told reader.at);
+}
 
 -- A LENGTH after a tag
 pub length_here :

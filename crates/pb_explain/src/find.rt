@@ -39,12 +39,6 @@ pub(crate) fn find_record(bytes: &[u8], start: usize, step: PathStep) -> Option<
     None
 }
 
-/// The payload of the record that a step leads to, of one with a length. None where the bytes have no such record whole.
-pub fn payload_of(bytes: &[u8], step: PathStep) -> Option<&[u8]> {
-    let found = find_record(bytes, 0, step)?;
-    bytes.get(found.payload..found.end?)
-}
-
 const LENGTH: u64 = 2;
 
 const START_GROUP: u64 = 3;

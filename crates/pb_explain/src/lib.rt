@@ -6,12 +6,10 @@
 mod expected;
 mod fault;
 mod find;
-mod kinds;
 mod parts;
 mod source;
 mod window;
 
 pub use fault::{Refused, put_fault};
-pub use find::payload_of;
 pub use parts::{Given, Parent};
 pub use source::{Line, line_at, put_source_line};

@@ -8,7 +8,7 @@ ghost use Rattle.pb_explain.specs.Steps.{AreStepLines, entry_label, field_label,
 ghost use Rattle.pb_explain.specs.Steps.{bounds_text, label_of, parent_inside, span_of, span_text, start_text, step_line, type_label};
 
 use crate::find::{Found, find_record};
-use crate::kinds::put_kind;
+use pb_listing::put_kind;
 use pb_output::Sink;
 use pb_schema::{Field, Kind, MessageId, Pool, Shape};
 use pb_wire::{Output, PathStep};

@@ -8,5 +8,7 @@ pub mod RefusalLemmas
 -- ---- files
 -- for files after something was opened
 pub mod KnownLemmas
+-- for bytes that are judged while they are read
+pub mod FirstPieces
 -- for a set that makes no pool
 pub mod SetFileSteps

@@ -4,7 +4,7 @@ use Rattle.pb_files.specs.Answer.{Answer, refused, device_failed}
 use Rattle.pb_files.specs.Refusal.{ByRefusal, Refuses}
 use Rattle.pb_files.specs.declared.report.Refusal.{Refusal}
 use Rattle.pb_files.specs.declared.report.Refusal.TheVariants.{Fault, Set, SetFile, Link, UnknownType, TooLarge, Frame, Frames, Source, Json, Device, File, Memory}
-use Rattle.pb_files.specs.declared.report.Refusal.TheVariants.{Breaks, JsonText}
+use Rattle.pb_files.specs.declared.report.Refusal.TheVariants.{Breaks, FrameJson, JsonText}
 
 pub by_refusal_map :
     (I J : List ℕ → Type 0) (F G : List ℕ → Type 0) (M N : Type 0) (e : Refusal) → ((line : List ℕ) → I line → J line) → ((path : List ℕ) → F path → G path)
@@ -16,6 +16,7 @@ by_refusal_map I J F G M N (Link file full_name cause) i f m h = i _ h
 by_refusal_map I J F G M N (UnknownType name) i f m h = i _ h
 by_refusal_map I J F G M N TooLarge i f m h = i _ h
 by_refusal_map I J F G M N (Frame index byte path cause) i f m h = i _ h
+by_refusal_map I J F G M N (FrameJson index path cause) i f m h = i _ h
 by_refusal_map I J F G M N (Frames lines refused count) i f m h = i _ h
 by_refusal_map I J F G M N (Source file byte cause) i f m h = i _ h
 by_refusal_map I J F G M N (Json path cause) i f m h = i _ h
@@ -36,6 +37,7 @@ by_refusal_any X I F M (Link file full_name cause) i f m h = i _ h
 by_refusal_any X I F M (UnknownType name) i f m h = i _ h
 by_refusal_any X I F M TooLarge i f m h = i _ h
 by_refusal_any X I F M (Frame index byte path cause) i f m h = i _ h
+by_refusal_any X I F M (FrameJson index path cause) i f m h = i _ h
 by_refusal_any X I F M (Frames lines refused count) i f m h = i _ h
 by_refusal_any X I F M (Source file byte cause) i f m h = i _ h
 by_refusal_any X I F M (Json path cause) i f m h = i _ h

@@ -1,5 +1,7 @@
 -- Why a set makes no pool, from what its steps leave.
-use Rattle.std.proofs.Common.{◌≡◌, ℕ, List, [], Some, refl}
+use Rattle.std.proofs.Common.{◌≡◌, ◌≤◌, ◌+◌, ◌⊎◌, ℕ, List, [], ◌++◌, length, Bool, true, Option, Some, refl}
+use Rattle.std.specs.Borrow.{Bor}
+use Rattle.std.specs.Io.KnownBytes.{Consumes}
 use Rattle.std.specs.Prelude.{map}
 use Rattle.pb_wire.specs.Limits.{full}
 use Rattle.pb_decl.specs.Decls.{DeclaredFile}
@@ -11,11 +13,14 @@ use Rattle.pb_descr.specs.declared.error.DescrError.TheVariants as descr
 use Rattle.pb_rules.specs.Faults.{IsUnlinked}
 use Rattle.pb_rules.specs.declared.error.LinkError.{LinkError}
 use Rattle.pb_rules.specs.declared.error.LinkError.TheVariants as link
+use Rattle.pb_files.specs.Known.{IsReadFrom}
 use Rattle.pb_files.specs.Refusal.{IsToldOfLink, IsToldOfSet, Refuses}
-use Rattle.pb_files.specs.SetFile.{IsSetBy, IsUnreadBy, NoPool, no_text, no_set, no_links}
+use Rattle.pb_files.specs.SetFile.{IsSetBy, IsUnreadBy, NoPool, no_file, no_text, no_set, no_links}
 use Rattle.pb_files.specs.declared.report.Refusal.{Refusal}
+use Rattle.pb_files.specs.declared.report.Refusal.TheVariants as refusal
 use Rattle.pb_files.specs.declared.set_file.Reading.{Reading}
 use Rattle.pb_files.specs.declared.set_file.Reading.TheVariants.{Strict, Lenient}
+use Rattle.pb_files.proofs.FirstPieces.{early_refuses, stop_refuses}
 
 -- strict reading leaves nothing out
 pub set_strictly : (b : List ℕ) (files : List DeclaredFile) → IsSetOf full b files → IsSetBy Strict b files []
@@ -40,3 +45,21 @@ pub told_of_link :
     → IsSetBy reading b files omitted → IsUnlinked files e → Refuses (NoPool reading path (Some b)) f
 told_of_link reading path b files omitted (link.Fault file full_name cause) f told is h = rw told (no_links refl is h refl)
 told_of_link reading path b files omitted link.Memory f told is h = rw told tt
+
+-- READING
+
+module _ {I : Type 0} (left : I → Option (List ℕ)) (is_steady : I → Bool) (input : I) where
+  -- a fault of the first bytes is reported for all
+  pub early_no_pool :
+      (path text : List ℕ) (new : Option (List ℕ)) (e : Refusal) → Consumes (left input) new text → length text ≤ full.bytes + 1
+      → ((reading : Reading) (path more : List ℕ) → Refuses (NoPool reading path (Some (text ++ more))) e) → (reading : Reading)
+      → Refuses (λ a. (content : Option (List ℕ)) × IsReadFrom left is_steady input (full.bytes + 1) content × NoPool reading path content a) e
+  early_no_pool path text new e taken within refused reading =
+      early_refuses left is_steady input (full.bytes + 1) (NoPool reading path) text new e taken within (refused reading path)
+
+  -- memory ran out, or the input failed
+  pub stop_no_pool :
+      (path : Bor (List ℕ)) (e : Refusal) → (e ≡ refusal.Memory) ⊎ ((e ≡ refusal.Device path) × (is_steady input ≡ true → ⊥)) → (reading : Reading)
+      → Refuses (λ a. (content : Option (List ℕ)) × IsReadFrom left is_steady input (full.bytes + 1) content × NoPool reading path.now content a) e
+  stop_no_pool path e stopped reading =
+      stop_refuses left is_steady input (full.bytes + 1) (NoPool reading path.now) path e (no_file refl refl) stopped

@@ -9,10 +9,10 @@ use Rattle.pb_rules.specs.declared.error.LinkError.{LinkError}
 use Rattle.pb_rules.specs.declared.error.LinkError.TheVariants as link
 use Rattle.pb_files.specs.Answer.{Answer, refused, device_failed}
 use Rattle.pb_files.specs.Report.{fault_line, set_fault_line, set_cause_line, link_line, type_line, too_large_line}
-use Rattle.pb_files.specs.Report.{frame_fault_line, frames_line, source_line, json_line, json_text_line, device_line, memory_line}
+use Rattle.pb_files.specs.Report.{frame_fault_line, frame_json_line, frames_line, source_line, json_line, json_text_line, device_line, memory_line}
 use Rattle.pb_files.specs.declared.report.Refusal.{Refusal}
 use Rattle.pb_files.specs.declared.report.Refusal.TheVariants.{Fault, Set, SetFile, Link, UnknownType, TooLarge, Frame, Frames, Source, Json, Device, File, Memory}
-use Rattle.pb_files.specs.declared.report.Refusal.TheVariants.{Breaks, JsonText}
+use Rattle.pb_files.specs.declared.report.Refusal.TheVariants.{Breaks, FrameJson, JsonText}
 
 abbrev pub refusal_line : Refusal → List ℕ
 refusal_line (Fault byte path cause) = fault_line (fault byte path.items cause)
@@ -22,6 +22,7 @@ refusal_line (Link file full_name cause) = link_line (string_bytes file) (string
 refusal_line (UnknownType name) = type_line name.now
 refusal_line TooLarge = too_large_line
 refusal_line (Frame index byte path cause) = frame_fault_line index (fault byte path.items cause)
+refusal_line (FrameJson index path cause) = frame_json_line index path.items cause
 refusal_line (Frames lines refused count) = lines.items ++ frames_line refused count
 refusal_line (Source file byte cause) = source_line (string_bytes file) byte cause
 refusal_line (Json path cause) = json_line path.items cause
@@ -40,6 +41,7 @@ refusal_status (Link file full_name cause) = 1
 refusal_status (UnknownType name) = 1
 refusal_status TooLarge = 1
 refusal_status (Frame index byte path cause) = 1
+refusal_status (FrameJson index path cause) = 1
 refusal_status (Frames lines refused count) = 1
 refusal_status (Source file byte cause) = 1
 refusal_status (Json path cause) = 1
@@ -58,6 +60,7 @@ names_device (Link file full_name cause) = false
 names_device (UnknownType name) = false
 names_device TooLarge = false
 names_device (Frame index byte path cause) = false
+names_device (FrameJson index path cause) = false
 names_device (Frames lines refused count) = false
 names_device (Source file byte cause) = false
 names_device (Json path cause) = false
@@ -80,6 +83,7 @@ ByRefusal Input Failed OutOfMemory (Link file full_name cause) = Input (link_lin
 ByRefusal Input Failed OutOfMemory (UnknownType name) = Input (type_line name.now)
 ByRefusal Input Failed OutOfMemory TooLarge = Input too_large_line
 ByRefusal Input Failed OutOfMemory (Frame index byte path cause) = Input (frame_fault_line index (fault byte path.items cause))
+ByRefusal Input Failed OutOfMemory (FrameJson index path cause) = Input (frame_json_line index path.items cause)
 ByRefusal Input Failed OutOfMemory (Frames lines refused count) = Input (lines.items ++ frames_line refused count)
 ByRefusal Input Failed OutOfMemory (Source file byte cause) = Input (source_line (string_bytes file) byte cause)
 ByRefusal Input Failed OutOfMemory (Json path cause) = Input (json_line path.items cause)

@@ -67,6 +67,10 @@ fields_text (n ∷ ns) = decimal n ++ flat_map (λ k. codes "." ++ decimal k) ns
 abbrev pub json_line : List ℕ → JsonCause → List ℕ
 json_line path c = codes "json path " ++ fields_text path ++ cause_end (json.name_of c)
 
+-- which part of the message of a frame has none
+abbrev pub frame_json_line : ℕ → List ℕ → JsonCause → List ℕ
+frame_json_line index path c = codes "frame " ++ decimal index ++ codes " " ++ json_line path c
+
 -- where a JSON text is refused, and the name of the cause
 abbrev pub json_text_line : ℕ → List ℕ → List ℕ
 json_text_line byte name = codes "json" ++ (codes " byte " ++ decimal byte) ++ cause_end name

@@ -4,6 +4,7 @@
 mod files;
 mod host;
 mod memory;
+mod pieces;
 mod reading;
 mod report;
 mod set_file;
@@ -11,6 +12,7 @@ mod set_file;
 pub use files::Files;
 pub use host::HostFiles;
 pub use memory::MemFiles;
+pub use pieces::{FIRST_PIECE, is_cut, read_on};
 pub use reading::{open_file, read_file};
 pub use report::{OUTPUT, Refusal};
 pub use set_file::{LinkedSet, Reading, find_type, pool_at};

@@ -3,7 +3,7 @@
 ghost use Rattle.std.specs.Prelude.{◌≡◌, ◌≤◌, ◌++◌, codes, decimal, flat_map, length, MatchResult};
 ghost use Rattle.pb_wire.specs.Fault.{fault};
 ghost use Rattle.pb_wire.specs.PathText.{dotted, path_text, step_text};
-ghost use Rattle.pb_files.specs.Report.{cause_end, device_line, fault_line, fields_text, frame_fault_line, frames_line, json_line, json_text_line, link_line};
+ghost use Rattle.pb_files.specs.Report.{cause_end, device_line, fault_line, fields_text, frame_fault_line, frame_json_line, frames_line, json_line, json_text_line, link_line};
 ghost use Rattle.pb_files.specs.Report.{set_cause_line, set_fault_line, shown_name, source_line, type_line};
 ghost use Rattle.pb_files.specs.Refusal.{refusal_line, refusal_status};
 ghost use Rattle.pb_output.specs.Sending.{Cut, Sent, SentOrCut};
@@ -56,6 +56,13 @@ pub enum Refusal<'a> {
         byte: u64,
         path: Vec<PathStep>,
         cause: Cause,
+    },
+    /// The message of the frame of this index has a part without a JSON form: the numbers of the fields that lead to it, outermost first,
+    /// and why.
+    FrameJson {
+        index: u64,
+        path: Vec<u32>,
+        cause: JsonCause,
     },
     /// Frames of a stream, after which the others were read: the lines that report them, how many they are, and of how many.
     Frames {
@@ -170,6 +177,7 @@ impl Refusal<'_> {
             | Refusal::UnknownType(_)
             | Refusal::TooLarge
             | Refusal::Frame { .. }
+            | Refusal::FrameJson { .. }
             | Refusal::Frames { .. }
             | Refusal::Source { .. }
             | Refusal::Json { .. }
@@ -219,6 +227,9 @@ fn put_refusal<O: Output>(sink: &mut Sink, out: &mut O, refusal: &Refusal<'_>)
             path,
             cause,
         } => put_frame_fault(sink, out, *index, *byte, path, *cause),
+        Refusal::FrameJson { index, path, cause } => {
+            put_frame_json(sink, out, *index, path, *cause)
+        }
         Refusal::Frames {
             lines,
             refused,
@@ -301,11 +312,31 @@ fn put_frame_fault<O: Output>(
 )
     ensures { Puts O.written O.failures out.old out.new sink.old sink.new (frame_fault_line index (fault byte path.now cause)) }
 {
+    put_frame_index(sink, out, index);
+    put_fault(sink, out, byte, path, cause);
+}
+
+/// What a line about a frame begins with.
+fn put_frame_index<O: Output>(sink: &mut Sink, out: &mut O, index: u64)
+    ensures { Puts O.written O.failures out.old out.new sink.old sink.new (codes "frame " ++ decimal index ++ codes " ") }
+{
     sink.make_room(out, 32);
     sink.held.push(b"frame ");
     sink.held.push_decimal(index);
     sink.held.push(b" ");
-    put_fault(sink, out, byte, path, cause);
+}
+
+fn put_frame_json<O: Output>(
+    sink: &mut Sink,
+    out: &mut O,
+    index: u64,
+    path: &[u32],
+    cause: JsonCause,
+)
+    ensures { Puts O.written O.failures out.old out.new sink.old sink.new (frame_json_line index path.now cause) }
+{
+    put_frame_index(sink, out, index);
+    put_json(sink, out, path, cause);
 }
 
 /// The lines of the frames that are refused, and then how many they are.

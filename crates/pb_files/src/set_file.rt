@@ -1,21 +1,22 @@
 //! Which pool the descriptor set in a file makes, and which type of it has a name: the set is read, is one, links, and has the type.
 
-ghost use Rattle.std.specs.Prelude.{◌≡◌, ◌+◌, ◌<◌, true, ℕ, List, Option, Some, length, map, IfOk, IfErr};
+ghost use Rattle.std.specs.Prelude.{◌≡◌, ◌+◌, ◌++◌, ◌<◌, true, ℕ, List, Option, Some, length, map, IfOk, IfErr};
 ghost use Rattle.pb_wire.specs.Limits.{full};
 ghost use Rattle.pb_decl.specs.View.{file_view};
 ghost use Rattle.pb_descr.specs.Omitted.{omitted_view};
 ghost use Rattle.pb_files.specs.FileMap.{KeepsMap};
-ghost use Rattle.pb_files.specs.Known.{IsReadOf};
+ghost use Rattle.pb_files.specs.Known.{IsReadFrom, IsReadOf};
 ghost use Rattle.pb_files.specs.Refusal.{KeepsFailures, Refuses};
 ghost use Rattle.pb_files.specs.SetFile.{HasPool, HasType, IsSetBy, IsUnreadBy, NoPool, NoType};
 
 use crate::files::Files;
-use crate::reading::read_file;
+use crate::pieces::{FIRST_PIECE, is_cut, read_on};
+use crate::reading::open_file;
 use crate::report::Refusal;
 use pb_descr::{DescrError, LenientSet, Omitted, read_set, read_set_lenient};
 use pb_link::link;
 use pb_schema::{MessageId, Pool};
-use pb_wire::Limits;
+use pb_wire::{Input, Limits};
 use std::alloc::Global;
 
 /// How a descriptor set is read.
@@ -78,9 +79,68 @@ pub fn pool_at<'a, F: Files>(
     ensures takes_writes { F.takes_writes files.old ≡ true → F.takes_writes files.new ≡ true }
     ensures files { KeepsMap (F.contents files.old) (F.contents files.new) }
 {
-    let set = read_file(alloc, Limits::FULL, path, files)?;
+    let set = read_set_file(alloc, path, files)?;
     let linked = link_set(alloc, reading, &set)?;
     Ok(linked)
+}
+
+/// The bytes of the set at a path, but at most one more than a set may have. Where the first of them have a fault that is that of all
+/// longer ones, no more are read.
+fn read_set_file<'a, F: Files>(
+    alloc: Global,
+    path: &'a str,
+    files: &mut F,
+) -> Result<Vec<u8>, Refusal<'a>>
+    ensures read { IfOk result (λ v. IsReadOf F.contents F.is_steady files.old (full.bytes + 1) path.entry.now (Some v.items)) }
+    ensures refused { IfErr result (λ e. (reading : Reading) → Refuses (λ a. (content : Option (List ℕ))
+        × IsReadOf F.contents F.is_steady files.old (full.bytes + 1) path.entry.now content × NoPool reading path.entry.now content a) e) }
+    ensures kept { KeepsFailures F.failures files.old files.new result }
+    ensures steady { F.is_steady files.old ≡ true → F.is_steady files.new ≡ true }
+    ensures unfailing { F.is_steady files.old ≡ true → F.failures files.new ≡ F.failures files.old }
+    ensures takes_writes { F.takes_writes files.old ≡ true → F.takes_writes files.new ≡ true }
+    ensures files { KeepsMap (F.contents files.old) (F.contents files.new) }
+{
+    let mut input = open_file(path, files)?;
+    let set = read_set_input(alloc, path, &mut input)?;
+    Ok(set)
+}
+
+/// The same of an input.
+fn read_set_input<'a, I: Input>(
+    alloc: Global,
+    path: &'a str,
+    input: &mut I,
+) -> Result<Vec<u8>, Refusal<'a>>
+    ensures read { IfOk result (λ v. IsReadFrom I.left I.is_steady input.old (full.bytes + 1) (Some v.items)) }
+    ensures refused { IfErr result (λ e. (reading : Reading) → Refuses (λ a. (content : Option (List ℕ))
+        × IsReadFrom I.left I.is_steady input.old (full.bytes + 1) content × NoPool reading path.entry.now content a) e) }
+{
+    let most = Limits::FULL.max_bytes() as usize + 1;
+    let first = most.min(FIRST_PIECE);
+    let mut bytes = Vec::new(alloc);
+    read_on(input, &mut bytes, first, path)?;
+    if bytes.len() < first {
+        return Ok(bytes);
+    }
+    judge_first(alloc, bytes.as_slice())?;
+    read_on(input, &mut bytes, most, path)?;
+    Ok(bytes)
+}
+
+/// Judges the first bytes of a set: fails where they have a fault that is that of all longer ones.
+fn judge_first<'a>(alloc: Global, bytes: &[u8]) -> Result<(), Refusal<'a>>
+    ensures { IfErr result (λ e. (reading : Reading) (path more : List ℕ) → Refuses (NoPool reading path (Some (bytes.now ++ more))) e) }
+{
+    match read_set(alloc, bytes) {
+        Ok(_) | Err(DescrError::Decl { .. }) => Ok(()),
+        Err(DescrError::Memory) => Err(Refusal::Memory),
+        Err(DescrError::Fault { byte, path, cause }) => {
+            if is_cut(cause) {
+                return Ok(());
+            }
+            Err(Refusal::Set { byte, path, cause })
+        }
+    }
 }
 
 /// The pool of a set.

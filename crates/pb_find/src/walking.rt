@@ -124,7 +124,10 @@ fn target_found<'a>(
 }
 
 /// Reads a record of the field that a path leads to, after its tag: where it ends, and what is found after it. None where it has a fault.
+///
+/// Few records are of that field. Apart from `walk`, it leaves registers to the loop over all records.
 #[cycle(walking)]
+#[inline(never)]
 fn own_found<'a>(
     alloc: Global,
     pool: &Pool,

@@ -6,7 +6,12 @@ use Rattle.pb_output.proofs.SinkLemmas.{puts_then}
 use Rattle.pb_json.specs.declared.form.Layout.{Layout}
 use Rattle.pb_json.specs.Json.{Json}
 use Rattle.pb_json.specs.JsonText.{IsJsonText}
-use Rattle.pb_json.specs.Answers.{Prints}
+use Rattle.pb_json.specs.Answers.{FailsAs, Prints, RefusedAs, RefusesWith}
+use Rattle.pb_json.specs.Refusals.{refused}
+use Rattle.pb_json.specs.declared.error.JsonError.{JsonError}
+use Rattle.pb_json.specs.declared.error.JsonError.TheVariants as error
+use Rattle.pb_json.specs.declared.form.JsonForm.{JsonForm}
+use Rattle.pb_value.specs.Dynamic.{Dynamic}
 
 -- A prefix of a whole is put, and it is known what may follow. What is left belongs to a message at a level, with some levels below.
 pub record IsLeft {D : Type 0} (written : D → Option (List ℕ)) (failures : D → ℕ) (old new : D) (a b : Sink) (level below : ℕ) (IsRest IsWhole : List ℕ → Type 0) : Type 0 where
@@ -87,3 +92,17 @@ module _ {D : Type 0} {written : D → Option (List ℕ)} {failures : D → ℕ}
       {d0 d1 d2 : D} {a b c : Sink} {level below : ℕ} {IsRest IsWhole : List ℕ → Type 0} {rest : List ℕ} → IsLeft written failures d0 d1 a b level below IsRest IsWhole
       → IsRest rest → Puts written failures d1 d2 b c rest → Prints written failures d0 d2 a c IsWhole
   left_done {rest = rest} h is put = record { bytes = h.prefix ++ rest; is = h.joins rest is; puts = puts_then h.put put }
+
+-- WHAT IS REFUSED
+
+pub refuses_as : (m : Dynamic) (e : JsonError) → RefusesWith (refused m) e → RefusedAs m e
+refuses_as m (error.Refused x) h = h
+refuses_as m error.Memory h = h
+refuses_as m error.Output h = h
+
+-- nothing went out
+pub refused_fails : {D : Type 0} (written : D → Option (List ℕ)) (failures : D → ℕ) (old new : D) (form : JsonForm) (m : Dynamic) (e : JsonError) → RefusedAs m e → new ≡ old
+    → FailsAs written failures old new form m e
+refused_fails written failures old new form m (error.Refused x) h same = (h, same)
+refused_fails written failures old new form m error.Memory h same = (h, same)
+refused_fails written failures old new form m error.Output h same = absurd h

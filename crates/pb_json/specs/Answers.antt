@@ -32,14 +32,29 @@ pub record Prints {D : Type 0} (written : D → Option (List ℕ)) (failures : D
   pub is : IsMeant bytes
   pub puts : Puts written failures old new a b bytes
 
+-- MESSAGES
+
+-- the bytes are a JSON text of the message, each part of which has a JSON form
+abbrev pub IsJsonOf : JsonForm → Dynamic → List ℕ → Type 0
+IsJsonOf form m text = (refused m ≡ None) × IsJsonText form.layout 0 (json_of form.names m) text
+
+-- this is the first part of the message that has no JSON form
+abbrev pub IsRefused : Dynamic → Refused → Type 0
+IsRefused m r = refused m ≡ Some r
+
+-- the error says so, or that there was no memory for it
+abbrev pub RefusedAs : Dynamic → JsonError → Type 0
+RefusedAs m (error.Refused x) = IsRefused m (refused_view x)
+RefusedAs m error.Memory = is_some (refused m) ≡ true
+RefusedAs m error.Output = ⊥
+
 module _ {D : Type 0} (written : D → Option (List ℕ)) (failures : D → ℕ) (old new : D) (form : JsonForm) (m : Dynamic) where
   -- a JSON text of the message went out whole
   abbrev pub Whole : Type 0
-  Whole = (text : List ℕ) × IsJsonText form.layout 0 (json_of form.names m) text × Sent written failures old new text
+  Whole = (text : List ℕ) × IsJsonOf form m text × Sent written failures old new text
 
   -- the output failed after a prefix of such a text, or a part of the message has no JSON form and nothing went out
   abbrev pub FailsAs : JsonError → Type 0
-  FailsAs error.Output =
-      (refused m ≡ None) × ((text : List ℕ) × IsJsonText form.layout 0 (json_of form.names m) text × Cut written failures old new text)
-  FailsAs (error.Refused x) = (refused m ≡ Some (refused_view x)) × (new ≡ old)
+  FailsAs error.Output = (text : List ℕ) × IsJsonOf form m text × Cut written failures old new text
+  FailsAs (error.Refused x) = IsRefused m (refused_view x) × (new ≡ old)
   FailsAs error.Memory = (is_some (refused m) ≡ true) × (new ≡ old)

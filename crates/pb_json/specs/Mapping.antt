@@ -17,7 +17,7 @@ use Rattle.pb_value.specs.Dynamic.{Dynamic}
 use Rattle.pb_value.specs.Oneof.{default_value}
 use Rattle.pb_json.specs.declared.form.Names.{Names}
 use Rattle.pb_json.specs.declared.well_known.WellKnown.{WellKnown}
-use Rattle.pb_json.specs.declared.well_known.WellKnown.TheVariants.{Other, Wrapper, Struct, ListValue, Value, Timestamp, Duration, FieldMask, Unsupported}
+use Rattle.pb_json.specs.declared.well_known.WellKnown.TheVariants.{Other, Wrapper, Struct, ListValue, Value, Timestamp, Duration, FieldMask, Any}
 use Rattle.pb_json.specs.Json.{Json, null, truth, number, real, plain, string, instant, array, object, Elements, no_elements, element, Members, no_members, member}
 use Rattle.pb_json.specs.JsonNames.{member_name}
 use Rattle.pb_json.specs.JsonText.{bool_text}
@@ -100,7 +100,7 @@ absent_json pool Value all = null
 absent_json pool Timestamp all = null
 absent_json pool Duration all = null
 absent_json pool FieldMask all = null
-absent_json pool Unsupported all = null
+absent_json pool Any all = null
 absent_json pool Other all = null
 
 -- a member before others
@@ -135,7 +135,7 @@ in_form Value fs ms only = only
 in_form Timestamp fs ms only = timestamp_json fs
 in_form Duration fs ms only = duration_json fs
 in_form FieldMask fs ms only = mask_json fs
-in_form Unsupported fs ms only = null
+in_form Any fs ms only = null
 
 module _ (pool : Types) (names : Names) where
   abbrev mutual

@@ -10,7 +10,7 @@ use Rattle.pb_value.specs.Data.{Datum, scalar, message, Datums, no_datums, datum
 use Rattle.pb_value.specs.Data.{Holding, one, list, map, Fields, no_fields, field, Message, body}
 use Rattle.pb_value.specs.Dynamic.{Dynamic}
 use Rattle.pb_json.specs.declared.well_known.WellKnown.{WellKnown}
-use Rattle.pb_json.specs.declared.well_known.WellKnown.TheVariants.{Other, Wrapper, Struct, ListValue, Value, Timestamp, Duration, FieldMask, Unsupported}
+use Rattle.pb_json.specs.declared.well_known.WellKnown.TheVariants.{Other, Wrapper, Struct, ListValue, Value, Timestamp, Duration, FieldMask, Any}
 use Rattle.pb_json.specs.declared.error.JsonCause.{JsonCause}
 use Rattle.pb_json.specs.declared.error.JsonCause.TheVariants as cause
 use Rattle.pb_json.specs.WellKnown.{well_known}
@@ -77,7 +77,7 @@ own_cause Value fs = value_cause fs
 own_cause Timestamp fs = timestamp_cause fs
 own_cause Duration fs = duration_cause fs
 own_cause FieldMask fs = mask_cause fs
-own_cause Unsupported fs = Some cause.Unsupported
+own_cause Any fs = Some cause.Unsupported
 own_cause Other fs = None
 own_cause Wrapper fs = None
 own_cause Struct fs = None

@@ -7,7 +7,7 @@ use Rattle.pb_schema.specs.Types.{Types}
 use Rattle.pb_schema.specs.Kinds.{enum_of_kind}
 use Rattle.pb_schema.specs.Names.{message_names, enum_names, name_at}
 use Rattle.pb_json.specs.declared.well_known.WellKnown.{WellKnown}
-use Rattle.pb_json.specs.declared.well_known.WellKnown.TheVariants.{Other, Wrapper, Struct, ListValue, Value, Timestamp, Duration, FieldMask, Unsupported}
+use Rattle.pb_json.specs.declared.well_known.WellKnown.TheVariants.{Other, Wrapper, Struct, ListValue, Value, Timestamp, Duration, FieldMask, Any}
 
 abbrev pub is_wrapper_name : List ℕ → Bool
 is_wrapper_name name =
@@ -23,7 +23,7 @@ well_known_named name =
     if is_wrapper_name name then Wrapper else if bytes_eq name (codes "google.protobuf.Struct") then Struct
     else if bytes_eq name (codes "google.protobuf.ListValue") then ListValue else if bytes_eq name (codes "google.protobuf.Value") then Value
     else if bytes_eq name (codes "google.protobuf.Timestamp") then Timestamp else if bytes_eq name (codes "google.protobuf.Duration") then Duration
-    else if bytes_eq name (codes "google.protobuf.FieldMask") then FieldMask else if bytes_eq name (codes "google.protobuf.Any") then Unsupported
+    else if bytes_eq name (codes "google.protobuf.FieldMask") then FieldMask else if bytes_eq name (codes "google.protobuf.Any") then Any
     else Other
 
 -- what form the message type at an index has

@@ -19,7 +19,7 @@ pub enum JsonCause {
     OutOfRange,
     /// A path of a `google.protobuf.FieldMask` would not be read back from lowerCamelCase.
     BadPath,
-    /// The form of the type is not written: `google.protobuf.Any`.
+    /// The form of a `google.protobuf.Any` is not written.
     Unsupported,
 }
 

@@ -177,7 +177,7 @@ fn own_cause(form: WellKnown, fields: &BTreeMap<u32, Content>) -> Option<JsonCau
         WellKnown::Timestamp => timestamp_cause(fields),
         WellKnown::Duration => duration_cause(fields),
         WellKnown::FieldMask => mask_cause(fields),
-        WellKnown::Unsupported => Some(JsonCause::Unsupported),
+        WellKnown::Any => Some(JsonCause::Unsupported),
         WellKnown::Other | WellKnown::Wrapper | WellKnown::Struct | WellKnown::ListValue => None,
     }
 }

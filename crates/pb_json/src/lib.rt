@@ -16,4 +16,4 @@ pub mod well_known;
 
 pub use error::{JsonCause, JsonError, Refusal};
 pub use form::{JsonForm, Layout, Names};
-pub use messages::write_json;
+pub use messages::{put_json, write_json};

@@ -1,18 +1,17 @@
 //! A message as JSON.
 
-ghost use Rattle.std.specs.Prelude.{◌≡◌, ◌+◌, ◌*◌, ◌<◌, ◌≤◌, None, length, suc, IfErr, OnOk};
+ghost use Rattle.std.specs.Prelude.{◌≡◌, ◌+◌, ◌*◌, ◌<◌, ◌≤◌, length, suc, IfErr, OnOk};
 ghost use Rattle.std.specs.Option.{option_map_or};
 ghost use Rattle.pb_schema.specs.Kinds.{message_of_kind};
 ghost use Rattle.pb_schema.specs.Rules.{NamesType};
 ghost use Rattle.pb_schema.specs.Types.{message_fields};
 ghost use Rattle.pb_value.specs.Data.{message_depth, fields_depth, holding_depth, datums_depth, entries_depth, levels_of};
 ghost use Rattle.pb_value.specs.View.{body_view, content_view, entries_view, fields_view, value_view, values_view};
-ghost use Rattle.pb_json.specs.Answers.{FailsAs, Prints, Whole};
+ghost use Rattle.pb_json.specs.Answers.{FailsAs, IsJsonOf, Prints, RefusedAs, Whole};
 ghost use Rattle.pb_json.specs.Json.{null, array, object};
 ghost use Rattle.pb_json.specs.JsonText.{IsJsonText};
 ghost use Rattle.pb_json.specs.Mapping.{absent_json, datum_json, elements_json, entries_json, fields_json, holding_json, message_json};
 ghost use Rattle.pb_json.specs.Mapping.{only_json, wrapper_default};
-ghost use Rattle.pb_json.specs.Refusals.{refused};
 ghost use Rattle.pb_json.specs.WellKnown.{well_known as form_of};
 
 use crate::context::Context;
@@ -39,21 +38,35 @@ pub fn write_json<O: Output>(
     message: &MessageRef<'_>,
     form: JsonForm,
 ) -> Result<(), JsonError>
-    ensures judged { OnOk result (refused message.now ≡ None) }
     ensures written { OnOk result (Whole O.written O.failures out.old out.new form message.now) }
     ensures failed { IfErr result (FailsAs O.written O.failures out.old out.new form message.now) }
+{
+    let mut sink = Sink::new();
+    put_json(&mut sink, out, alloc, message, form)?;
+    match sink.finish(out) {
+        Ok(()) => Ok(()),
+        Err(_) => Err(JsonError::Output),
+    }
+}
+
+/// Puts a message as JSON, as `write_json` writes it. Where a part of the message has no JSON form, the answer says which, and nothing is put.
+pub fn put_json<O: Output>(
+    sink: &mut Sink,
+    out: &mut O,
+    alloc: Global,
+    message: &MessageRef<'_>,
+    form: JsonForm,
+) -> Result<(), JsonError>
+    ensures put { OnOk result (Prints O.written O.failures out.old out.new sink.old sink.new (IsJsonOf form message.now)) }
+    ensures failed { IfErr result (λ e. RefusedAs message.now e × (out.new ≡ out.old) × (sink.new ≡ sink.old)) }
 {
     let body = message.body();
     let pool = message.pool();
     let id = message.message_type();
     judge_message(alloc, pool, 0, id, body)?;
     let context = Context { alloc, pool, form };
-    let mut sink = Sink::new();
-    put_message(&mut sink, out, &context, 0, 0, id, body);
-    match sink.finish(out) {
-        Ok(()) => Ok(()),
-        Err(_) => Err(JsonError::Output),
-    }
+    put_message(sink, out, &context, 0, 0, id, body);
+    Ok(())
 }
 
 /// A message at a level, on a line of this indentation.
@@ -78,7 +91,7 @@ fn put_message<O: Output>(
         WellKnown::Timestamp => put_timestamp(sink, out, &body.fields),
         WellKnown::Duration => put_duration(sink, out, &body.fields),
         WellKnown::FieldMask => put_mask(sink, out, &body.fields),
-        WellKnown::Unsupported => sink.put(out, b"null"),
+        WellKnown::Any => sink.put(out, b"null"),
         WellKnown::Wrapper | WellKnown::Struct | WellKnown::ListValue | WellKnown::Value => {
             put_only(sink, out, context, level, indent, id, &body.fields)
         }
@@ -166,7 +179,7 @@ fn put_absent<O: Output>(
         WellKnown::Wrapper => put_default(sink, out, context, indent, id),
         WellKnown::Struct => sink.put(out, b"{}"),
         WellKnown::ListValue => sink.put(out, b"[]"),
-        WellKnown::Value | WellKnown::Other | WellKnown::Unsupported => sink.put(out, b"null"),
+        WellKnown::Value | WellKnown::Other | WellKnown::Any => sink.put(out, b"null"),
         WellKnown::Timestamp | WellKnown::Duration | WellKnown::FieldMask => sink.put(out, b"null"),
     }
 }

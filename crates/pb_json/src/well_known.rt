@@ -25,8 +25,8 @@ pub enum WellKnown {
     Duration,
     /// A string of the paths.
     FieldMask,
-    /// A form that is neither written nor read.
-    Unsupported,
+    /// The object of an Any, which is not written.
+    Any,
 }
 
 /// What form a message type has.
@@ -55,7 +55,7 @@ fn well_known_named(name: &[u8]) -> WellKnown
     } else if name == b"google.protobuf.FieldMask".as_slice() {
         WellKnown::FieldMask
     } else if name == b"google.protobuf.Any".as_slice() {
-        WellKnown::Unsupported
+        WellKnown::Any
     } else {
         WellKnown::Other
     }

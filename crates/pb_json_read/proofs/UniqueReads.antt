@@ -134,7 +134,7 @@ module _ (pool : Types) (rules : JsonRules) where
     form_one form.Timestamp Plain m one = given_one _
     form_one form.Duration Plain m one = given_one _
     form_one form.FieldMask Plain m one = given_one _
-    form_one form.Unsupported Plain m one = none_one at
+    form_one form.Any Plain m one = none_one at
 
   object_one : (at : ℕ) (ms : Members) (Fields : List FieldView → Read Parts → Type 0) (Mapped : Kind → Kind → Read Entries → Type 0)
       → ((all : List FieldView) → IsOne (Fields all)) → ((key k : Kind) → IsOne (Mapped key k)) → (m : ℕ) → IsOne (OfObject pool rules at ms Fields Mapped m)

@@ -6,7 +6,7 @@ use Rattle.pb_schema.specs.Types.{FieldView, Types, field_numbered, message_fiel
 use Rattle.pb_schema.specs.Scalar.{int32, int64}
 use Rattle.pb_value.specs.Data.{scalar, Datums, Entries, Holding, one, list, Message}
 use Rattle.pb_json.specs.declared.well_known.WellKnown.{WellKnown}
-use Rattle.pb_json.specs.declared.well_known.WellKnown.TheVariants.{Other, Wrapper, Struct, ListValue, Value, Timestamp, Duration, FieldMask, Unsupported}
+use Rattle.pb_json.specs.declared.well_known.WellKnown.TheVariants.{Other, Wrapper, Struct, ListValue, Value, Timestamp, Duration, FieldMask, Any}
 use Rattle.pb_json.specs.WellKnown.{well_known}
 use Rattle.pb_json_scalars.specs.declared.times.Time.{Time}
 use Rattle.pb_json_scalars.specs.Clock.{timestamp, duration}
@@ -79,4 +79,4 @@ module _ (pool : Types) (rules : JsonRules) (at : ℕ) (j : Json) (Mapped : Kind
   ReadsForm Timestamp Plain m o = o ≡ given at (time_message (time_fields (message_fields pool m)) (string_meant timestamp j))
   ReadsForm Duration Plain m o = o ≡ given at (time_message (time_fields (message_fields pool m)) (string_meant duration j))
   ReadsForm FieldMask Plain m o = o ≡ given at (mask_message (paths_field (message_fields pool m)) (string_meant mask_paths j))
-  ReadsForm Unsupported Plain m o = NoValue at o
+  ReadsForm Any Plain m o = NoValue at o

@@ -6,7 +6,7 @@ use Rattle.pb_schema.specs.Scalar.{Scalar, int32, int64, text}
 use Rattle.pb_value.specs.Data.{scalar, Datums, no_datums, datum, one, list}
 use Rattle.pb_value.specs.Judge.{has_shape, is_scalar_of}
 use Rattle.pb_json.specs.declared.well_known.WellKnown.{WellKnown}
-use Rattle.pb_json.specs.declared.well_known.WellKnown.TheVariants.{Other, Wrapper, Struct, ListValue, Value, Timestamp, Duration, FieldMask, Unsupported}
+use Rattle.pb_json.specs.declared.well_known.WellKnown.TheVariants.{Other, Wrapper, Struct, ListValue, Value, Timestamp, Duration, FieldMask, Any}
 use Rattle.pb_json_text.specs.Json.{Json, null, boolean, number, string, array, object}
 
 -- `google.protobuf.Value`
@@ -19,7 +19,7 @@ is_dynamic ListValue = false
 is_dynamic Timestamp = false
 is_dynamic Duration = false
 is_dynamic FieldMask = false
-is_dynamic Unsupported = false
+is_dynamic Any = false
 
 -- a type that is what its field 1 holds
 abbrev pub is_sole : WellKnown → Bool
@@ -31,7 +31,7 @@ is_sole Other = false
 is_sole Timestamp = false
 is_sole Duration = false
 is_sole FieldMask = false
-is_sole Unsupported = false
+is_sole Any = false
 
 -- the field of a Value for each form of a JSON value
 abbrev pub field_for : Json → ℕ

@@ -40,7 +40,7 @@ pub(crate) fn is_sole(form: WellKnown) -> bool
     match form {
         WellKnown::Wrapper | WellKnown::Struct | WellKnown::ListValue => true,
         WellKnown::Other | WellKnown::Value | WellKnown::Timestamp => false,
-        WellKnown::Duration | WellKnown::FieldMask | WellKnown::Unsupported => false,
+        WellKnown::Duration | WellKnown::FieldMask | WellKnown::Any => false,
     }
 }
 

@@ -206,7 +206,7 @@ pub(crate) fn read_message(
         WellKnown::Timestamp => read_point(context, id, value),
         WellKnown::Duration => read_span(context, id, value),
         WellKnown::FieldMask => read_field_mask(context, id, value),
-        WellKnown::Unsupported => Err(JsonReadError::bad_value(value.at)),
+        WellKnown::Any => Err(JsonReadError::bad_value(value.at)),
     }
 }
 

@@ -10,7 +10,8 @@ use std::test::Fail;
 
 /// A row: a text, the byte and the cause. The byte is counted by hand. Python's protobuf 3.21 refuses each but four: an array in place of a message,
 /// where the mapping has an object; padding alone, which is no base64 (RFC 4648); and two names of one field, which the conformance suite wants
-/// refused.
+/// refused. Those of types with a form of their own are refused by libprotobuf 3.21, but for a path with an underscore, an object as a ListValue and
+/// an object as a wrapper.
 const ROWS: &str = "
 { | 1 UnexpectedEnd
 {\"intA\":1,} | 10 UnexpectedByte
@@ -41,6 +42,22 @@ const ROWS: &str = "
 {\"byIdV\":{\"x\":{}}} | 10 BadKey
 {\"byIdV\":{\"1\":{},\"1\":{}}} | 17 RepeatedName
 {\"byFlagW\":{\"1\":\"\"}} | 12 BadKey
+{\"time\":\"0000-12-31T23:59:59Z\"} | 8 BadValue
+{\"time\":\"10000-01-01T00:00:00Z\"} | 8 BadValue
+{\"time\":\"2000-02-30T00:00:00Z\"} | 8 BadValue
+{\"time\":\"2000-02-29 12:00:00Z\"} | 8 BadValue
+{\"time\":\"2000-02-29T12:00:00\"} | 8 BadValue
+{\"time\":0} | 8 BadValue
+{\"span\":\"315576000001s\"} | 8 BadValue
+{\"span\":\"1\"} | 8 BadValue
+{\"span\":1} | 8 BadValue
+{\"mask\":\"a_b\"} | 8 BadValue
+{\"mask\":[\"a\"]} | 8 BadValue
+{\"structA\":[]} | 11 BadValue
+{\"listC\":{}} | 9 BadValue
+{\"i32Value\":{\"value\":1}} | 12 BadValue
+{\"emptyValue\":[]} | 14 BadValue
+{\"emptyValue\":{\"a\":1}} | 15 UnknownName
 ";
 
 /// What a text is refused with.

@@ -9,7 +9,8 @@ use pb_schema::{MessageId, Pool};
 use std::alloc::{AllocError, Global};
 use std::test::Fail;
 
-/// A row: a text, and the bytes that Python's protobuf 3.21 writes of the message of type `t.M` that it reads.
+/// A row: a text, and the bytes that Python's protobuf 3.21 writes of the message of type `t.M` that it reads. Those of the types with a form of
+/// their own are what libprotobuf 3.21 reads, in canonical form.
 const ROWS: &str = "
 {} | 
  {\"intA\":1}  | 0801
@@ -30,6 +31,37 @@ const ROWS: &str = "
 {\"flagP\":null,\"innerC\":null,\"listF\":null,\"mapM\":null} | 
 {\"OddName9x\":4,\"nullD\":null} | 950104000000
 {\"__odd__name_9x\":4,\"nullD\":\"NULL_VALUE\"} | 950104000000
+{\"structA\":{}} | aa0100
+{\"structA\":{\"a\":null,\"b\":true,\"c\":1.5,\"d\":\"x\",\"e\":[1,[]],\"f\":{\"g\":{}}}} | aa01560a070a0161120208000a070a0162120220010a0e0a0163120911000000000000f83f0a080a016412031a01780a160a01651211320f0a0911000000000000f03f0a0232000a100a0166120b2a090a070a016712022a00
+{\"valueB\":null} | b201020800
+{\"valueB\":false} | b201022000
+{\"valueB\":-0.25} | b2010911000000000000d0bf
+{\"valueB\":\"\\u00e9\"} | b201041a02c3a9
+{\"valueB\":[]} | b201023200
+{\"valueB\":{\"a\":[{}]}} | b2010f2a0d0a0b0a0161120632040a022a00
+{\"listC\":[null,1,\"x\",[],{}]} | ba011c0a0208000a0911000000000000f03f0a031a01780a0232000a022a00
+{\"i32Value\":-1,\"i64Value\":\"9223372036854775807\",\"u32Value\":4294967295,\"u64Value\":\"18446744073709551615\"} | ca010b08ffffffffffffffffff01d2010a08ffffffffffffffff7faa020608ffffffff0fb2020b08ffffffffffffffffff01
+{\"stringValue\":\"\",\"boolValue\":false,\"doubleValue\":0,\"floatValue\":\"0\",\"bytesValue\":\"\"} | da0100e20100ea0100f20100ba0200
+{\"doubleValue\":\"NaN\",\"floatValue\":\"-Infinity\"} | ea010909000000000000f87fba02050d000080ff
+{\"bytesValue\":\"AQID\"} | f201050a03010203
+{\"i32Value\":null,\"stringValue\":null,\"time\":null,\"span\":null,\"mask\":null,\"any\":null} | 
+{\"emptyValue\":{}} | fa0100
+{\"time\":\"1970-01-01T00:00:00Z\"} | 820200
+{\"time\":\"0001-01-01T00:00:00Z\"} | 82020b088092b8c398feffffff01
+{\"time\":\"9999-12-31T23:59:59.999999999Z\"} | 82020d08ff82d1ffaf0710ff93ebdc03
+{\"time\":\"2000-02-29T12:00:00.5Z\"} | 82020c08c0e9eec5031080cab5ee01
+{\"time\":\"2000-02-29T12:00:00.000001+01:30\"} | 82020908a8bfeec50310e807
+{\"time\":\"2000-03-01T00:00:00-08:00\"} | 82020608809cf3c503
+{\"times\":[\"1969-12-31T23:59:59.000000001Z\",\"2024-02-29T00:00:00Z\"]} | ca020d08ffffffffffffffffff011001ca0206088092ffae06
+{\"span\":\"0s\"} | 8a0200
+{\"span\":\"315576000000.999999999s\"} | 8a020d0880bcaece970910ff93ebdc03
+{\"span\":\"-315576000000.999999999s\"} | 8a02160880c4d1b1e8f6ffffff011081ec94a3fcffffffff01
+{\"span\":\"-0.5s\"} | 8a020b1080b6ca91feffffffff01
+{\"span\":\"1.000001s\"} | 8a0205080110e807
+{\"mask\":\"\"} | 920200
+{\"mask\":\"a,fooBar.bazQux\"} | 9202140a01610a0f666f6f5f6261722e62617a5f717578
+{\"values\":[null,1,[null],{\"a\":null}]} | a202020800a2020911000000000000f03fa2020632040a020800a2020b2a090a070a016112020800
+{\"nulls\":{\"a\":null,\"b\":\"NULL_VALUE\"}} | c202050a01611000c202050a01621000
 ";
 
 /// Whether a text is read as a message with this encoding.

@@ -17,4 +17,4 @@ pub use messages::{put_listing_as, put_listing_at, write_message, write_message_
 pub use nested::write_nested;
 pub use records::write_listing;
 pub use shortest::write_shortest;
-pub use types::{file_name, put_enum_type, put_message_type, put_types, write_types};
+pub use types::{file_name, put_enum_type, put_kind, put_message_type, put_types, write_types};

@@ -198,7 +198,8 @@ fn put_labelled<O: Output>(sink: &mut Sink, out: &mut O, label: &[u8], pool: &Po
     put_kind(sink, out, pool, kind);
 }
 
-fn put_kind<O: Output>(sink: &mut Sink, out: &mut O, pool: &Pool, kind: Kind)
+/// Puts a kind as sources name it, a message, a group or an enum by its full name, and a group after the word `group`.
+pub fn put_kind<O: Output>(sink: &mut Sink, out: &mut O, pool: &Pool, kind: Kind)
     ensures { Puts O.written O.failures out.old out.new sink.old sink.new (kind_text pool.now kind) }
 {
     sink.put(out, group_word(kind));

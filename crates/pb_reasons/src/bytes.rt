@@ -21,13 +21,35 @@ pub(crate) struct At<'a> {
     pub cause: Cause,
 }
 
-/// Bytes of a file, and where they begin in it.
+impl<'a> At<'a> {
+    pub(crate) fn new(byte: u64, path: &'a [PathStep], cause: Cause) -> At<'a> {
+        At { byte, path, cause }
+    }
+}
+
+/// Bytes of a file, and where they begin in it: those of the frame of an index, or those from the first on.
 #[derive(Drop)]
-struct Part {
+pub(crate) struct Part {
     frame: Option<u64>,
     offset: u64,
     bytes: Vec<u8>,
     start: usize,
+}
+
+impl Part {
+    /// The bytes of a frame, which begin at an offset of the file.
+    pub(crate) fn of_frame(index: u64, offset: u64, bytes: Vec<u8>) -> Part {
+        let start = match read_varint(&bytes) {
+            Ok((_, start)) => start,
+            Err(_) => 0,
+        };
+        Part {
+            frame: Some(index),
+            offset,
+            bytes,
+            start,
+        }
+    }
 }
 
 /// The types that names are taken from, and what the first records are in.
@@ -108,7 +130,7 @@ fn part_of<F: Files>(alloc: Global, file: &str, byte: u64, files: &mut F) -> Opt
 }
 
 /// How many bytes are read where this one is refused.
-fn limit_after(byte: u64) -> usize {
+pub(crate) fn limit_after(byte: u64) -> usize {
     (byte as usize).saturating_add(AFTER)
 }
 
@@ -134,16 +156,7 @@ fn frame_in<I: Input>(alloc: Global, index: u64, byte: u64, input: &mut I) -> Op
     let Ok(bytes) = read_up_to(alloc, input, limit_after(byte)) else {
         return None;
     };
-    let start = match read_varint(&bytes) {
-        Ok((_, start)) => start,
-        Err(_) => 0,
-    };
-    Some(Part {
-        frame: Some(index),
-        offset,
-        bytes,
-        start,
-    })
+    Some(Part::of_frame(index, offset, bytes))
 }
 
 /// The types of a descriptor set that is read again, and the message type of a name among them; without them nothing has a name.
@@ -188,7 +201,7 @@ fn set_types(alloc: Global) -> Option<Types> {
     }
 }
 
-/// Writes the lines about a byte of a part of a file.
+/// Writes the lines about a byte of a part of a file, if the file and types could be read.
 fn put_part(
     types: Option<Types>,
     file: &str,
@@ -202,6 +215,18 @@ fn put_part(
     let Some(part) = part else {
         return;
     };
+    put_at(&types.pool, types.parent, file, &part, at, lines);
+}
+
+/// Writes the lines about a byte of a part of a file.
+pub(crate) fn put_at(
+    pool: &Pool,
+    parent: Parent,
+    file: &str,
+    part: &Part,
+    at: At<'_>,
+    lines: &mut MemOutput,
+) {
     let byte = at.byte as usize;
     if byte > part.bytes.len() || part.offset.checked_add(at.byte).is_none() {
         return;
@@ -219,6 +244,6 @@ fn put_part(
         cause: at.cause,
     };
     let mut sink = Sink::new();
-    put_fault(&mut sink, lines, &types.pool, types.parent, given, refused);
+    put_fault(&mut sink, lines, pool, parent, given, refused);
     let _ = sink.finish(lines);
 }

@@ -13,6 +13,16 @@ pub(crate) struct Unlinked<'a> {
     pub cause: LinkCause,
 }
 
+impl<'a> Unlinked<'a> {
+    pub(crate) fn new(file: &'a str, full_name: &'a str, cause: LinkCause) -> Unlinked<'a> {
+        Unlinked {
+            file,
+            full_name,
+            cause,
+        }
+    }
+}
+
 /// Writes what a declaration of a file looks for, or what is there already.
 pub(crate) fn put_unlinked(file: &FileDecl, unlinked: Unlinked<'_>, lines: &mut MemOutput) {
     let Some(message) = message_around(file, unlinked.full_name) else {

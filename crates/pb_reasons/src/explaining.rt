@@ -2,11 +2,13 @@
 
 use crate::bytes::{At, explain_frame, explain_message, explain_set_bytes};
 use crate::declared::Unlinked;
+use crate::frames::explain_frames;
 use crate::lines::put;
 use crate::sets::{explain_set_file, explain_unlinked_set};
 use crate::sources::{explain_source, explain_unlinked_source, put_source};
 use crate::subject::Subject;
 use pb_files::{Files, Refusal, read_file};
+use pb_source::SourceFault;
 use pb_wire::{Limits, MemOutput};
 use std::alloc::Global;
 
@@ -20,11 +22,7 @@ pub fn explain<F: Files>(
 ) {
     match refusal {
         Refusal::Fault { byte, path, cause } => {
-            let at = At {
-                byte: *byte,
-                path,
-                cause: *cause,
-            };
+            let at = At::new(*byte, path, *cause);
             explain_message(alloc, subject, at, files, lines)
         }
         Refusal::Frame {
@@ -33,19 +31,12 @@ pub fn explain<F: Files>(
             path,
             cause,
         } => {
-            let at = At {
-                byte: *byte,
-                path,
-                cause: *cause,
-            };
+            let at = At::new(*byte, path, *cause);
             explain_frame(alloc, subject, *index, at, files, lines)
         }
+        Refusal::Frames { .. } => explain_frames(alloc, subject, files, lines),
         Refusal::Set { byte, path, cause } => {
-            let at = At {
-                byte: *byte,
-                path,
-                cause: *cause,
-            };
+            let at = At::new(*byte, path, *cause);
             explain_set_bytes(alloc, subject, at, files, lines)
         }
         Refusal::SetFile { file, cause } => explain_set_file(
@@ -56,18 +47,16 @@ pub fn explain<F: Files>(
             full_name,
             cause,
         } => {
-            let unlinked = Unlinked {
-                file: file.as_str(),
-                full_name: full_name.as_str(),
-                cause: *cause,
-            };
+            let unlinked = Unlinked::new(file.as_str(), full_name.as_str(), *cause);
             explain_unlinked(alloc, subject, unlinked, files, lines)
         }
-        Refusal::Source {
-            file,
-            byte,
-            cause: _,
-        } => explain_source(alloc, subject, file.as_str(), *byte, files, lines),
+        Refusal::Source { file, byte, cause } => {
+            let fault = SourceFault {
+                byte: *byte,
+                cause: *cause,
+            };
+            explain_source(alloc, subject, file.as_str(), fault, files, lines)
+        }
         Refusal::JsonText { byte, cause: _ } => explain_json_text(
             alloc, subject, *byte, files, lines,
         ),
@@ -75,7 +64,7 @@ pub fn explain<F: Files>(
         Refusal::File(path) => explain_device(path.as_str(), files, lines),
         Refusal::UnknownType(_)
         | Refusal::TooLarge
-        | Refusal::Frames { .. }
+        | Refusal::FrameJson { .. }
         | Refusal::Json { .. }
         | Refusal::Breaks
         | Refusal::Memory => {}

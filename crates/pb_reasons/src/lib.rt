@@ -5,8 +5,11 @@
 
 mod bytes;
 mod declared;
+mod expected;
 mod explaining;
+mod frames;
 mod lines;
+mod set_causes;
 mod sets;
 mod sources;
 mod subject;

@@ -2,15 +2,15 @@
 
 use crate::declared::{Unlinked, put_missing, put_unlinked};
 use crate::lines::put;
+use crate::set_causes::put_shown;
 use crate::subject::{SetAt, Subject};
-use pb_descr::{DeclCause, FileDecl, LenientSet, OmittedPart, read_set, read_set_lenient};
-use pb_explain::payload_of;
+use pb_descr::{DeclCause, FileDecl, LenientSet, read_set, read_set_lenient};
 use pb_files::{Files, Reading, read_file};
 use pb_link::LinkCause;
-use pb_wire::{Limits, MemOutput, PathStep};
+use pb_wire::{Limits, MemOutput};
 use std::alloc::Global;
 
-/// Writes the lines about a file of a descriptor set that is refused: its name, and what of it lenient reading would leave out.
+/// Writes the lines about a file of a descriptor set that is refused: its name, and the declaration that shows the cause.
 pub(crate) fn explain_set_file<F: Files>(
     alloc: Global,
     subject: Subject<'_>,
@@ -25,60 +25,7 @@ pub(crate) fn explain_set_file<F: Files>(
     let Ok(bytes) = read_file(alloc, Limits::FULL, set.file, files) else {
         return;
     };
-    put_file_name(&bytes, file, lines);
-    put_omitted(alloc, &bytes, file, cause, lines);
-}
-
-/// The name of a file of a set, by its index.
-fn put_file_name(set: &[u8], file: usize, lines: &mut MemOutput) {
-    let Ok(occurrence) = u32::try_from(file) else {
-        return;
-    };
-    let declared = PathStep {
-        number: 1,
-        occurrence,
-    };
-    let named = PathStep {
-        number: 1,
-        occurrence: 0,
-    };
-    let Some(bytes) = payload_of(set, declared) else {
-        return;
-    };
-    let Some(name) = payload_of(bytes, named) else {
-        return;
-    };
-    put(lines, b"  the file is ");
-    put(lines, name);
-    put(lines, b"\n");
-}
-
-/// The first declaration of a file that lenient reading takes something from, of the kind that a cause means.
-fn put_omitted(alloc: Global, set: &[u8], file: usize, cause: DeclCause, lines: &mut MemOutput) {
-    let Ok(lenient) = read_set_lenient(alloc, set) else {
-        return;
-    };
-    for omitted in lenient.omitted.as_slice() {
-        if omitted.file == file && means(cause, omitted.part) {
-            put(lines, b"  at ");
-            put(lines, omitted.name.as_str().as_bytes());
-            put(lines, b"\n");
-            return;
-        }
-    }
-}
-
-/// Whether a cause is that of a part.
-fn means(cause: DeclCause, part: OmittedPart) -> bool {
-    match cause {
-        DeclCause::Extension => matches!(
-            part,
-            OmittedPart::Extension | OmittedPart::ExtensionRange
-        ),
-        DeclCause::Required => part == OmittedPart::Required,
-        DeclCause::DefaultValue => part == OmittedPart::DefaultValue,
-        _ => false,
-    }
+    put_shown(alloc, set.reading, &bytes, file, cause, lines);
 }
 
 /// Writes the lines about a declaration of a set that does not link.

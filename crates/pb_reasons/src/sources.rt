@@ -1,27 +1,28 @@
 //! Sources that are refused, read again.
 
 use crate::declared::{Unlinked, put_missing, put_unlinked};
+use crate::expected::put_expected;
 use crate::subject::Subject;
 use pb_descr::FileDecl;
 use pb_explain::put_source_line;
 use pb_files::{Files, Reading};
 use pb_link::LinkCause;
 use pb_output::Sink;
-use pb_source::{parse, parse_lenient};
+use pb_source::{SourceFault, parse, parse_lenient};
 use pb_wire::{Limits, MemOutput, read_up_to};
 use std::alloc::{AllocError, Global};
 
-/// Writes the lines about a byte of a source: its line, its column, and the line itself with a mark.
+/// Writes the lines about a fault of a source: its line, its column, the line itself with a mark, and what was expected.
 pub(crate) fn explain_source<F: Files>(
     alloc: Global,
     subject: Subject<'_>,
     name: &str,
-    byte: u64,
+    fault: SourceFault,
     files: &mut F,
     lines: &mut MemOutput,
 ) {
     let Subject::Sources {
-        reading: _,
+        reading,
         root,
         others,
     } = subject
@@ -31,7 +32,8 @@ pub(crate) fn explain_source<F: Files>(
     let Some(source) = source_of(alloc, root, others, name, files) else {
         return;
     };
-    put_source(source.as_slice(), byte, lines);
+    put_source(source.as_slice(), fault.byte, lines);
+    put_expected(alloc, reading, source.as_slice(), fault, lines);
 }
 
 /// The bytes of a source under the first root that has it.

@@ -1,4 +1,4 @@
--- The readers of oneofs, enums and services read them.
+-- The readers of enums and services read them.
 use Rattle.std.proofs.Common.{◌≡◌, ℕ, List, [], ◌∷◌, ◌++◌, Bool, true, false, ◌||◌, codes, refl, ap, sym, ◌∙◌, subst, Option, Some, None, Err, inl, inr}
 use Rattle.std.specs.Prelude.{if◌then◌else◌, zero, suc}
 use Rattle.std.specs.Str.{bytes_eq}
@@ -19,20 +19,17 @@ use Rattle.pb_tokens.proofs.KindLemmas.{first_kind, ByKind, Offers, kinds_fail, 
 use Rattle.pb_tokens.proofs.NameLaws.{reads_name, name_first, reads_typename}
 use Rattle.pb_tokens.proofs.OptionLaws.{reads_option, reads_setting, reads_signed, reads_value_end, end_stops, end_constant}
 use Rattle.pb_tokens.proofs.RangeLaws.{reads_enum_range, enum_range_first}
-use Rattle.pb_source.specs.declared.kind.Label.TheVariants.{Unlabelled}
 use Rattle.pb_source.specs.declared.kind.EnumKind.{EnumKind}
 use Rattle.pb_source.specs.declared.kind.EnumKind.TheVariants as in_enum
-use Rattle.pb_source.specs.declared.kind.OneofKind.{OneofKind}
-use Rattle.pb_source.specs.declared.kind.OneofKind.TheVariants as in_a_oneof
 use Rattle.pb_source.specs.declared.kind.ServiceKind.{ServiceKind}
 use Rattle.pb_source.specs.declared.kind.ServiceKind.TheVariants as in_service
 use Rattle.pb_source.specs.declared.kind.MethodKind.{MethodKind}
 use Rattle.pb_source.specs.declared.kind.MethodKind.TheVariants as in_method
 use Rattle.pb_source.specs.Meaning.{EnumStatement, those_said, enum_of}
-use Rattle.pb_source.specs.Grammar.{field, oneof_statement, oneof, enum_statement, enum_line, streamed, parameter, method_statement, method_end, method, service_statement, service}
-use Rattle.pb_source.specs.Readers.Lines.{is_closing, oneof_kind, oneof_line, oneof_statement_reader, oneof_reader, said_of_alias, enum_kind, value_reader, enum_statement_line, enum_statement_reader, enum_reader, streams, streamed_reader, method_kind, method_line, method_statement_reader, method_end_reader, method_from, parameter_reader, method_reader, service_kind, service_line, service_statement_reader, service_from, service_reader}
+use Rattle.pb_source.specs.Grammar.{enum_statement, enum_line, streamed, parameter, method_statement, method_end, method, service_statement, service}
+use Rattle.pb_source.specs.Readers.Lines.{is_closing, said_of_alias, enum_kind, value_reader, enum_statement_line, enum_statement_reader, enum_reader, streams, streamed_reader, method_kind, method_line, method_statement_reader, method_end_reader, method_from, parameter_reader, method_reader, service_kind, service_line, service_statement_reader, service_from, service_reader}
 use Rattle.pb_source.proofs.StatementKinds.{kind_other, not_in_table, kind_one, kind_then, reads_braced}
-use Rattle.pb_source.proofs.FieldLaws.{reads_field, begins_type, field_first}
+use Rattle.pb_source.proofs.FieldLaws.{begins_type}
 use Rattle.pb_source.proofs.ReservedLaws.{Reserved, reads_reserved, reserved_first}
 
 -- ---- statements that say nothing
@@ -52,66 +49,6 @@ not_empty_then s (a, b, ha, hb, j) = let e : [] ≡ s ∷ b = j ∙ ap (λ a. a 
 
 pub closing_of_none : {K : Type 0} (kind : Symbol → Option K) → kind (sign (codes "}")) ≡ None → (s : Symbol) → is_closing s ≡ true → kind s ≡ None
 closing_of_none kind h s e = ap kind (is_the_sign (codes "}") s e) ∙ h
-
--- ---- oneofs
-
-abbrev OneofLine : (grammar : Grammar) → OneofKind → Rules → Option DeclaredField → Language
-OneofLine grammar in_a_oneof.Empty = Silent None (λ rules. mark ";")
-OneofLine grammar in_a_oneof.Option = Silent None (option grammar)
-OneofLine grammar in_a_oneof.Field = Mapped Some (λ rules. field grammar rules Unlabelled)
-
-oneof_offers : (grammar : Grammar) → (n : ℕ) (k : OneofKind) → Offers n never (OneofLine grammar k) (oneof_line grammar n k)
-oneof_offers grammar n in_a_oneof.Empty = reads_silent_end None
-oneof_offers grammar n in_a_oneof.Option = reads_silent_option grammar None
-oneof_offers grammar n in_a_oneof.Field = reads_mapped Some (reads_field grammar n Unlabelled)
-
-oneof_filled : (grammar : Grammar) → (k : OneofKind) (rules : Rules) (o : Option DeclaredField) → OneofLine grammar k rules o [] → ⊥
-oneof_filled grammar in_a_oneof.Empty rules o d = cc d.2
-oneof_filled grammar in_a_oneof.Option rules o d = not_empty_then (word (codes "option")) d.2
-oneof_filled grammar in_a_oneof.Field rules o d = false≢true (field_first grammar rules Unlabelled d.0 [] d.2)
-
-begins_field : (c : List Symbol) → BeginsNot ("option" ∷ []) c → first_passes begins_type c ≡ true → first_kind oneof_kind c ≡ Some in_a_oneof.Field
-begins_field [] b h = absurd (false≢true h)
-begins_field (word w ∷ c) b h = kind_other ((codes "option", Some in_a_oneof.Option) ∷ []) (Some in_a_oneof.Field) w b
-begins_field (sign w ∷ c) b h = ap oneof_kind (ap sign ((bytes_eq-Decides w (codes ".")).0 h))
-begins_field (number w ∷ c) b h = absurd (false≢true h)
-begins_field (text w ∷ c) b h = absurd (false≢true h)
-
-field_begins : (c : List Symbol) → first_kind oneof_kind c ≡ Some in_a_oneof.Field → BeginsNot ("option" ∷ []) c
-field_begins [] h = tt
-field_begins (word w ∷ c) h = not_in_table ((codes "option", Some in_a_oneof.Option) ∷ []) in_a_oneof.Field w ((λ e. cc e), tt) h
-field_begins (number w ∷ c) h = tt
-field_begins (text w ∷ c) h = tt
-field_begins (sign w ∷ c) h = tt
-
-to_oneof : (grammar : Grammar) → (rules : Rules) (o : Option DeclaredField) (c : List Symbol) → ByKind oneof_kind (OneofLine grammar) rules o c → oneof_statement grammar rules o c
-to_oneof grammar rules o c (in_a_oneof.Empty, h, (u, e, d)) = subst (λ o. oneof_statement grammar rules o c) (sym e) (inr d)
-to_oneof grammar rules o c (in_a_oneof.Option, h, (u, e, d)) = subst (λ o. oneof_statement grammar rules o c) (sym e) (inl d)
-to_oneof grammar rules o c (in_a_oneof.Field, h, (f, e, d)) = subst (λ o. oneof_statement grammar rules o c) (sym e) (field_begins c h, d)
-
-of_oneof : (grammar : Grammar) → (rules : Rules) (o : Option DeclaredField) (c : List Symbol) → oneof_statement grammar rules o c → ByKind oneof_kind (OneofLine grammar) rules o c
-of_oneof grammar rules None c (inl d) = (in_a_oneof.Option, kind_then oneof_kind (word (codes "option")) c d, (tt, refl, d))
-of_oneof grammar rules None c (inr d) = (in_a_oneof.Empty, kind_one oneof_kind (sign (codes ";")) c d, (tt, refl, d))
-of_oneof grammar rules (Some f) c (b, d) = (in_a_oneof.Field, begins_field c b (field_first grammar rules Unlabelled f c d), (f, refl, d))
-
-reads_oneof_statement : (grammar : Grammar) → (n : ℕ) → Reads n never (oneof_statement grammar) (oneof_statement_reader grammar n)
-unfolding oneof_statement_reader
-reads_oneof_statement grammar n =
-    said_so {Q = oneof_statement grammar}
-    (reads_kinds n never oneof_kind (OneofLine grammar) (oneof_line grammar n) (oneof_offers grammar n) (oneof_filled grammar) (λ rules. (None, sign (codes ";") ∷ [], (in_a_oneof.Empty, refl, (tt, refl, refl)))))
-    (to_oneof grammar) (of_oneof grammar)
-
-pub reads_oneof : (grammar : Grammar) → (n : ℕ) → Reads n never (λ rules x. oneof grammar rules x.0 x.1) (oneof_reader grammar n)
-unfolding oneof_reader
-reads_oneof grammar n =
-    said_so {Q = λ rules x. oneof grammar rules x.0 x.1}
-    (reads_behind {L = λ rules. keyword "oneof"} (reads_keyword (codes "oneof"))
-    (reads_both reads_name (reads_mapped those_said
-    (reads_braced (reads_oneof_statement grammar n)
-    (λ rules o c rest d. kinds_fail oneof_kind (OneofLine grammar) is_closing (closing_of_none oneof_kind refl) rules o c rest (of_oneof grammar rules o c d))
-    (λ rules o c d. kinds_filled oneof_kind (OneofLine grammar) rules o c (of_oneof grammar rules o c d))))))
-    (λ rules x c d. (d.3.3.0, d.3.3.1, (d.0, d.1, d.2, (d.3.0, d.3.1, d.3.2, d.3.3.2, d.3.4), d.4)))
-    (λ rules x c d. (d.2.0, d.2.1, d.2.2, (d.2.3.0, d.2.3.1, d.2.3.2, (d.0, d.1, d.2.3.3), d.2.3.4), d.2.4))
 
 -- ---- enums
 

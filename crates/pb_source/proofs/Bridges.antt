@@ -10,8 +10,7 @@ use Rattle.pb_tokens.proofs.SymbolTests.{reads_keyword}
 use Rattle.pb_tokens.proofs.Compose.{never}
 use Rattle.pb_source.specs.Syntaxes.{is_proto2}
 use Rattle.pb_source.specs.declared.kind.Label.TheVariants.{Unlabelled}
-use Rattle.pb_source.specs.Meaning.{MessageStatement}
-use Rattle.pb_source.specs.Readers.Lines.{field_tail_reader, field_from, field_reader, dotted_reader, of_map_reader, map_reader}
+use Rattle.pb_source.specs.Readers.Lines.{a_single, field_tail_reader, field_from, field_reader, dotted_reader, of_map_reader, map_reader}
 
 -- names behind a first one, whether the first is put before them or not
 names_so : {U V : Type 0} (dot : Outcome U) (names : List Symbol → Outcome (List (List ℕ))) (w : List ℕ) (g : List (List ℕ) → V)
@@ -36,16 +35,16 @@ type_so n rules w ts = by_dot (first_passes is_dot ts)
 
 -- where no `<` follows the word `map`, it is a field's type
 map_then : (grammar : Grammar) → (n : ℕ) (rules : Rules) (ts : List Symbol) → is_proto2 grammar ≡ false → first_passes (is_mark (codes "<")) ts ≡ false
-    → map_reader grammar n rules (word (codes "map") ∷ ts) ≡ mapped MessageStatement.a_field (field_reader grammar (suc n) Unlabelled) rules (word (codes "map") ∷ ts)
+    → map_reader grammar n rules (word (codes "map") ∷ ts) ≡ mapped a_single (field_reader grammar (suc n) Unlabelled) rules (word (codes "map") ∷ ts)
 unfolding map_reader of_map_reader field_reader
 map_then grammar n rules ts p h =
     rw (p, h)
-    (ap (λ o. on_outcome (on_outcome (on_outcome o (λ t r. mapped (λ x. (t, x)) (field_tail_reader grammar (suc n)) rules r)) (λ x r. answer (field_from Unlabelled x) rules r)) (λ f r. answer (MessageStatement.a_field f) rules r))
+    (ap (λ o. on_outcome (on_outcome (on_outcome o (λ t r. mapped (λ x. (t, x)) (field_tail_reader grammar (suc n)) rules r)) (λ x r. answer (field_from Unlabelled x) rules r)) (λ f r. answer (a_single f) rules r))
     (sym (type_so n rules (codes "map") ts)))
 
 pub map_is_field : (grammar : Grammar) → (n : ℕ) (rules : Rules) (ts mid : List Symbol) → is_proto2 grammar ≡ false → keyword_reader (codes "map") rules ts ≡ Ok (tt, mid) → first_passes (is_mark (codes "<")) mid ≡ false
-    → map_reader grammar n rules ts ≡ mapped MessageStatement.a_field (field_reader grammar (suc n) Unlabelled) rules ts
+    → map_reader grammar n rules ts ≡ mapped a_single (field_reader grammar (suc n) Unlabelled) rules ts
 map_is_field grammar n rules ts mid p h k =
     let a = (reads_keyword {n = length ts} {e = never} (codes "map")).sound rules ts tt mid (omega arith) h in
     let e : ts ≡ word (codes "map") ∷ mid = a.joined ∙ ap (λ c. c ++ mid) a.derived in
-    subst (λ ts. map_reader grammar n rules ts ≡ mapped MessageStatement.a_field (field_reader grammar (suc n) Unlabelled) rules ts) (sym e) (map_then grammar n rules mid p k)
+    subst (λ ts. map_reader grammar n rules ts ≡ mapped a_single (field_reader grammar (suc n) Unlabelled) rules ts) (sym e) (map_then grammar n rules mid p k)

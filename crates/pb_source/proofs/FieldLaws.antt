@@ -23,7 +23,7 @@ use Rattle.pb_source.specs.declared.kind.Label.{Label}
 use Rattle.pb_source.specs.declared.kind.Label.TheVariants.{Unlabelled}
 use Rattle.pb_source.specs.Meaning.{MapDecl, MessageStatement}
 use Rattle.pb_source.specs.Grammar.{lined, field, map_line}
-use Rattle.pb_source.specs.Readers.Lines.{field_tail_reader, field_from, field_reader, map_from, map_tail_reader, dotted_reader, of_map_reader, map_rest_reader, map_reader}
+use Rattle.pb_source.specs.Readers.Lines.{a_single, field_tail_reader, field_from, field_reader, map_from, map_tail_reader, dotted_reader, of_map_reader, map_rest_reader, map_reader}
 
 -- ---- fields
 
@@ -112,7 +112,7 @@ not_less grammar rules f c rest (x, e, (a, b, (ws, i, inr d), hb, j)) =
 -- what follows the word `map`, where each field has a label, or where it may have none
 abbrev MapRest : Bool → (grammar : Grammar) → Rules → MessageStatement → Language
 MapRest true grammar = Mapped MessageStatement.a_map (MapTail grammar)
-MapRest false grammar = λ rules st. Mapped MessageStatement.a_map (MapTail grammar) rules st or Mapped MessageStatement.a_field (OfMap grammar) rules st
+MapRest false grammar = λ rules st. Mapped MessageStatement.a_map (MapTail grammar) rules st or Mapped a_single (OfMap grammar) rules st
 
 abbrev MapOrField : Bool → (grammar : Grammar) → Rules → MessageStatement → Language
 MapOrField labelled grammar = Behind (λ rules. keyword "map") (MapRest labelled grammar)
@@ -120,7 +120,7 @@ MapOrField labelled grammar = Behind (λ rules. keyword "map") (MapRest labelled
 abbrev MapOrNamed : Bool → (grammar : Grammar) → Rules → MessageStatement → Language
 MapOrNamed labelled grammar rules st ts =
     ((m : MapDecl) × (st ≡ MessageStatement.a_map m) × map_line grammar rules m ts)
-    ⊎ ((f : DeclaredField) × (st ≡ MessageStatement.a_field f) × (first_passes (is_keyword (codes "map")) ts ≡ true) × lined (not labelled) (field grammar rules Unlabelled f) ts)
+    ⊎ ((f : DeclaredField) × (st ≡ a_single f) × (first_passes (is_keyword (codes "map")) ts ≡ true) × lined (not labelled) (field grammar rules Unlabelled f) ts)
 
 -- a map field, or a field without a label whose type begins with the word `map`
 abbrev pub MapLine : (grammar : Grammar) → Rules → MessageStatement → Language
@@ -153,7 +153,7 @@ to_map_line false grammar rules st c (a, b, ha, inr (f, e, (x, i, (p, q, (ws, k,
       ),
     )
 
-module _ (grammar : Grammar) (rules : Rules) (st : MessageStatement) (c : List Symbol) (f : DeclaredField) (e : st ≡ MessageStatement.a_field f) (h : first_passes (is_keyword (codes "map")) c ≡ true)
+module _ (grammar : Grammar) (rules : Rules) (st : MessageStatement) (c : List Symbol) (f : DeclaredField) (e : st ≡ a_single f) (h : first_passes (is_keyword (codes "map")) c ≡ true)
     (t : TypeSaid) (x : List ℕ × (ℕ × Option Bool)) (i : f ≡ field_from Unlabelled (t, x)) (u r : List Symbol) (hr : (Tail grammar) rules x r) (j : c ≡ u ++ r) where
   no_dot : Dotted rules t u → ⊥
   no_dot (a, b, ha, hb, k) =
@@ -189,7 +189,7 @@ reads_map_rest : (labelled : Bool) (grammar : Grammar) (n : ℕ) → Reads n nev
 reads_map_rest true grammar n = reads_mapped MessageStatement.a_map (reads_less (suc n) n never (MapTail grammar) (map_tail_reader grammar (suc n)) (omega arith) (reads_map_tail grammar (suc n)))
 reads_map_rest false grammar n =
     (reads_either (is_mark (codes "<")) (reads_mapped MessageStatement.a_map (reads_less (suc n) n never (MapTail grammar) (map_tail_reader grammar (suc n)) (omega arith) (reads_map_tail grammar (suc n))))
-    (reads_mapped MessageStatement.a_field (reads_of_map grammar n))
+    (reads_mapped a_single (reads_of_map grammar n))
     (λ rules st c d. headed_then (is_mark (codes "<")) (headed_one (is_mark (codes "<")) (sign (codes "<")) refl) c d.2)
     (λ rules st c rest d s. not_less grammar rules d.0 c rest d.2))
 

@@ -26,15 +26,18 @@ use Rattle.pb_tokens.proofs.OptionLaws.{end_stops}
 use Rattle.pb_tokens.proofs.RangeLaws.{reads_utf8}
 use Rattle.pb_source.specs.declared.reading.Reading.{Reading}
 use Rattle.pb_source.specs.declared.reading.Reading.TheVariants as reading
+use Rattle.pb_decl.specs.Decls.{DeclaredMessage}
+use Rattle.pb_source.specs.Syntaxes.{is_lenient}
 use Rattle.pb_source.specs.declared.kind.FileKind.{FileKind}
 use Rattle.pb_source.specs.declared.kind.FileKind.TheVariants as kind
 use Rattle.pb_source.specs.Meaning.{FileStatement, all_said, packages_said}
-use Rattle.pb_source.specs.Grammar.{enum_line, extend, message, room, service, access, file_statement, syntax_said, syntax_line, file}
-use Rattle.pb_source.specs.Readers.Lines.{extend_reader, access_reader, import_reader, package_reader, file_kind, file_line, file_statement_reader, syntax_word_in, syntax_text_in, strict_syntax_reader, named_syntax, named_syntax_in, lenient_syntax_reader, begins_syntax, syntax_reader, is_package, statements_reader, file_reader}
+use Rattle.pb_source.specs.Grammar.{beyond_strict, enum_line, extend, body, message, room, service, access, file_statement, syntax_said, syntax_line, file}
+use Rattle.pb_source.specs.Readers.Lines.{nested_in, extend_reader, access_reader, import_reader, package_reader, file_kind, file_line, file_statement_reader, syntax_word_in, syntax_text_in, strict_syntax_reader, named_syntax, named_syntax_in, lenient_syntax_reader, begins_syntax, syntax_reader, is_package, statements_reader, file_reader}
 use Rattle.pb_source.proofs.StatementKinds.{kind_one, kind_then, kind_front}
-use Rattle.pb_source.proofs.ExtensionLaws.{Beyond, offers_beyond, beyond_filled, beyond_kind, reads_extend}
+use Rattle.pb_source.proofs.ExtensionLaws.{offers_lined, reads_extend}
+use Rattle.pb_source.proofs.GrammarLines.{lined_kept}
 use Rattle.pb_source.proofs.BodyLaws.{Silent, reads_silent_end, reads_silent_option, not_empty_then, reads_enum, reads_service}
-use Rattle.pb_source.proofs.MessageLaws.{reads_message, file_message_first}
+use Rattle.pb_source.proofs.MessageLaws.{reads_message, nests_in_file, file_message_first}
 
 -- ---- imports and packages
 
@@ -114,6 +117,10 @@ Once said s = (said ≡ false) ⊎ (is_package s ≡ false)
 abbrev pub StatementOnce : (grammar : Grammar) → Bool → Rules → FileStatement → Language
 StatementOnce grammar said rules s ts = Once said s × file_statement grammar rules s ts
 
+-- a block of `extend`
+abbrev Extend : Grammar → Rules → List DeclaredMessage → Language
+Extend grammar rules = extend grammar rules (body grammar rules (room rules))
+
 abbrev FileLine : (grammar : Grammar) → Bool → FileKind → Rules → FileStatement → Language
 FileLine grammar said kind.Empty = Silent FileStatement.nothing_said (λ rules. mark ";")
 FileLine grammar said kind.Option = Silent FileStatement.nothing_said (option grammar)
@@ -123,7 +130,7 @@ FileLine grammar false kind.Package = Mapped FileStatement.a_package Package
 FileLine grammar said kind.Message = Mapped FileStatement.a_message (λ rules. message grammar rules (room rules))
 FileLine grammar said kind.Enum = Mapped FileStatement.an_enum (enum_line grammar)
 FileLine grammar said kind.Service = Mapped FileStatement.a_service (service grammar)
-FileLine grammar said kind.Extend = Beyond grammar FileStatement.nothing_said (extend grammar)
+FileLine grammar said kind.Extend = Mapped FileStatement.an_extend (λ rules ms. beyond_strict grammar (Extend grammar rules ms))
 
 file_offers : (grammar : Grammar) → (n : ℕ) (said : Bool) (k : FileKind) → Offers n never (FileLine grammar said k) (file_line grammar n said k)
 file_offers grammar n said kind.Empty = reads_silent_end FileStatement.nothing_said
@@ -134,7 +141,9 @@ file_offers grammar n false kind.Package = reads_mapped FileStatement.a_package 
 file_offers grammar n said kind.Message = reads_mapped FileStatement.a_message (reads_message grammar n)
 file_offers grammar n said kind.Enum = reads_mapped FileStatement.an_enum (reads_enum grammar n)
 file_offers grammar n said kind.Service = reads_mapped FileStatement.a_service (reads_service grammar n)
-file_offers grammar n said kind.Extend = offers_beyond grammar FileStatement.nothing_said (extend grammar) (extend_reader grammar n) (reads_extend grammar n)
+file_offers grammar n said kind.Extend =
+    offers_lined (is_lenient grammar) FileStatement.an_extend (Extend grammar) (extend_reader grammar n (nested_in grammar n 64))
+    (reads_extend grammar n (λ rules. body grammar rules (room rules)) (nested_in grammar n 64) (nests_in_file grammar n))
 
 file_filled : (grammar : Grammar) → (said : Bool) (k : FileKind) (rules : Rules) (s : FileStatement) → FileLine grammar said k rules s [] → ⊥
 file_filled grammar said kind.Empty rules s d = cc d.2
@@ -145,15 +154,15 @@ file_filled grammar false kind.Package rules s d = not_empty_then (word (codes "
 file_filled grammar said kind.Message rules s d = false≢true (file_message_first grammar rules d.0 [] d.2)
 file_filled grammar said kind.Enum rules s d = not_empty_then (word (codes "enum")) d.2.3
 file_filled grammar said kind.Service rules s d = not_empty_then (word (codes "service")) d.2.2
-file_filled grammar said kind.Extend rules s d = beyond_filled grammar FileStatement.nothing_said (extend grammar) rules s (λ d. not_empty_then (word (codes "extend")) d.2) d
+file_filled grammar said kind.Extend rules s d = not_empty_then (word (codes "extend")) (lined_kept (is_lenient grammar) (Extend grammar rules d.0) [] d.2).3
 
 package_so : (grammar : Grammar) → (said : Bool) (rules : Rules) (s : FileStatement) (c : List Symbol) → FileLine grammar said kind.Package rules s c → StatementOnce grammar said rules s c
 package_so grammar true rules s c d = absurd d
 package_so grammar false rules s c (p, e, (ws, i, d)) = subst (λ s. StatementOnce grammar false rules s c) (sym e) (inl refl, (ws, i, d))
 
 to_file : (grammar : Grammar) → (said : Bool) (rules : Rules) (s : FileStatement) (c : List Symbol) → ByKind file_kind (FileLine grammar said) rules s c → StatementOnce grammar said rules s c
-to_file grammar said rules s c (kind.Empty, h, (u, e, d)) = subst (λ s. StatementOnce grammar said rules s c) (sym e) (inr refl, inr (inl d))
-to_file grammar said rules s c (kind.Extend, h, (u, e, d)) = subst (λ s. StatementOnce grammar said rules s c) (sym e) (inr refl, inr (inr d))
+to_file grammar said rules s c (kind.Empty, h, (u, e, d)) = subst (λ s. StatementOnce grammar said rules s c) (sym e) (inr refl, inr d)
+to_file grammar said rules s c (kind.Extend, h, (ms, e, d)) = subst (λ s. StatementOnce grammar said rules s c) (sym e) (inr refl, d)
 to_file grammar said rules s c (kind.Option, h, (u, e, d)) = subst (λ s. StatementOnce grammar said rules s c) (sym e) (inr refl, inl d)
 to_file grammar said rules s c (kind.Import, h, (x, e, d)) = subst (λ s. StatementOnce grammar said rules s c) (sym e) (inr refl, d)
 to_file grammar said rules s c (kind.Package, h, d) = package_so grammar said rules s c d
@@ -168,9 +177,9 @@ of_package grammar false rules p c o d = (p, refl, d)
 
 of_file : (grammar : Grammar) → (said : Bool) (rules : Rules) (s : FileStatement) (c : List Symbol) → StatementOnce grammar said rules s c → ByKind file_kind (FileLine grammar said) rules s c
 of_file grammar said rules FileStatement.nothing_said c (o, inl d) = (kind.Option, kind_then file_kind (word (codes "option")) c d, (tt, refl, d))
-of_file grammar said rules FileStatement.nothing_said c (o, inr (inl d)) = (kind.Empty, kind_one file_kind (sign (codes ";")) c d, (tt, refl, d))
-of_file grammar said rules FileStatement.nothing_said c (o, inr (inr d)) =
-    (kind.Extend, beyond_kind grammar file_kind kind.Extend (extend grammar rules) c (λ d. kind_then file_kind (word (codes "extend")) c d.2) d, (tt, refl, d))
+of_file grammar said rules FileStatement.nothing_said c (o, inr d) = (kind.Empty, kind_one file_kind (sign (codes ";")) c d, (tt, refl, d))
+of_file grammar said rules (FileStatement.an_extend ms) c (o, d) =
+    (kind.Extend, kind_then file_kind (word (codes "extend")) c (lined_kept (is_lenient grammar) (Extend grammar rules ms) c d).3, (ms, refl, d))
 of_file grammar said rules (FileStatement.an_import p f) c (o, d) = (kind.Import, kind_then file_kind (word (codes "import")) c d, ((p, f), refl, d))
 of_file grammar said rules (FileStatement.a_package p) c (o, d) = (kind.Package, kind_then file_kind (word (codes "package")) c d.2, of_package grammar said rules p c o d)
 of_file grammar said rules (FileStatement.a_message m) c (o, d) =
@@ -360,12 +369,14 @@ counted true (FileStatement.a_package p) (inr h) = absurd (false≢true (sym h))
 counted true FileStatement.nothing_said o = refl
 counted true (FileStatement.an_import p f) o = refl
 counted true (FileStatement.a_message m) o = refl
+counted true (FileStatement.an_extend ms) o = refl
 counted true (FileStatement.an_enum e) o = refl
 counted true (FileStatement.a_service s) o = refl
 counted false FileStatement.nothing_said o = refl
 counted false (FileStatement.an_import p f) o = refl
 counted false (FileStatement.a_package p) o = refl
 counted false (FileStatement.a_message m) o = refl
+counted false (FileStatement.an_extend ms) o = refl
 counted false (FileStatement.an_enum e) o = refl
 counted false (FileStatement.a_service s) o = refl
 
@@ -375,6 +386,7 @@ once true (FileStatement.a_package p) l = absurd (omega arith)
 once true FileStatement.nothing_said l = inr refl
 once true (FileStatement.an_import p f) l = inr refl
 once true (FileStatement.a_message m) l = inr refl
+once true (FileStatement.an_extend ms) l = inr refl
 once true (FileStatement.an_enum e) l = inr refl
 once true (FileStatement.a_service s) l = inr refl
 

@@ -6,21 +6,11 @@ use Rattle.pb_tokens.specs.declared.symbol.Placed.{Placed}
 use Rattle.pb_tokens.specs.Language.{all_rules}
 use Rattle.pb_tokens.specs.Readers.Given.{symbols_from}
 use Rattle.pb_tokens.proofs.UntilSteps.{length_from}
-use Rattle.pb_source.specs.Meaning.{FileStatement, all_said, packages_said, file_messages}
-use Rattle.pb_source.specs.PartsView.{OnePackage, messages_listed}
+use Rattle.pb_source.specs.Meaning.{FileStatement, all_said, packages_said}
+use Rattle.pb_source.specs.PartsView.{OnePackage}
 use Rattle.pb_source.specs.Readers.Lines.{is_package, file_statement_reader}
 use Rattle.pb_source.proofs.FileLaws.{Once, count, counted, at_most_one, reads_file_statement}
 use Rattle.pb_source.proofs.SaidSteps.{all_said-push}
-use Rattle.pb_decl.specs.Decls.{more_messages, messages_of}
-
-pub listed_messages : (ss : List FileStatement) → messages_of (all_said messages_listed ss) ≡ file_messages ss
-listed_messages [] = refl
-listed_messages (FileStatement.nothing_said ∷ ss) = listed_messages ss
-listed_messages (FileStatement.an_import is_public f ∷ ss) = listed_messages ss
-listed_messages (FileStatement.a_package p ∷ ss) = listed_messages ss
-listed_messages (FileStatement.a_message m ∷ ss) = ap (more_messages m) (listed_messages ss)
-listed_messages (FileStatement.an_enum e ∷ ss) = listed_messages ss
-listed_messages (FileStatement.a_service s ∷ ss) = listed_messages ss
 
 -- ---- at most one package
 

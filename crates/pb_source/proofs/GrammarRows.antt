@@ -22,7 +22,7 @@ use Rattle.pb_source.specs.Meaning.{FileStatement, MessageStatement, MapDecl, fi
 use Rattle.pb_source.specs.Grammar.{file, FileSyntax}
 use Rattle.pb_source.specs.SyntaxFault.{Fault, SyntaxFault}
 use Rattle.pb_source.specs.Source.{place_in, HasFault, HasFaultIn}
-use Rattle.pb_source.specs.Readers.Lines.{field_tail_reader, field_reader, map_tail_reader, dotted_reader, of_map_reader, map_reader, oneof_statement_reader, oneof_reader, reserved_reader, value_reader, enum_statement_reader, enum_reader, message_statement_reader, message_line_reader, last_statement_reader, room_statement_reader, streamed_reader, method_statement_reader, method_end_reader, parameter_reader, method_reader, service_statement_reader, service_reader, access_reader, import_reader, package_reader, file_statement_reader, strict_syntax_reader, syntax_reader, file_reader}
+use Rattle.pb_source.specs.Readers.Lines.{field_tail_reader, field_reader, map_tail_reader, dotted_reader, of_map_reader, map_reader, group_head_reader, ungrouped_reader, oneof_statement_reader, oneof_reader, reserved_reader, value_reader, enum_statement_reader, enum_reader, message_line_reader, allowed_statement_reader, nested_in, a_single, streamed_reader, method_statement_reader, method_end_reader, parameter_reader, method_reader, service_statement_reader, service_reader, access_reader, import_reader, package_reader, file_statement_reader, strict_syntax_reader, syntax_reader, file_reader}
 use Rattle.pb_source.proofs.FaultLemmas.{refused_so, words_read, read_words}
 use Rattle.pb_source.proofs.FileLaws.{reads_file}
 
@@ -50,8 +50,8 @@ opened : ℕ → List Symbol → Outcome (Grammar × List FileStatement)
 unfolding
     name_reader fullname_reader typename_reader limited_reader signed_reader plus_or_minus_reader signed_value_reader unquoted_reader constant_reader part_reader optname_reader assignment_reader option_reader setting_reader
     field_option_reader options_reader ended_reader value_end_reader type_reader key_reader field_tail_reader field_reader map_tail_reader dotted_reader of_map_reader map_reader
-    oneof_statement_reader oneof_reader range_reader utf8_reader reserved_reader value_reader enum_statement_reader enum_reader message_statement_reader message_line_reader
-    last_statement_reader room_statement_reader streamed_reader method_statement_reader method_end_reader parameter_reader method_reader service_statement_reader service_reader
+    group_head_reader ungrouped_reader oneof_statement_reader oneof_reader range_reader utf8_reader reserved_reader value_reader enum_statement_reader enum_reader
+    message_line_reader allowed_statement_reader nested_in streamed_reader method_statement_reader method_end_reader parameter_reader method_reader service_statement_reader service_reader
     access_reader import_reader package_reader file_statement_reader strict_syntax_reader syntax_reader file_reader
 opened n ts = file_reader reading.Strict n all_rules ts
 
@@ -93,8 +93,8 @@ in_message ts = proto3 ++ w "message" ∷ w "M" ∷ m "{" ∷ (ts ++ m "}" ∷ [
 one_field : FileSyntax (codes "m.proto") (in_message (int_field "a")) (of_fields (plain_field "a" ∷ []) no_messages)
 unfolding opened
 one_field = (
-  (Strict, FileStatement.a_message (message_of (codes "M") (MessageStatement.a_field (plain_field "a") ∷ [])) ∷ []),
-  read_words always (file reading.Strict) (file_reader reading.Strict) (reads_file reading.Strict) (in_message (int_field "a")) (Strict, FileStatement.a_message (message_of (codes "M") (MessageStatement.a_field (plain_field "a") ∷ [])) ∷ []) 20 (lit≤ tt) refl,
+  (Strict, FileStatement.a_message (message_of (codes "M") (a_single (plain_field "a") ∷ [])) ∷ []),
+  read_words always (file reading.Strict) (file_reader reading.Strict) (reads_file reading.Strict) (in_message (int_field "a")) (Strict, FileStatement.a_message (message_of (codes "M") (a_single (plain_field "a") ∷ [])) ∷ []) 20 (lit≤ tt) refl,
   refl,
 )
 
@@ -102,8 +102,8 @@ one_field = (
 named_message : FileSyntax (codes "m.proto") (in_message (int_field "message")) (of_fields (plain_field "message" ∷ []) no_messages)
 unfolding opened
 named_message = (
-  (Strict, FileStatement.a_message (message_of (codes "M") (MessageStatement.a_field (plain_field "message") ∷ [])) ∷ []),
-  read_words always (file reading.Strict) (file_reader reading.Strict) (reads_file reading.Strict) (in_message (int_field "message")) (Strict, FileStatement.a_message (message_of (codes "M") (MessageStatement.a_field (plain_field "message") ∷ [])) ∷ []) 20 (lit≤ tt) refl,
+  (Strict, FileStatement.a_message (message_of (codes "M") (a_single (plain_field "message") ∷ [])) ∷ []),
+  read_words always (file reading.Strict) (file_reader reading.Strict) (reads_file reading.Strict) (in_message (int_field "message")) (Strict, FileStatement.a_message (message_of (codes "M") (a_single (plain_field "message") ∷ [])) ∷ []) 20 (lit≤ tt) refl,
   refl,
 )
 
@@ -132,9 +132,9 @@ an_optional : FileSyntax (codes "m.proto") (in_message (w "optional" ∷ int_fie
 })
 unfolding opened
 an_optional = (
-  (Strict, FileStatement.a_message (message_of (codes "M") (MessageStatement.a_field (field_of Optional (a_scalar code.Int32) (codes "a") 1 None) ∷ [])) ∷ []),
+  (Strict, FileStatement.a_message (message_of (codes "M") (a_single (field_of Optional (a_scalar code.Int32) (codes "a") 1 None) ∷ [])) ∷ []),
   read_words always (file reading.Strict) (file_reader reading.Strict) (reads_file reading.Strict) (in_message (w "optional" ∷ int_field "a"))
-      (Strict, FileStatement.a_message (message_of (codes "M") (MessageStatement.a_field (field_of Optional (a_scalar code.Int32) (codes "a") 1 None) ∷ [])) ∷ []) 20 (lit≤ tt) refl,
+      (Strict, FileStatement.a_message (message_of (codes "M") (a_single (field_of Optional (a_scalar code.Int32) (codes "a") 1 None) ∷ [])) ∷ []) 20 (lit≤ tt) refl,
   refl,
 )
 
@@ -175,9 +175,9 @@ of_map = w "map" ∷ m "." ∷ w "a" ∷ w "b" ∷ m "=" ∷ d "1" ∷ m ";" ∷
 a_type_map : FileSyntax (codes "m.proto") (in_message of_map) (of_fields (field_of Unlabelled (a_name (codes "map.a")) (codes "b") 1 None ∷ []) no_messages)
 unfolding opened
 a_type_map = (
-  (Strict, FileStatement.a_message (message_of (codes "M") (MessageStatement.a_field (field_of Unlabelled (a_name (codes "map.a")) (codes "b") 1 None) ∷ [])) ∷ []),
+  (Strict, FileStatement.a_message (message_of (codes "M") (a_single (field_of Unlabelled (a_name (codes "map.a")) (codes "b") 1 None) ∷ [])) ∷ []),
   read_words always (file reading.Strict) (file_reader reading.Strict) (reads_file reading.Strict) (in_message of_map)
-      (Strict, FileStatement.a_message (message_of (codes "M") (MessageStatement.a_field (field_of Unlabelled (a_name (codes "map.a")) (codes "b") 1 None) ∷ [])) ∷ []) 20 (lit≤ tt) refl,
+      (Strict, FileStatement.a_message (message_of (codes "M") (a_single (field_of Unlabelled (a_name (codes "map.a")) (codes "b") 1 None) ∷ [])) ∷ []) 20 (lit≤ tt) refl,
   refl,
 )
 

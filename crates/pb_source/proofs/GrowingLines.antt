@@ -1,7 +1,5 @@
 -- The readers of statements and of files that may go further.
 use Rattle.std.proofs.Common.{◌≡◌, ℕ, zero, suc, ◌+◌, ◌-◌, ◌≤◌, List, [], ◌∷◌, Bool, true, false, not, codes, ap, ◌∙◌, subst, Option, Some, None, Err, arith, ◌⊎◌, inl, inr, ℤ}
-use Rattle.std.specs.Prelude.{option_map}
-use Rattle.pb_decl.specs.Decls.{DeclaredMessage}
 use Rattle.pb_tokens.specs.declared.grammar.Grammar.{Grammar}
 use Rattle.pb_tokens.specs.declared.rule.Rule.{Rule}
 use Rattle.pb_tokens.proofs.Growing.{Grows, grows_chain, grows_same, grows_mapped, grows_both, grows_behind, grows_before, grows_choice, GrowsSome, grows_kinds, grows_guarded, grows_until, grows_to_end, grows_listed, grows_fullname, grows_typename, grows_option, grows_setting, grows_ended, grows_value_end, grows_type}
@@ -30,7 +28,7 @@ use Rattle.pb_source.specs.declared.kind.ServiceKind.TheVariants as in_service
 use Rattle.pb_source.specs.declared.kind.MethodKind.{MethodKind}
 use Rattle.pb_source.specs.declared.kind.MethodKind.TheVariants as in_method
 use Rattle.pb_source.specs.Meaning.{MessageStatement, EnumStatement, FileStatement, those_said, message_of, enum_of}
-use Rattle.pb_source.specs.Readers.Lines.{taken, dropped, map_rest_reader, statements_reader, extend_kind, extension_line, extension_reader, extend_reader, extensions_reader, import_reader, syntax_reader, field_from, map_from, said_of_alias, method_from, service_from, is_closing, is_package, braced, field_tail_reader, field_reader, map_tail_reader, dotted_reader, of_map_reader, map_reader, oneof_kind, oneof_line, oneof_statement_reader, oneof_reader, reserved_reader, value_reader, enum_kind, enum_statement_line, enum_statement_reader, enum_reader, message_kind, message_statement_line, message_statement_reader, message_line_reader, last_statement_reader, room_statement_reader, streams, streamed_reader, method_kind, method_line, method_statement_reader, method_end_reader, parameter_reader, method_reader, service_kind, service_line, service_statement_reader, service_reader, package_reader, file_kind, file_line, file_statement_reader, file_reader}
+use Rattle.pb_source.specs.Readers.Lines.{Nested, is_group, group_name_reader, group_head_reader, group_from, group_reader, alone, a_single, if_ungrouped, ungrouped_reader, grouped_reader, member_by, labelled_reader, group_in, nested_message_reader, allowed_statement_reader, body_reader, nested_in, message_reader, taken, dropped, map_rest_reader, statements_reader, extend_kind, extension_line, extension_reader, extend_reader, extensions_reader, import_reader, syntax_reader, field_from, map_from, said_of_alias, method_from, service_from, is_closing, is_package, braced, field_tail_reader, field_reader, map_tail_reader, dotted_reader, of_map_reader, map_reader, oneof_kind, oneof_line, oneof_statement_reader, oneof_reader, reserved_reader, value_reader, enum_kind, enum_statement_line, enum_statement_reader, enum_reader, message_kind, message_statement_line, message_statement_reader, message_line_reader, streams, streamed_reader, method_kind, method_line, method_statement_reader, method_end_reader, parameter_reader, method_reader, service_kind, service_line, service_statement_reader, service_reader, package_reader, file_kind, file_line, file_statement_reader, file_reader}
 
 -- ---- repetition
 
@@ -72,25 +70,75 @@ grows_of_map grammar n =
 grows_map_rest : (b : Bool) (grammar : Grammar) (n : ℕ) → Grows (map_rest_reader b grammar n) (map_rest_reader b grammar (suc n))
 grows_map_rest true grammar n = grows_mapped MessageStatement.a_map (grows_map_tail grammar (suc n))
 grows_map_rest false grammar n =
-    grows_choice (is_mark (codes "<")) (grows_mapped MessageStatement.a_map (grows_map_tail grammar (suc n))) (grows_mapped MessageStatement.a_field (grows_of_map grammar n))
+    grows_choice (is_mark (codes "<")) (grows_mapped MessageStatement.a_map (grows_map_tail grammar (suc n))) (grows_mapped a_single (grows_of_map grammar n))
 
 grows_map : (grammar : Grammar) → (n : ℕ) → Grows (map_reader grammar n) (map_reader grammar (suc n))
 unfolding map_reader
 grows_map grammar n = grows_behind (grows_same (keyword_reader (codes "map"))) (grows_map_rest (is_proto2 grammar) grammar n)
 
-grows_oneof_statement : (grammar : Grammar) → (n : ℕ) → Grows (oneof_statement_reader grammar n) (oneof_statement_reader grammar (suc n))
+-- ---- groups
+
+-- what nests grows where its readers do
+abbrev GrowsNested : Nested → Nested → Type 0
+GrowsNested Nested.none Nested.none = Unit {0}
+GrowsNested (Nested.beyond p) (Nested.beyond q) = Grows p q
+GrowsNested (Nested.inside p) (Nested.inside q) = Grows p q
+GrowsNested Nested.none (Nested.beyond q) = ⊥
+GrowsNested Nested.none (Nested.inside q) = ⊥
+GrowsNested (Nested.beyond p) Nested.none = ⊥
+GrowsNested (Nested.beyond p) (Nested.inside q) = ⊥
+GrowsNested (Nested.inside p) Nested.none = ⊥
+GrowsNested (Nested.inside p) (Nested.beyond q) = ⊥
+
+grows_group_head : (grammar : Grammar) (n : ℕ) → Grows (group_head_reader grammar n) (group_head_reader grammar (suc n))
+unfolding group_head_reader
+grows_group_head grammar n =
+    grows_behind (grows_same (keyword_reader (codes "group")))
+    (grows_both (grows_same group_name_reader)
+    (grows_behind (grows_same (mark_reader (codes "="))) (grows_both (grows_same counted_reader) (grows_ended (codes "{") grammar n))))
+
+grows_group : (grammar : Grammar) (n : ℕ) (l : Label) {p q : Reader (List MessageStatement)} → Grows p q → Grows (group_reader grammar n l p) (group_reader grammar (suc n) l q)
+grows_group grammar n l g = grows_mapped (group_from l) (grows_both (grows_group_head grammar n) g)
+
+grows_ungrouped : (grammar : Grammar) (n : ℕ) (l : Label) → Grows (ungrouped_reader grammar n l) (ungrouped_reader grammar (suc n) l)
+unfolding ungrouped_reader
+grows_ungrouped grammar n l =
+    grows_kinds if_ungrouped (λ _. Some (mapped alone (field_reader grammar n l))) (λ _. Some (mapped alone (field_reader grammar (suc n) l)))
+    (λ _. grows_mapped alone (grows_field grammar n l))
+
+grows_grouped : (grammar : Grammar) (n : ℕ) (l : Label) (x y : Nested) → GrowsNested x y → Grows (grouped_reader grammar n l x) (grouped_reader grammar (suc n) l y)
+grows_grouped grammar n l Nested.none Nested.none h = grows_ungrouped grammar n l
+grows_grouped grammar n l (Nested.beyond p) (Nested.beyond q) h = grows_guarded nests_bounded is_group (grows_group grammar n l h) (grows_ungrouped grammar n l)
+grows_grouped grammar n l (Nested.inside p) (Nested.inside q) h = grows_choice is_group (grows_group grammar n l h) (grows_ungrouped grammar n l)
+grows_grouped grammar n l Nested.none (Nested.beyond q) h = absurd h
+grows_grouped grammar n l Nested.none (Nested.inside q) h = absurd h
+grows_grouped grammar n l (Nested.beyond p) Nested.none h = absurd h
+grows_grouped grammar n l (Nested.beyond p) (Nested.inside q) h = absurd h
+grows_grouped grammar n l (Nested.inside p) Nested.none h = absurd h
+grows_grouped grammar n l (Nested.inside p) (Nested.beyond q) h = absurd h
+
+grows_member : (two : Bool) (grammar : Grammar) (n : ℕ) (l : Label) (x y : Nested) → GrowsNested x y → Grows (member_by two grammar n l x) (member_by two grammar (suc n) l y)
+grows_member true grammar n l x y h = grows_grouped grammar n l x y h
+grows_member false grammar n l x y h = grows_mapped alone (grows_field grammar n l)
+
+grows_labelled : (grammar : Grammar) (n : ℕ) (w : List ℕ) (l : Label) (x y : Nested) → GrowsNested x y → Grows (labelled_reader grammar n w l x) (labelled_reader grammar (suc n) w l y)
+grows_labelled grammar n w l x y h = grows_behind (grows_same (keyword_reader w)) (grows_member (is_proto2 grammar) grammar n l x y h)
+
+-- ---- oneofs
+
+grows_oneof_statement : (grammar : Grammar) (n : ℕ) (x y : Nested) → GrowsNested x y → Grows (oneof_statement_reader grammar n x) (oneof_statement_reader grammar (suc n) y)
 unfolding oneof_statement_reader
-grows_oneof_statement grammar n = grows_kinds oneof_kind (oneof_line grammar n) (oneof_line grammar (suc n)) line
+grows_oneof_statement grammar n x y h = grows_kinds oneof_kind (oneof_line grammar n x) (oneof_line grammar (suc n) y) line
   where
-    line : (k : OneofKind) → GrowsSome (oneof_line grammar n k) (oneof_line grammar (suc n) k)
+    line : (k : OneofKind) → GrowsSome (oneof_line grammar n x k) (oneof_line grammar (suc n) y k)
     line in_a_oneof.Empty = grows_same (mapped (λ _. None) (mark_reader (codes ";")))
     line in_a_oneof.Option = grows_mapped (λ _. None) (grows_option grammar n)
-    line in_a_oneof.Field = grows_mapped Some (grows_field grammar n Unlabelled)
+    line in_a_oneof.Field = grows_mapped Some (grows_member (is_proto2 grammar) grammar n Unlabelled x y h)
 
-grows_oneof : (grammar : Grammar) → (n : ℕ) → Grows (oneof_reader grammar n) (oneof_reader grammar (suc n))
+grows_oneof : (grammar : Grammar) (n : ℕ) (x y : Nested) → GrowsNested x y → Grows (oneof_reader grammar n x) (oneof_reader grammar (suc n) y)
 unfolding oneof_reader
-grows_oneof grammar n = grows_behind (grows_same (keyword_reader (codes "oneof")))
-    (grows_both (grows_same name_reader) (grows_mapped those_said (grows_braced n (grows_oneof_statement grammar n))))
+grows_oneof grammar n x y h = grows_behind (grows_same (keyword_reader (codes "oneof")))
+    (grows_both (grows_same name_reader) (grows_mapped those_said (grows_braced n (grows_oneof_statement grammar n x y h))))
 
 grows_reserved : {A : Type 0} (n : ℕ) (range : Reader (ℤ × ℤ)) (of_ranges : List (ℤ × ℤ) → A) (of_names : List (List ℕ) → A)
     → Grows (reserved_reader n range of_ranges of_names) (reserved_reader (suc n) range of_ranges of_names)
@@ -127,22 +175,22 @@ grows_enum grammar n = grows_mapped (λ x. enum_of x.0 x.1)
 
 -- ---- extensions
 
-grows_extension : (grammar : Grammar) → (n : ℕ) → Grows (extension_reader grammar n) (extension_reader grammar (suc n))
+grows_extension : (grammar : Grammar) (n : ℕ) (x y : Nested) → GrowsNested x y → Grows (extension_reader grammar n x) (extension_reader grammar (suc n) y)
 unfolding extension_reader
-grows_extension grammar n = grows_kinds extend_kind (extension_line grammar n) (extension_line grammar (suc n)) line
+grows_extension grammar n x y h = grows_kinds extend_kind (extension_line grammar n x) (extension_line grammar (suc n) y) line
   where
-    line : (k : ExtendKind) → GrowsSome (extension_line grammar n k) (extension_line grammar (suc n) k)
-    line in_extend.Empty = grows_same (mark_reader (codes ";"))
-    line in_extend.Repeated = grows_mapped (λ _. tt) (grows_behind (grows_same (keyword_reader (codes "repeated"))) (grows_field grammar n Repeated))
-    line in_extend.Optional = grows_mapped (λ _. tt) (grows_behind (grows_same (keyword_reader (codes "optional"))) (grows_field grammar n (optional_label grammar)))
-    line in_extend.Required = grows_taken (is_proto2 grammar) (grows_mapped (λ _. tt) (grows_behind (grows_same (keyword_reader (codes "required"))) (grows_field grammar n Unlabelled)))
-    line in_extend.Field = grows_taken (not (is_proto2 grammar)) (grows_mapped (λ _. tt) (grows_field grammar n Unlabelled))
+    line : (k : ExtendKind) → GrowsSome (extension_line grammar n x k) (extension_line grammar (suc n) y k)
+    line in_extend.Empty = grows_same (mapped (λ _. None) (mark_reader (codes ";")))
+    line in_extend.Repeated = grows_mapped group_in (grows_labelled grammar n (codes "repeated") Repeated x y h)
+    line in_extend.Optional = grows_mapped group_in (grows_labelled grammar n (codes "optional") (optional_label grammar) x y h)
+    line in_extend.Required = grows_taken (is_proto2 grammar) (grows_mapped group_in (grows_labelled grammar n (codes "required") Unlabelled x y h))
+    line in_extend.Field = grows_taken (not (is_proto2 grammar)) (grows_mapped (λ _. None) (grows_field grammar n Unlabelled))
 
-grows_extend : (grammar : Grammar) → (n : ℕ) → Grows (extend_reader grammar n) (extend_reader grammar (suc n))
+grows_extend : (grammar : Grammar) (n : ℕ) (x y : Nested) → GrowsNested x y → Grows (extend_reader grammar n x) (extend_reader grammar (suc n) y)
 unfolding extend_reader
-grows_extend grammar n =
+grows_extend grammar n x y h =
     grows_behind (grows_same (keyword_reader (codes "extend")))
-    (grows_behind (grows_mapped (λ _. tt) (grows_typename n)) (grows_mapped (λ _. tt) (grows_braced n (grows_extension grammar n))))
+    (grows_behind (grows_mapped (λ _. tt) (grows_typename n)) (grows_mapped those_said (grows_braced n (grows_extension grammar n x y h))))
 
 grows_extensions : (grammar : Grammar) → (n : ℕ) → Grows (extensions_reader grammar n) (extensions_reader grammar (suc n))
 unfolding extensions_reader
@@ -155,53 +203,65 @@ grows_dropped grammar v g = grows_taken (is_lenient grammar) (grows_mapped (λ _
 
 -- ---- messages
 
-grows_message_statement : (grammar : Grammar) → (n : ℕ) (p q : Option (Reader DeclaredMessage)) → GrowsSome p q
-    → Grows (message_statement_reader grammar n p) (message_statement_reader grammar (suc n) q)
-unfolding message_statement_reader
-grows_message_statement grammar n p q g = grows_kinds message_kind (message_statement_line grammar n p) (message_statement_line grammar (suc n) q) line
-  where
-    inner : (x y : Option (Reader DeclaredMessage)) → GrowsSome x y
-        → GrowsSome (option_map (mapped MessageStatement.a_message) x) (option_map (mapped MessageStatement.a_message) y)
-    inner None None h = tt
-    inner None (Some y) h = absurd h
-    inner (Some x) None h = absurd h
-    inner (Some x) (Some y) h = grows_mapped MessageStatement.a_message h
+grows_message_line : {p q : Reader (List MessageStatement)} → Grows p q → Grows (message_line_reader p) (message_line_reader q)
+unfolding message_line_reader
+grows_message_line g =
+    grows_mapped (λ x. message_of x.0 x.1)
+    (grows_behind (grows_same (keyword_reader (codes "message"))) (grows_both (grows_same name_reader) (grows_behind (grows_same (mark_reader (codes "{"))) g)))
 
-    line : (k : MessageKind) → GrowsSome (message_statement_line grammar n p k) (message_statement_line grammar (suc n) q k)
+grows_nested_message : (x y : Nested) → GrowsNested x y → GrowsSome (nested_message_reader x) (nested_message_reader y)
+grows_nested_message Nested.none Nested.none h = tt
+grows_nested_message (Nested.beyond p) (Nested.beyond q) h = tt
+grows_nested_message (Nested.inside p) (Nested.inside q) h = grows_mapped MessageStatement.a_message (grows_message_line h)
+grows_nested_message Nested.none (Nested.beyond q) h = absurd h
+grows_nested_message Nested.none (Nested.inside q) h = absurd h
+grows_nested_message (Nested.beyond p) Nested.none h = absurd h
+grows_nested_message (Nested.beyond p) (Nested.inside q) h = absurd h
+grows_nested_message (Nested.inside p) Nested.none h = absurd h
+grows_nested_message (Nested.inside p) (Nested.beyond q) h = absurd h
+
+grows_allowed_statement : (grammar : Grammar) (n : ℕ) (x y : Nested) → GrowsNested x y → Grows (allowed_statement_reader grammar n x) (allowed_statement_reader grammar (suc n) y)
+unfolding allowed_statement_reader
+grows_allowed_statement grammar n x y h = grows_kinds message_kind (message_statement_line grammar n x) (message_statement_line grammar (suc n) y) line
+  where
+    line : (k : MessageKind) → GrowsSome (message_statement_line grammar n x k) (message_statement_line grammar (suc n) y k)
     line in_message.Empty = grows_same (mapped (λ _. MessageStatement.nothing_said) (mark_reader (codes ";")))
     line in_message.Option = grows_mapped (λ _. MessageStatement.nothing_said) (grows_option grammar n)
-    line in_message.Message = inner p q g
+    line in_message.Message = grows_nested_message x y h
     line in_message.Enum = grows_mapped MessageStatement.an_enum (grows_enum grammar n)
-    line in_message.Oneof = grows_mapped (λ x. MessageStatement.a_oneof x.0 x.1) (grows_oneof grammar n)
+    line in_message.Oneof = grows_mapped (λ x. MessageStatement.a_oneof x.0 x.1) (grows_oneof grammar n x y h)
     line in_message.Reserved = grows_reserved n message_range_reader MessageStatement.reserved_ranges MessageStatement.reserved_names
-    line in_message.Repeated = grows_mapped MessageStatement.a_field (grows_behind (grows_same (keyword_reader (codes "repeated"))) (grows_field grammar n Repeated))
-    line in_message.Optional = grows_mapped MessageStatement.a_field (grows_behind (grows_same (keyword_reader (codes "optional"))) (grows_field grammar n (optional_label grammar)))
-    line in_message.Required = grows_taken (is_proto2 grammar) (grows_mapped MessageStatement.a_field (grows_behind (grows_same (keyword_reader (codes "required"))) (grows_field grammar n Unlabelled)))
+    line in_message.Repeated = grows_mapped MessageStatement.a_field (grows_labelled grammar n (codes "repeated") Repeated x y h)
+    line in_message.Optional = grows_mapped MessageStatement.a_field (grows_labelled grammar n (codes "optional") (optional_label grammar) x y h)
+    line in_message.Required = grows_taken (is_proto2 grammar) (grows_mapped MessageStatement.a_field (grows_labelled grammar n (codes "required") Unlabelled x y h))
     line in_message.Map = grows_map grammar n
-    line in_message.Field = grows_taken (not (is_proto2 grammar)) (grows_mapped MessageStatement.a_field (grows_field grammar n Unlabelled))
-    line in_message.Extend = grows_dropped grammar MessageStatement.nothing_said (grows_extend grammar n)
+    line in_message.Field = grows_taken (not (is_proto2 grammar)) (grows_mapped a_single (grows_field grammar n Unlabelled))
+    line in_message.Extend = grows_taken (is_lenient grammar) (grows_mapped MessageStatement.an_extend (grows_extend grammar n x y h))
     line in_message.Extensions = grows_dropped grammar MessageStatement.nothing_said (grows_extensions grammar n)
 
-grows_message_line : {p q : Reader MessageStatement} (n : ℕ) → Grows p q → Grows (message_line_reader n p) (message_line_reader (suc n) q)
-unfolding message_line_reader
-grows_message_line n g =
-    grows_mapped (λ x. message_of x.0 x.1)
-    (grows_behind (grows_same (keyword_reader (codes "message"))) (grows_both (grows_same name_reader) (grows_braced n g)))
+grows_message_statement : (grammar : Grammar) (n : ℕ) (x y : Nested) → GrowsNested x y → Grows (message_statement_reader grammar n x) (message_statement_reader grammar (suc n) y)
+grows_message_statement grammar n Nested.none Nested.none h = grows_allowed_statement grammar n Nested.none Nested.none h
+grows_message_statement grammar n (Nested.beyond p) (Nested.beyond q) h =
+    grows_guarded nests_bounded (is_keyword (codes "message")) (grows_mapped MessageStatement.a_message (grows_message_line h)) (grows_allowed_statement grammar n (Nested.beyond p) (Nested.beyond q) h)
+grows_message_statement grammar n (Nested.inside p) (Nested.inside q) h = grows_allowed_statement grammar n (Nested.inside p) (Nested.inside q) h
+grows_message_statement grammar n Nested.none (Nested.beyond q) h = absurd h
+grows_message_statement grammar n Nested.none (Nested.inside q) h = absurd h
+grows_message_statement grammar n (Nested.beyond p) Nested.none h = absurd h
+grows_message_statement grammar n (Nested.beyond p) (Nested.inside q) h = absurd h
+grows_message_statement grammar n (Nested.inside p) Nested.none h = absurd h
+grows_message_statement grammar n (Nested.inside p) (Nested.beyond q) h = absurd h
 
-grows_last_statement : (grammar : Grammar) → (n : ℕ) → Grows (last_statement_reader grammar n) (last_statement_reader grammar (suc n))
-unfolding last_statement_reader
-grows_last_statement grammar n =
-    grows_guarded nests_bounded (is_keyword (codes "message"))
-    (grows_mapped MessageStatement.a_message (grows_message_line n (grows_message_statement grammar n None None tt)))
-    (grows_message_statement grammar n None None tt)
+grows_body : (n : ℕ) {p q : Reader MessageStatement} → Grows p q → Grows (body_reader n p) (body_reader (suc n) q)
+grows_body n g = grows_until n is_closing [] g (grows_same (mark_reader (codes "}")))
 
-grows_room : (grammar : Grammar) → (n room : ℕ) → Grows (room_statement_reader grammar n room) (room_statement_reader grammar (suc n) room)
-unfolding room_statement_reader
-grows_room grammar n zero = grows_last_statement grammar n
-grows_room grammar n (suc room) =
-    grows_message_statement grammar n (Some (message_line_reader n (room_statement_reader grammar n room)))
-    (Some (message_line_reader (suc n) (room_statement_reader grammar (suc n) room)))
-    (grows_message_line n (grows_room grammar n room))
+grows_nested : (grammar : Grammar) (n room : ℕ) → GrowsNested (nested_in grammar n room) (nested_in grammar (suc n) room)
+unfolding nested_in
+grows_nested grammar n zero = grows_body n (grows_message_statement grammar n Nested.none Nested.none tt)
+grows_nested grammar n (suc room) = grows_body n (grows_message_statement grammar n (nested_in grammar n room) (nested_in grammar (suc n) room) (grows_nested grammar n room))
+
+grows_message : (grammar : Grammar) (n room : ℕ) → Grows (message_reader grammar n room) (message_reader grammar (suc n) room)
+grows_message grammar n room =
+    grows_message_line (grows_body n (grows_message_statement grammar n (nested_in grammar n room) (nested_in grammar (suc n) room) (grows_nested grammar n room)))
 
 -- ---- services
 
@@ -267,10 +327,11 @@ grows_file_statement grammar n said = grows_kinds file_kind (file_line grammar n
     line said in_file.Import = grows_same (mapped (λ x. FileStatement.an_import x.0 x.1) import_reader)
     line true in_file.Package = tt
     line false in_file.Package = grows_mapped FileStatement.a_package (grows_package n)
-    line said in_file.Message = grows_mapped FileStatement.a_message (grows_message_line n (grows_room grammar n 63))
+    line said in_file.Message = grows_mapped FileStatement.a_message (grows_message grammar n 63)
     line said in_file.Enum = grows_mapped FileStatement.an_enum (grows_enum grammar n)
     line said in_file.Service = grows_mapped FileStatement.a_service (grows_service grammar n)
-    line said in_file.Extend = grows_dropped grammar FileStatement.nothing_said (grows_extend grammar n)
+    line said in_file.Extend =
+        grows_taken (is_lenient grammar) (grows_mapped FileStatement.an_extend (grows_extend grammar n (nested_in grammar n 64) (nested_in grammar (suc n) 64) (grows_nested grammar n 64)))
 
 grows_statements : (grammar : Grammar) → (n : ℕ) → Grows (statements_reader n grammar) (statements_reader (suc n) grammar)
 grows_statements grammar n = grows_mapped (λ ss. (grammar, ss)) (grows_to_end n is_package false [] (grows_file_statement grammar n))

@@ -1,11 +1,11 @@
 -- Small files that are read leniently, by their symbols: what they declare, or their fault, worked out by the rules.
 use Prim.Native.String.{String}
-use Rattle.std.proofs.Common.{◌≡◌, ℕ, zero, suc, ◌≤◌, List, [], ◌∷◌, ◌++◌, codes, refl, Option, Some, None, Err, lit≤, arith, false, true, pos, map}
-use Rattle.pb_decl.specs.Decls.{DeclaredField, DeclaredFile, DeclaredMessages, message as message_decl, no_messages, more_messages}
+use Rattle.std.proofs.Common.{◌≡◌, ℕ, zero, suc, ◌≤◌, List, [], ◌∷◌, ◌++◌, codes, refl, Option, Some, None, Err, lit≤, arith, false, true, pos, ℤ, map}
+use Rattle.pb_decl.specs.Decls.{DeclaredField, DeclaredFile, MessageHead, DeclaredMessages, message as message_decl, no_messages, more_messages}
 use Rattle.pb_decl.specs.declared.decl.TypeCode.TheVariants as code
-use Rattle.pb_tokens.specs.declared.fault.SourceCause.TheVariants.{Unexpected, NotProto3}
+use Rattle.pb_tokens.specs.declared.fault.SourceCause.TheVariants.{Unexpected, NotProto3, NestedTooDeep}
 use Rattle.pb_tokens.specs.declared.rule.Rule.{Rule}
-use Rattle.pb_tokens.specs.declared.rule.Rule.TheVariants.{SyntaxFirst as syntax_first}
+use Rattle.pb_tokens.specs.declared.rule.Rule.TheVariants.{SyntaxFirst as syntax_first, NestsBounded as nests_bounded}
 use Rattle.pb_tokens.specs.declared.grammar.Grammar.{Grammar}
 use Rattle.pb_tokens.specs.declared.grammar.Grammar.TheVariants.{Lenient}
 use Rattle.pb_tokens.specs.declared.grammar.Syntax.TheVariants.{Proto2, Proto3}
@@ -17,10 +17,10 @@ use Rattle.pb_tokens.specs.Readers.Phrases.{name_reader, fullname_reader, typena
 use Rattle.pb_tokens.proofs.ToEnd.{always}
 use Rattle.pb_source.specs.declared.kind.Label.TheVariants.{Unlabelled, Repeated}
 use Rattle.pb_source.specs.declared.reading.Reading.TheVariants as reading
-use Rattle.pb_source.specs.Meaning.{FileStatement, MessageStatement, field_of, message_of}
+use Rattle.pb_source.specs.Meaning.{Member, FileStatement, MessageStatement, field_of, group_field, message_of}
 use Rattle.pb_source.specs.Grammar.{file, FileSyntaxIn}
 use Rattle.pb_source.specs.SyntaxFault.{SyntaxFaultIn}
-use Rattle.pb_source.specs.Readers.Lines.{field_tail_reader, field_reader, map_tail_reader, dotted_reader, of_map_reader, map_reader, oneof_statement_reader, oneof_reader, reserved_reader, value_reader, enum_statement_reader, enum_reader, extension_reader, extend_reader, extensions_reader, message_statement_reader, message_line_reader, last_statement_reader, room_statement_reader, streamed_reader, method_statement_reader, method_end_reader, parameter_reader, method_reader, service_statement_reader, service_reader, access_reader, import_reader, package_reader, file_statement_reader, lenient_syntax_reader, syntax_reader, file_reader}
+use Rattle.pb_source.specs.Readers.Lines.{field_tail_reader, field_reader, map_tail_reader, dotted_reader, of_map_reader, map_reader, group_head_reader, ungrouped_reader, oneof_statement_reader, oneof_reader, reserved_reader, value_reader, enum_statement_reader, enum_reader, extension_reader, extend_reader, extensions_reader, message_line_reader, allowed_statement_reader, nested_in, a_single, streamed_reader, method_statement_reader, method_end_reader, parameter_reader, method_reader, service_statement_reader, service_reader, access_reader, import_reader, package_reader, file_statement_reader, lenient_syntax_reader, syntax_reader, file_reader}
 use Rattle.pb_source.proofs.FaultLemmas.{refused_so, read_words}
 use Rattle.pb_source.proofs.FileLaws.{reads_file}
 
@@ -42,8 +42,8 @@ unfolding
     name_reader fullname_reader typename_reader limited_reader signed_reader plus_or_minus_reader sign_reader exponent_end_reader scaled_reader fraction_reader begun_end_reader
     numeral_reader aggregate_reader signed_value_reader unquoted_reader constant_reader part_reader optname_reader assignment_reader option_reader setting_reader
     field_option_reader options_reader ended_reader value_end_reader type_reader key_reader field_tail_reader field_reader map_tail_reader dotted_reader of_map_reader map_reader
-    oneof_statement_reader oneof_reader range_reader utf8_reader reserved_reader value_reader enum_statement_reader enum_reader extension_reader extend_reader extensions_reader
-    message_statement_reader message_line_reader last_statement_reader room_statement_reader streamed_reader method_statement_reader method_end_reader parameter_reader method_reader
+    group_head_reader ungrouped_reader oneof_statement_reader oneof_reader range_reader utf8_reader reserved_reader value_reader enum_statement_reader enum_reader
+    extension_reader extend_reader extensions_reader message_line_reader allowed_statement_reader nested_in streamed_reader method_statement_reader method_end_reader parameter_reader method_reader
     service_statement_reader service_reader access_reader import_reader package_reader file_statement_reader lenient_syntax_reader syntax_reader file_reader
 opened n ts = file_reader reading.Lenient n all_rules ts
 
@@ -93,7 +93,7 @@ block =
 
 a_block : FileSyntaxIn reading.Lenient (codes "m.proto") (proto3 ++ block) empty_file
 unfolding opened
-a_block = ((Lenient Proto3, FileStatement.nothing_said ∷ []), read_words always (file reading.Lenient) (file_reader reading.Lenient) (reads_file reading.Lenient) (proto3 ++ block) (Lenient Proto3, FileStatement.nothing_said ∷ []) 25 (lit≤ tt) refl, refl)
+a_block = ((Lenient Proto3, FileStatement.an_extend [] ∷ []), read_words always (file reading.Lenient) (file_reader reading.Lenient) (reads_file reading.Lenient) (proto3 ++ block) (Lenient Proto3, FileStatement.an_extend [] ∷ []) 25 (lit≤ tt) refl, refl)
 
 -- message M { extensions 5 to max [a = 1]; repeated int32 b = 1 [(packed) = 1.5, packed = true]; }
 abbrev said : List Symbol
@@ -106,7 +106,7 @@ abbrev packed_field : DeclaredField
 packed_field = field_of Repeated (a_scalar code.Int32) (codes "b") 1 (Some true)
 
 abbrev declared : List FileStatement
-declared = FileStatement.a_message (message_of (codes "M") (MessageStatement.nothing_said ∷ MessageStatement.a_field packed_field ∷ [])) ∷ []
+declared = FileStatement.a_message (message_of (codes "M") (MessageStatement.nothing_said ∷ a_single packed_field ∷ [])) ∷ []
 
 packed_alone_counts : FileSyntaxIn reading.Lenient (codes "m.proto") (proto3 ++ said) (record {
   name = codes "m.proto";
@@ -190,7 +190,7 @@ labelled_fields =
     ∷ field_of Repeated (a_scalar code.Int32) (codes "c") 3 None ∷ []
 
 abbrev labelled_statements : List FileStatement
-labelled_statements = FileStatement.a_message (message_of (codes "M") (map MessageStatement.a_field labelled_fields)) ∷ []
+labelled_statements = FileStatement.a_message (message_of (codes "M") (map a_single labelled_fields)) ∷ []
 
 -- no label makes a oneof
 each_label : FileSyntaxIn reading.Lenient (codes "m.proto") (proto2 ++ labels) (proto2_file (more_messages
@@ -239,3 +239,74 @@ unfolding opened
 no_such_syntax =
     refused_so always (file reading.Lenient) (file_reader reading.Lenient) (reads_file reading.Lenient) proto4 (text (codes "proto4") ∷ m ";" ∷ []) (Some syntax_first) (λ e. cc e)
     (at_least (Refuses proto4 (text (codes "proto4") ∷ m ";" ∷ []) (Some syntax_first)) 4 (λ n. refl))
+
+-- ---- groups
+
+-- group G = 1 { }
+abbrev an_empty_group : List Symbol
+an_empty_group = w "group" ∷ w "G" ∷ m "=" ∷ d "1" ∷ m "{" ∷ m "}" ∷ []
+
+-- the field of that group, and its message
+abbrev its_member : Member
+its_member = (group_field Unlabelled (codes "G") 1 None, Some (message_of (codes "G") []))
+
+-- message M { optional group G = 1 { } oneof o { group G = 1 { } } extend X { optional group G = 1 { } } }
+abbrev groups : List Symbol
+groups =
+    w "message" ∷ w "M" ∷ m "{" ∷ w "optional" ∷ (an_empty_group ++ w "oneof" ∷ w "o" ∷ m "{" ∷ (an_empty_group ++ m "}" ∷ w "extend" ∷ w "X" ∷ m "{" ∷ w "optional" ∷ (an_empty_group ++ m "}" ∷ m "}" ∷ [])))
+
+abbrev group_statements : List FileStatement
+group_statements =
+    FileStatement.a_message (message_of (codes "M")
+    (MessageStatement.a_field its_member ∷ MessageStatement.a_oneof (codes "o") (its_member ∷ []) ∷ MessageStatement.an_extend (message_of (codes "G") [] ∷ []) ∷ [])) ∷ []
+
+abbrev empty_head : List ℕ → MessageHead
+empty_head name = record { name = name; fields = []; enums = []; oneofs = []; reserved = []; reserved_names = []; is_entry = false }
+
+-- the field of a group, in the oneof of this index or in none
+abbrev grouped : Option ℤ → DeclaredField
+grouped oneof = record {
+  name = codes "g";
+  number = pos 1;
+  is_repeated = false;
+  type_code = Some code.Group;
+  type_name = Some (codes ".M.G");
+  packed = None;
+  oneof = oneof;
+  is_optional = false;
+}
+
+-- the name of a group's field is in lower case, and its message, and that of a group in a block of `extend`, are in the scope around
+each_group : FileSyntaxIn reading.Lenient (codes "m.proto") (proto2 ++ groups) (proto2_file (more_messages
+    (message_decl (record { name = codes "M"; fields = grouped None ∷ grouped (Some (pos 0)) ∷ []; enums = []; oneofs = codes "o" ∷ []; reserved = []; reserved_names = []; is_entry = false })
+    (more_messages (message_decl (empty_head (codes "G")) no_messages) (more_messages (message_decl (empty_head (codes "G")) no_messages) (more_messages (message_decl (empty_head (codes "G")) no_messages) no_messages))))
+    no_messages))
+unfolding opened
+each_group = (
+  (Lenient Proto2, group_statements),
+  read_words always (file reading.Lenient) (file_reader reading.Lenient) (reads_file reading.Lenient) (proto2 ++ groups) (Lenient Proto2, group_statements) 45 (lit≤ tt) refl,
+  refl,
+)
+
+-- message M { optional group g
+abbrev no_capital : List Symbol
+no_capital = proto2 ++ w "message" ∷ w "M" ∷ m "{" ∷ w "optional" ∷ w "group" ∷ w "g" ∷ []
+
+capital_wanted : SyntaxFaultIn reading.Lenient no_capital 9 Unexpected
+unfolding opened
+capital_wanted =
+    refused_so always (file reading.Lenient) (file_reader reading.Lenient) (reads_file reading.Lenient) no_capital (w "g" ∷ []) None (λ e. cc e) (at_least (Refuses no_capital (w "g" ∷ []) None) 10 (λ n. refl))
+
+abbrev nested : ℕ → List Symbol → List Symbol
+nested zero ts = ts
+nested (suc k) ts = w "optional" ∷ w "group" ∷ w "G" ∷ m "=" ∷ d "1" ∷ m "{" ∷ nested k ts
+
+-- the 65th group of a nest
+abbrev a_deep_group : List Symbol
+a_deep_group = proto2 ++ w "extend" ∷ w "X" ∷ m "{" ∷ nested 64 (w "optional" ∷ w "group" ∷ [])
+
+too_deep : SyntaxFaultIn reading.Lenient a_deep_group 392 NestedTooDeep
+unfolding opened
+too_deep =
+    refused_so always (file reading.Lenient) (file_reader reading.Lenient) (reads_file reading.Lenient) a_deep_group (w "group" ∷ []) (Some nests_bounded) (λ e. cc e)
+    (at_least (Refuses a_deep_group (w "group" ∷ []) (Some nests_bounded)) 393 (λ n. refl))

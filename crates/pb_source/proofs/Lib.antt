@@ -12,8 +12,14 @@ pub mod StatementKinds
 pub mod FieldLaws
 -- what is reserved
 pub mod ReservedLaws
--- oneofs, enums and services
+-- enums and services
 pub mod BodyLaws
+-- lines that only some of the grammars have
+pub mod GrammarLines
+-- groups, and what is a field or a group
+pub mod GroupLaws
+-- oneofs
+pub mod OneofLaws
 -- extensions
 pub mod ExtensionLaws
 -- messages

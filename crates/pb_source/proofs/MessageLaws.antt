@@ -1,5 +1,6 @@
 -- The readers of messages read them.
-use Rattle.std.proofs.Common.{◌≡◌, ℕ, zero, suc, List, [], ◌∷◌, ◌++◌, Bool, true, false, not, ◌||◌, codes, refl, ap, sym, subst, Option, Some, None, ◌⊎◌, inl, inr}
+use Prim.Native.String.{String}
+use Rattle.std.proofs.Common.{◌≡◌, ℕ, zero, suc, List, [], ◌∷◌, ◌++◌, Bool, true, false, not, ◌||◌, codes, refl, ap, sym, subst, Option, Some, None, ◌⊎◌, inl, inr, arith}
 use Rattle.std.specs.Prelude.{if◌then◌else◌}
 use Rattle.std.specs.Str.{bytes_eq}
 use Rattle.std.proofs.lemmas.Bool.{false≢true}
@@ -10,28 +11,33 @@ use Rattle.pb_tokens.specs.declared.rule.Rule.TheVariants.{NestsBounded as nests
 use Rattle.pb_tokens.specs.Symbols.{Symbol, word, number, text, sign}
 use Rattle.pb_tokens.specs.Language.{Language, ◌▸◌, Rules, Begins}
 use Rattle.pb_tokens.specs.Phrases.{keyword, mark, name, Until, BeginsNot, option, message_range}
-use Rattle.pb_tokens.specs.Readers.Forms.{Reader, mapped, behind, keyword_reader, first_passes, is_keyword}
+use Rattle.pb_tokens.specs.Readers.Forms.{Reader, mapped, mark_reader, first_passes, is_keyword}
 use Rattle.pb_tokens.specs.Readers.Phrases.{message_range_reader}
 use Rattle.pb_tokens.proofs.ReaderLaws.{Reads}
-use Rattle.pb_tokens.proofs.Compose.{never, Mapped, Behind, reads_mapped, reads_both, reads_behind, said_so}
+use Rattle.pb_tokens.proofs.Compose.{never, Mapped, reads_mapped, reads_both, reads_behind, said_so}
 use Rattle.pb_tokens.proofs.Heads.{Headed, headed_one, headed_then}
-use Rattle.pb_tokens.proofs.SymbolTests.{is_the_word, reads_keyword}
+use Rattle.pb_tokens.proofs.SymbolTests.{is_the_word, reads_mark, reads_keyword}
+use Rattle.pb_tokens.proofs.Loops.{reads_until}
 use Rattle.pb_tokens.proofs.Guards.{reads_guarded}
 use Rattle.pb_tokens.proofs.KindLemmas.{first_kind, ByKind, Offers, kinds_fail, kinds_filled, reads_kinds}
 use Rattle.pb_tokens.proofs.NameLaws.{reads_name}
 use Rattle.pb_tokens.proofs.RangeLaws.{reads_message_range, message_range_first}
+use Rattle.pb_source.specs.declared.kind.Label.{Label}
 use Rattle.pb_source.specs.declared.kind.Label.TheVariants.{Unlabelled, Repeated}
 use Rattle.pb_source.specs.Syntaxes.{is_lenient, is_proto2, optional_label}
 use Rattle.pb_source.specs.declared.kind.MessageKind.{MessageKind}
 use Rattle.pb_source.specs.declared.kind.MessageKind.TheVariants as kind
-use Rattle.pb_source.specs.Meaning.{MessageStatement, message_of}
-use Rattle.pb_source.specs.Grammar.{field, unlabelled, in_proto2, but_proto2, oneof, enum_line, extend, extensions, message_statement, message, room}
-use Rattle.pb_source.specs.Readers.Lines.{is_closing, field_reader, extend_reader, extensions_reader, message_kind, message_statement_line, message_statement_reader, message_line_reader, last_statement_reader, room_statement_reader, message_reader}
-use Rattle.pb_source.proofs.StatementKinds.{kind_other, not_in_table, in_front, in_both, kind_one, kind_then, kind_front, reads_braced}
+use Rattle.pb_source.specs.Meaning.{Member, MessageStatement, message_of}
+use Rattle.pb_source.specs.Grammar.{field, member, unlabelled, beyond_strict, in_proto2, but_proto2, oneof, enum_line, extend, extensions, message_line, message_statement, body, message, room}
+use Rattle.pb_source.specs.Readers.Lines.{Nested, a_single, is_closing, field_reader, labelled_reader, extend_reader, extensions_reader, message_kind, nested_message_reader, message_statement_line, allowed_statement_reader, message_statement_reader, message_line_reader, body_reader, nested_in, room_statement_reader, room_body_reader, message_reader}
+use Rattle.pb_source.proofs.StatementKinds.{kind_other, not_in_table, in_front, in_both, kind_one, kind_then, kind_front}
 use Rattle.pb_source.proofs.FieldLaws.{reads_field, begins_type, field_first, MapLine, reads_map, map_line_first}
 use Rattle.pb_source.proofs.ReservedLaws.{Reserved, reads_reserved, reserved_first}
-use Rattle.pb_source.proofs.ExtensionLaws.{lined_kept, lined_on, offers_lined, Beyond, offers_beyond, beyond_filled, beyond_kind, reads_extend, reads_extensions}
-use Rattle.pb_source.proofs.BodyLaws.{Silent, reads_silent_end, reads_silent_option, not_empty_then, closing_of_none, reads_oneof, reads_enum}
+use Rattle.pb_source.proofs.ExtensionLaws.{offers_lined, Beyond, offers_beyond, beyond_filled, beyond_kind, reads_extend, reads_extensions}
+use Rattle.pb_source.proofs.BodyLaws.{Silent, reads_silent_end, reads_silent_option, not_empty_then, closing_of_none, reads_enum}
+use Rattle.pb_source.proofs.OneofLaws.{reads_oneof}
+use Rattle.pb_source.proofs.GrammarLines.{lined_kept, lined_on}
+use Rattle.pb_source.proofs.GroupLaws.{Nests, reads_labelled}
 
 -- ---- statements, by the messages that may stand among them
 
@@ -45,20 +51,41 @@ field_words =
 abbrev map_word : List (List ℕ × Option MessageKind)
 map_word = (codes "map", Some kind.Map) ∷ []
 
-module _ (grammar : Grammar) (M : Rules → DeclaredMessage → Language) (first : (rules : Rules) (m : DeclaredMessage) → Headed (is_keyword (codes "message")) (M rules m)) where
-  abbrev pub MessageLine : MessageKind → Rules → MessageStatement → Language
+-- the line of messages, by the statements of each, up to its closing brace
+line_first : (Body : List MessageStatement → Language) (m : DeclaredMessage) → Headed (is_keyword (codes "message")) (message_line Body m)
+line_first Body m c d = headed_then (is_keyword (codes "message")) (headed_one (is_keyword (codes "message")) (word (codes "message")) refl) c d.3
+
+module _ (grammar : Grammar) (Body : Rules → List MessageStatement → Language) (M : Rules → DeclaredMessage → Language)
+    (first : (rules : Rules) (m : DeclaredMessage) → Headed (is_keyword (codes "message")) (M rules m)) where
+  -- statements, where M has the messages
+  abbrev With : Rules → MessageStatement → Language
+  With rules (MessageStatement.a_message m) = M rules m
+  With rules MessageStatement.nothing_said = message_statement grammar rules (Body rules) MessageStatement.nothing_said
+  With rules (MessageStatement.a_field x) = message_statement grammar rules (Body rules) (MessageStatement.a_field x)
+  With rules (MessageStatement.a_map m) = message_statement grammar rules (Body rules) (MessageStatement.a_map m)
+  With rules (MessageStatement.a_oneof w xs) = message_statement grammar rules (Body rules) (MessageStatement.a_oneof w xs)
+  With rules (MessageStatement.an_extend ms) = message_statement grammar rules (Body rules) (MessageStatement.an_extend ms)
+  With rules (MessageStatement.an_enum e) = message_statement grammar rules (Body rules) (MessageStatement.an_enum e)
+  With rules (MessageStatement.reserved_ranges rs) = message_statement grammar rules (Body rules) (MessageStatement.reserved_ranges rs)
+  With rules (MessageStatement.reserved_names ns) = message_statement grammar rules (Body rules) (MessageStatement.reserved_names ns)
+
+  -- a field or a group behind the word of its label
+  abbrev Labelled : String → Label → Rules → Member → Language
+  Labelled w l rules x = keyword w ▸ member grammar rules (Body rules) l x
+
+  abbrev MessageLine : MessageKind → Rules → MessageStatement → Language
   MessageLine kind.Empty = Silent MessageStatement.nothing_said (λ rules. mark ";")
   MessageLine kind.Option = Silent MessageStatement.nothing_said (option grammar)
   MessageLine kind.Message = Mapped MessageStatement.a_message M
   MessageLine kind.Enum = Mapped MessageStatement.an_enum (enum_line grammar)
-  MessageLine kind.Oneof = Mapped {A = List ℕ × List DeclaredField} (λ x. MessageStatement.a_oneof x.0 x.1) (λ rules x. oneof grammar rules x.0 x.1)
+  MessageLine kind.Oneof = Mapped {A = List ℕ × List Member} (λ x. MessageStatement.a_oneof x.0 x.1) (λ rules x. oneof grammar rules (Body rules) x.0 x.1)
   MessageLine kind.Reserved = Reserved message_range message_range_reader MessageStatement.reserved_ranges MessageStatement.reserved_names message_range_first
-  MessageLine kind.Repeated = Mapped MessageStatement.a_field (Behind (λ rules. keyword "repeated") (λ rules. field grammar rules Repeated))
-  MessageLine kind.Optional = Mapped MessageStatement.a_field (Behind (λ rules. keyword "optional") (λ rules. field grammar rules (optional_label grammar)))
-  MessageLine kind.Required = Mapped MessageStatement.a_field (λ rules f. in_proto2 grammar (keyword "required" ▸ field grammar rules Unlabelled f))
+  MessageLine kind.Repeated = Mapped MessageStatement.a_field (Labelled "repeated" Repeated)
+  MessageLine kind.Optional = Mapped MessageStatement.a_field (Labelled "optional" (optional_label grammar))
+  MessageLine kind.Required = Mapped MessageStatement.a_field (λ rules x. in_proto2 grammar (Labelled "required" Unlabelled rules x))
   MessageLine kind.Map = MapLine grammar
-  MessageLine kind.Field = Mapped MessageStatement.a_field (λ rules f. but_proto2 grammar (field grammar rules Unlabelled f))
-  MessageLine kind.Extend = Beyond grammar MessageStatement.nothing_said (extend grammar)
+  MessageLine kind.Field = Mapped a_single (λ rules f. but_proto2 grammar (field grammar rules Unlabelled f))
+  MessageLine kind.Extend = Mapped MessageStatement.an_extend (λ rules ms. beyond_strict grammar (extend grammar rules (Body rules) ms))
   MessageLine kind.Extensions = Beyond grammar MessageStatement.nothing_said (extensions grammar)
 
   filled : (k : MessageKind) (rules : Rules) (s : MessageStatement) → MessageLine k rules s [] → ⊥
@@ -72,9 +99,9 @@ module _ (grammar : Grammar) (M : Rules → DeclaredMessage → Language) (first
   filled kind.Repeated rules s d = not_empty_then (word (codes "repeated")) d.2
   filled kind.Optional rules s d = not_empty_then (word (codes "optional")) d.2
   filled kind.Map rules s d = false≢true (map_line_first grammar rules s [] d)
-  filled kind.Required rules s d = not_empty_then (word (codes "required")) (lined_kept (is_proto2 grammar) (keyword "required" ▸ field grammar rules Unlabelled d.0) [] d.2)
+  filled kind.Required rules s d = not_empty_then (word (codes "required")) (lined_kept (is_proto2 grammar) (Labelled "required" Unlabelled rules d.0) [] d.2)
   filled kind.Field rules s d = false≢true (field_first grammar rules Unlabelled d.0 [] (lined_kept (not (is_proto2 grammar)) (field grammar rules Unlabelled d.0) [] d.2))
-  filled kind.Extend rules s d = beyond_filled grammar MessageStatement.nothing_said (extend grammar) rules s (λ d. not_empty_then (word (codes "extend")) d.2) d
+  filled kind.Extend rules s d = not_empty_then (word (codes "extend")) (lined_kept (is_lenient grammar) (extend grammar rules (Body rules) d.0) [] d.2).3
   filled kind.Extensions rules s d = beyond_filled grammar MessageStatement.nothing_said (extensions grammar) rules s (λ d. not_empty_then (word (codes "extensions")) d.1) d
 
   -- the first symbol of a field without a label
@@ -102,213 +129,267 @@ module _ (grammar : Grammar) (M : Rules → DeclaredMessage → Language) (first
   map_begins (text w ∷ c) h = absurd (false≢true h)
   map_begins (sign w ∷ c) h = absurd (false≢true h)
 
-  to_statement : (rules : Rules) (s : MessageStatement) (c : List Symbol) → ByKind message_kind MessageLine rules s c → message_statement grammar rules (M rules) s c
-  to_statement rules s c (kind.Empty, h, (u, e, d)) = subst (λ s. message_statement grammar rules (M rules) s c) (sym e) (inr (inl d))
-  to_statement rules s c (kind.Extend, h, (u, e, d)) = subst (λ s. message_statement grammar rules (M rules) s c) (sym e) (inr (inr (inl d)))
-  to_statement rules s c (kind.Extensions, h, (u, e, d)) = subst (λ s. message_statement grammar rules (M rules) s c) (sym e) (inr (inr (inr d)))
-  to_statement rules s c (kind.Option, h, (u, e, d)) = subst (λ s. message_statement grammar rules (M rules) s c) (sym e) (inl d)
-  to_statement rules s c (kind.Message, h, (m, e, d)) = subst (λ s. message_statement grammar rules (M rules) s c) (sym e) d
-  to_statement rules s c (kind.Enum, h, (m, e, d)) = subst (λ s. message_statement grammar rules (M rules) s c) (sym e) d
-  to_statement rules s c (kind.Oneof, h, (m, e, d)) = subst (λ s. message_statement grammar rules (M rules) s c) (sym e) d
-  to_statement rules s c (kind.Reserved, h, inl (ns, e, d)) = subst (λ s. message_statement grammar rules (M rules) s c) (sym e) d
-  to_statement rules s c (kind.Reserved, h, inr (rs, e, d)) = subst (λ s. message_statement grammar rules (M rules) s c) (sym e) d
-  to_statement rules s c (kind.Repeated, h, (f, e, d)) = subst (λ s. message_statement grammar rules (M rules) s c) (sym e) (inl d)
-  to_statement rules s c (kind.Optional, h, (f, e, d)) = subst (λ s. message_statement grammar rules (M rules) s c) (sym e) (inr (inl d))
-  to_statement rules s c (kind.Map, h, inl (m, e, d)) = subst (λ s. message_statement grammar rules (M rules) s c) (sym e) d
-  to_statement rules s c (kind.Required, h, (f, e, d)) = subst (λ s. message_statement grammar rules (M rules) s c) (sym e) (inr (inr (inl d)))
-  to_statement rules s c (kind.Map, h, inr (f, e, k, d)) =
-      subst (λ s. message_statement grammar rules (M rules) s c) (sym e)
-      (inr (inr (inr (lined_on (not (is_proto2 grammar)) (field grammar rules Unlabelled f) (unlabelled grammar rules f) c (λ x. (map_begins c k, x)) d))))
-  to_statement rules s c (kind.Field, h, (f, e, d)) =
-      subst (λ s. message_statement grammar rules (M rules) s c) (sym e)
-      (inr (inr (inr (lined_on (not (is_proto2 grammar)) (field grammar rules Unlabelled f) (unlabelled grammar rules f) c (λ x. (field_begins c h, x)) d))))
+  single_on : (rules : Rules) (f : DeclaredField) (c : List Symbol)
+      → BeginsNot ("message" ∷ "enum" ∷ "option" ∷ "oneof" ∷ "reserved" ∷ "optional" ∷ "repeated" ∷ "required" ∷ "extend" ∷ "extensions" ∷ []) c
+      → but_proto2 grammar (field grammar rules Unlabelled f) c → With rules (a_single f) c
+  single_on rules f c b d =
+      inr (inr (inr (lined_on (not (is_proto2 grammar)) (field grammar rules Unlabelled f) (unlabelled grammar rules (f, None)) c (λ x. (f, refl, b, x)) d)))
+
+  to_statement : (rules : Rules) (s : MessageStatement) (c : List Symbol) → ByKind message_kind MessageLine rules s c → With rules s c
+  to_statement rules s c (kind.Empty, h, (u, e, d)) = subst (λ s. With rules s c) (sym e) (inr (inl d))
+  to_statement rules s c (kind.Extensions, h, (u, e, d)) = subst (λ s. With rules s c) (sym e) (inr (inr d))
+  to_statement rules s c (kind.Extend, h, (ms, e, d)) = subst (λ s. With rules s c) (sym e) d
+  to_statement rules s c (kind.Option, h, (u, e, d)) = subst (λ s. With rules s c) (sym e) (inl d)
+  to_statement rules s c (kind.Message, h, (m, e, d)) = subst (λ s. With rules s c) (sym e) d
+  to_statement rules s c (kind.Enum, h, (m, e, d)) = subst (λ s. With rules s c) (sym e) d
+  to_statement rules s c (kind.Oneof, h, (m, e, d)) = subst (λ s. With rules s c) (sym e) d
+  to_statement rules s c (kind.Reserved, h, inl (ns, e, d)) = subst (λ s. With rules s c) (sym e) d
+  to_statement rules s c (kind.Reserved, h, inr (rs, e, d)) = subst (λ s. With rules s c) (sym e) d
+  to_statement rules s c (kind.Repeated, h, (x, e, d)) = subst (λ s. With rules s c) (sym e) (inl d)
+  to_statement rules s c (kind.Optional, h, (x, e, d)) = subst (λ s. With rules s c) (sym e) (inr (inl d))
+  to_statement rules s c (kind.Required, h, (x, e, d)) = subst (λ s. With rules s c) (sym e) (inr (inr (inl d)))
+  to_statement rules s c (kind.Map, h, inl (m, e, d)) = subst (λ s. With rules s c) (sym e) d
+  to_statement rules s c (kind.Map, h, inr (f, e, k, d)) = subst (λ s. With rules s c) (sym e) (single_on rules f c (map_begins c k) d)
+  to_statement rules s c (kind.Field, h, (f, e, d)) = subst (λ s. With rules s c) (sym e) (single_on rules f c (field_begins c h) d)
 
   map_is : (s : Symbol) → is_keyword (codes "map") s ≡ true → message_kind s ≡ Some kind.Map
   map_is s h = ap message_kind (is_the_word (codes "map") s h)
 
   of_unlabelled : (rules : Rules) (f : DeclaredField) (c : List Symbol)
       → BeginsNot ("message" ∷ "enum" ∷ "option" ∷ "oneof" ∷ "reserved" ∷ "optional" ∷ "repeated" ∷ "required" ∷ "extend" ∷ "extensions" ∷ []) c
-      → but_proto2 grammar (field grammar rules Unlabelled f) c → first_passes begins_type c ≡ true → ByKind message_kind MessageLine rules (MessageStatement.a_field f) c
+      → but_proto2 grammar (field grammar rules Unlabelled f) c → first_passes begins_type c ≡ true → ByKind message_kind MessageLine rules (a_single f) c
   of_unlabelled rules f [] b d h = absurd (false≢true h)
   of_unlabelled rules f (word w ∷ c) b d h = by_map (bytes_eq w (codes "map")) refl
     where
-      by_map : (t : Bool) → bytes_eq w (codes "map") ≡ t → ByKind message_kind MessageLine rules (MessageStatement.a_field f) (word w ∷ c)
+      by_map : (t : Bool) → bytes_eq w (codes "map") ≡ t → ByKind message_kind MessageLine rules (a_single f) (word w ∷ c)
       by_map true e = (kind.Map, map_is (word w) e, inr (f, refl, e, d))
       by_map false e = (kind.Field, kind_other (field_words ++ map_word) (Some kind.Field) w (in_both field_words map_word w b (ap (λ t. t || false) e)), (f, refl, d))
   of_unlabelled rules f (sign w ∷ c) b d h = (kind.Field, ap message_kind (ap sign ((bytes_eq-Decides w (codes ".")).0 h)), (f, refl, d))
   of_unlabelled rules f (number w ∷ c) b d h = absurd (false≢true h)
   of_unlabelled rules f (text w ∷ c) b d h = absurd (false≢true h)
 
-  pub of_statement : (rules : Rules) (s : MessageStatement) (c : List Symbol) → message_statement grammar rules (M rules) s c → ByKind message_kind MessageLine rules s c
+  of_fields : (rules : Rules) (x : Member) (c : List Symbol) → message_statement grammar rules (Body rules) (MessageStatement.a_field x) c → ByKind message_kind MessageLine rules (MessageStatement.a_field x) c
+  of_fields rules x c (inl d) = (kind.Repeated, kind_then message_kind (word (codes "repeated")) c d, (x, refl, d))
+  of_fields rules x c (inr (inl d)) = (kind.Optional, kind_then message_kind (word (codes "optional")) c d, (x, refl, d))
+  of_fields rules x c (inr (inr (inl d))) =
+      (kind.Required, kind_then message_kind (word (codes "required")) c (lined_kept (is_proto2 grammar) (Labelled "required" Unlabelled rules x) c d), (x, refl, d))
+  of_fields rules x c (inr (inr (inr d))) =
+      let s = lined_kept (not (is_proto2 grammar)) (unlabelled grammar rules x) c d in
+      subst (λ x. ByKind message_kind MessageLine rules (MessageStatement.a_field x) c) (sym s.1)
+      (of_unlabelled rules s.0 c s.2 (lined_on (not (is_proto2 grammar)) (unlabelled grammar rules x) (field grammar rules Unlabelled s.0) c (λ _. s.3) d) (field_first grammar rules Unlabelled s.0 c s.3))
+
+  of_statement : (rules : Rules) (s : MessageStatement) (c : List Symbol) → With rules s c → ByKind message_kind MessageLine rules s c
   of_statement rules MessageStatement.nothing_said c (inl d) = (kind.Option, kind_then message_kind (word (codes "option")) c d, (tt, refl, d))
   of_statement rules MessageStatement.nothing_said c (inr (inl d)) = (kind.Empty, kind_one message_kind (sign (codes ";")) c d, (tt, refl, d))
-  of_statement rules MessageStatement.nothing_said c (inr (inr (inl d))) = (
-    kind.Extend,
-    beyond_kind grammar message_kind kind.Extend (extend grammar rules) c (λ d. kind_then message_kind (word (codes "extend")) c d.2) d,
-    (tt, refl, d),
-  )
-  of_statement rules MessageStatement.nothing_said c (inr (inr (inr d))) = (
+  of_statement rules MessageStatement.nothing_said c (inr (inr d)) = (
     kind.Extensions,
     beyond_kind grammar message_kind kind.Extensions (extensions grammar rules) c (λ d. kind_then message_kind (word (codes "extensions")) c d.1) d,
     (tt, refl, d),
   )
-  of_statement rules (MessageStatement.a_field f) c (inl d) = (kind.Repeated, kind_then message_kind (word (codes "repeated")) c d, (f, refl, d))
-  of_statement rules (MessageStatement.a_field f) c (inr (inl d)) = (kind.Optional, kind_then message_kind (word (codes "optional")) c d, (f, refl, d))
-  of_statement rules (MessageStatement.a_field f) c (inr (inr (inl d))) =
-      (kind.Required, kind_then message_kind (word (codes "required")) c (lined_kept (is_proto2 grammar) (keyword "required" ▸ field grammar rules Unlabelled f) c d), (f, refl, d))
-  of_statement rules (MessageStatement.a_field f) c (inr (inr (inr d))) =
-      let x = lined_kept (not (is_proto2 grammar)) (unlabelled grammar rules f) c d in
-      of_unlabelled rules f c x.0 (lined_on (not (is_proto2 grammar)) (unlabelled grammar rules f) (field grammar rules Unlabelled f) c (λ x. x.1) d) (field_first grammar rules Unlabelled f c x.1)
+  of_statement rules (MessageStatement.a_field x) c d = of_fields rules x c d
   of_statement rules (MessageStatement.a_map m) c d =
       (kind.Map, kind_front message_kind kind.Map (is_keyword (codes "map")) map_is c (map_line_first grammar rules (MessageStatement.a_map m) c (inl (m, refl, d))), inl (m, refl, d))
-  of_statement rules (MessageStatement.a_oneof w fs) c d = (kind.Oneof, kind_then message_kind (word (codes "oneof")) c d.2, ((w, fs), refl, d))
+  of_statement rules (MessageStatement.a_oneof w xs) c d = (kind.Oneof, kind_then message_kind (word (codes "oneof")) c d.2, ((w, xs), refl, d))
   of_statement rules (MessageStatement.a_message m) c d = (
     kind.Message,
     kind_front message_kind kind.Message (is_keyword (codes "message")) (λ s h. ap message_kind (is_the_word (codes "message") s h)) c (first rules m c d),
     (m, refl, d),
   )
+  of_statement rules (MessageStatement.an_extend ms) c d = (
+    kind.Extend,
+    kind_then message_kind (word (codes "extend")) c (lined_kept (is_lenient grammar) (extend grammar rules (Body rules) ms) c d).3,
+    (ms, refl, d),
+  )
   of_statement rules (MessageStatement.an_enum e) c d = (kind.Enum, kind_then message_kind (word (codes "enum")) c d.3, (e, refl, d))
   of_statement rules (MessageStatement.reserved_ranges rs) c d = (kind.Reserved, kind_then message_kind (word (codes "reserved")) c d, inr (rs, refl, d))
   of_statement rules (MessageStatement.reserved_names ns) c d = (kind.Reserved, kind_then message_kind (word (codes "reserved")) c d, inl (ns, refl, d))
 
-  module _ (n : ℕ) (inner : Option (Reader DeclaredMessage)) (offer : Offers n never M inner) where
-    offers : (k : MessageKind) → Offers n never (MessageLine k) (message_statement_line grammar n inner k)
+  module _ (n : ℕ) (nested : Nested) (nests : Nests grammar n Body nested) (messages : Offers n never (Mapped MessageStatement.a_message M) (nested_message_reader nested)) where
+    offers : (k : MessageKind) → Offers n never (MessageLine k) (message_statement_line grammar n nested k)
     offers kind.Empty = reads_silent_end MessageStatement.nothing_said
     offers kind.Option = reads_silent_option grammar MessageStatement.nothing_said
-    offers kind.Message = on_inner inner offer
-      where
-        on_inner : (o : Option (Reader DeclaredMessage)) → Offers n never M o → Offers n never (Mapped MessageStatement.a_message M) (Rattle.std.proofs.Common.option_map (mapped MessageStatement.a_message) o)
-        on_inner None h = λ rules s c d. h rules d.0 c d.2
-        on_inner (Some p) h = reads_mapped MessageStatement.a_message h
+    offers kind.Message = messages
     offers kind.Enum = reads_mapped MessageStatement.an_enum (reads_enum grammar n)
-    offers kind.Oneof = reads_mapped (λ x. MessageStatement.a_oneof x.0 x.1) (reads_oneof grammar n)
+    offers kind.Oneof = reads_mapped (λ x. MessageStatement.a_oneof x.0 x.1) (reads_oneof grammar n Body nested nests)
     offers kind.Reserved = reads_reserved message_range message_range_reader MessageStatement.reserved_ranges MessageStatement.reserved_names message_range_first n (reads_message_range n)
-    offers kind.Repeated = reads_mapped MessageStatement.a_field (reads_behind {L = λ rules. keyword "repeated"} (reads_keyword (codes "repeated")) (reads_field grammar n Repeated))
-    offers kind.Optional = reads_mapped MessageStatement.a_field (reads_behind {L = λ rules. keyword "optional"} (reads_keyword (codes "optional")) (reads_field grammar n (optional_label grammar)))
+    offers kind.Repeated = reads_mapped MessageStatement.a_field (reads_labelled grammar n "repeated" Repeated Body nested nests)
+    offers kind.Optional = reads_mapped MessageStatement.a_field (reads_labelled grammar n "optional" (optional_label grammar) Body nested nests)
     offers kind.Map = reads_map grammar n
     offers kind.Required =
-        offers_lined (is_proto2 grammar) MessageStatement.a_field (λ rules f. keyword "required" ▸ field grammar rules Unlabelled f)
-        (behind (keyword_reader (codes "required")) (field_reader grammar n Unlabelled))
-        (reads_behind {L = λ rules. keyword "required"} (reads_keyword (codes "required")) (reads_field grammar n Unlabelled))
-    offers kind.Field =
-        offers_lined (not (is_proto2 grammar)) MessageStatement.a_field (λ rules f. field grammar rules Unlabelled f) (field_reader grammar n Unlabelled) (reads_field grammar n Unlabelled)
-    offers kind.Extend = offers_beyond grammar MessageStatement.nothing_said (extend grammar) (extend_reader grammar n) (reads_extend grammar n)
+        offers_lined (is_proto2 grammar) MessageStatement.a_field (Labelled "required" Unlabelled) (labelled_reader grammar n (codes "required") Unlabelled nested)
+        (reads_labelled grammar n "required" Unlabelled Body nested nests)
+    offers kind.Field = offers_lined (not (is_proto2 grammar)) a_single (λ rules f. field grammar rules Unlabelled f) (field_reader grammar n Unlabelled) (reads_field grammar n Unlabelled)
+    offers kind.Extend =
+        offers_lined (is_lenient grammar) MessageStatement.an_extend (λ rules ms. extend grammar rules (Body rules) ms) (extend_reader grammar n nested) (reads_extend grammar n Body nested nests)
     offers kind.Extensions = offers_beyond grammar MessageStatement.nothing_said (extensions grammar) (extensions_reader grammar n) (reads_extensions grammar n)
 
-    pub reads_statement : Reads n never (λ rules. message_statement grammar rules (M rules)) (message_statement_reader grammar n inner)
-    unfolding message_statement_reader
-    reads_statement =
-        said_so {Q = λ rules. message_statement grammar rules (M rules)}
-        (reads_kinds n never message_kind MessageLine (message_statement_line grammar n inner) offers filled
+    reads_allowed : Reads n never With (allowed_statement_reader grammar n nested)
+    unfolding allowed_statement_reader
+    reads_allowed =
+        said_so {Q = With}
+        (reads_kinds n never message_kind MessageLine (message_statement_line grammar n nested) offers filled
         (λ rules. (MessageStatement.nothing_said, sign (codes ";") ∷ [], (kind.Empty, refl, (tt, refl, refl)))))
         to_statement of_statement
 
-  module _ (n : ℕ) (statement : Reader MessageStatement) (rs : Reads n never (λ rules. message_statement grammar rules (M rules)) statement) where
-    abbrev pub MessageWith : Rules → DeclaredMessage → Language
-    MessageWith rules m ts =
-        (w : List ℕ) × (ss : List MessageStatement) × (m ≡ message_of w ss) × (keyword "message" ▸ name w ▸ mark "{" ▸ Until (message_statement grammar rules (M rules)) (mark "}") ss) ts
+module _ (grammar : Grammar) (Body : Rules → List MessageStatement → Language) where
+  abbrev Lines : Rules → DeclaredMessage → Language
+  Lines rules = message_line (Body rules)
 
-    pub reads_with : Reads n never MessageWith (message_line_reader n statement)
-    unfolding message_line_reader
-    reads_with =
-        said_so {Q = MessageWith}
-        (reads_mapped (λ x. message_of x.0 x.1)
-        (reads_behind {L = λ rules. keyword "message"} (reads_keyword (codes "message"))
-        (reads_both reads_name
-        (reads_braced rs
-        (λ rules s c rest d. kinds_fail message_kind MessageLine is_closing (closing_of_none message_kind refl) rules s c rest (of_statement rules s c d))
-        (λ rules s c d. kinds_filled message_kind MessageLine rules s c (of_statement rules s c d))))))
-        (λ rules m c d. (d.0.0, d.0.1, d.1, d.2)) (λ rules m c d. ((d.0, d.1), d.2, d.3))
+  abbrev Statement : Rules → MessageStatement → Language
+  Statement rules = message_statement grammar rules (Body rules)
+
+  abbrev lines_first : (rules : Rules) (m : DeclaredMessage) → Headed (is_keyword (codes "message")) (Lines rules m)
+  lines_first rules m = line_first (Body rules) m
+
+  as_with : (rules : Rules) (s : MessageStatement) (c : List Symbol) → Statement rules s c → With grammar Body Lines lines_first rules s c
+  as_with rules MessageStatement.nothing_said c d = d
+  as_with rules (MessageStatement.a_field x) c d = d
+  as_with rules (MessageStatement.a_map m) c d = d
+  as_with rules (MessageStatement.a_oneof w xs) c d = d
+  as_with rules (MessageStatement.a_message m) c d = d
+  as_with rules (MessageStatement.an_extend ms) c d = d
+  as_with rules (MessageStatement.an_enum e) c d = d
+  as_with rules (MessageStatement.reserved_ranges rs) c d = d
+  as_with rules (MessageStatement.reserved_names ns) c d = d
+
+  with_as : (rules : Rules) (s : MessageStatement) (c : List Symbol) → With grammar Body Lines lines_first rules s c → Statement rules s c
+  with_as rules MessageStatement.nothing_said c d = d
+  with_as rules (MessageStatement.a_field x) c d = d
+  with_as rules (MessageStatement.a_map m) c d = d
+  with_as rules (MessageStatement.a_oneof w xs) c d = d
+  with_as rules (MessageStatement.a_message m) c d = d
+  with_as rules (MessageStatement.an_extend ms) c d = d
+  with_as rules (MessageStatement.an_enum e) c d = d
+  with_as rules (MessageStatement.reserved_ranges rs) c d = d
+  with_as rules (MessageStatement.reserved_names ns) c d = d
+
+  of_kind : (rules : Rules) (s : MessageStatement) (c : List Symbol) → Statement rules s c → ByKind message_kind (MessageLine grammar Body Lines lines_first) rules s c
+  of_kind rules s c d = of_statement grammar Body Lines lines_first rules s c (as_with rules s c d)
+
+  -- { statement } "}"
+  reads_body : (n : ℕ) (statement : Reader MessageStatement) → Reads n never Statement statement → Reads n never (λ rules ss. Until (Statement rules) (mark "}") ss) (body_reader n statement)
+  reads_body n statement rs =
+      reads_until n is_closing Statement (λ rules u. mark "}") statement (mark_reader (codes "}")) rs (reads_mark (codes "}"))
+      (λ rules u c d. headed_one is_closing (sign (codes "}")) refl c d)
+      (λ rules s c rest d. kinds_fail message_kind (MessageLine grammar Body Lines lines_first) is_closing (closing_of_none message_kind refl) rules s c rest (of_kind rules s c d))
+      (λ rules s c d. kinds_filled message_kind (MessageLine grammar Body Lines lines_first) rules s c (of_kind rules s c d)) n (omega arith)
+
+  reads_line : (n : ℕ) (p : Reader (List MessageStatement)) → Reads n never Body p → Reads n never Lines (message_line_reader p)
+  unfolding message_line_reader
+  reads_line n p rp =
+      said_so {Q = Lines}
+      (reads_mapped (λ x. message_of x.0 x.1)
+      (reads_behind {L = λ rules. keyword "message"} (reads_keyword (codes "message"))
+      (reads_both reads_name (reads_behind {L = λ rules. mark "{"} (reads_mark (codes "{")) rp))))
+      (λ rules m c d. (d.0.0, d.0.1, d.1, d.2)) (λ rules m c d. ((d.0, d.1), d.2, d.3))
+
+-- ---- where a message may nest beyond the rule alone
+
+module _ (grammar : Grammar) (Body : Rules → List MessageStatement → Language) where
+  abbrev Nothing : Rules → DeclaredMessage → Language
+  Nothing rules m ts = ⊥
+
+  abbrev nothing_first : (rules : Rules) (m : DeclaredMessage) → Headed (is_keyword (codes "message")) (Nothing rules m)
+  nothing_first rules m c d = absurd d
+
+  abbrev Messageless : Rules → MessageStatement → Language
+  Messageless = With grammar Body Nothing nothing_first
+
+  -- no statement begins with the word `message` where no message may stand
+  no_message : (rules : Rules) (s : MessageStatement) (c rest : List Symbol) → Messageless rules s c → first_passes (is_keyword (codes "message")) (c ++ rest) ≡ false
+  no_message rules s c rest d = by_kind_of c (of_statement grammar Body Nothing nothing_first rules s c d)
+    where
+      is_none : (t : Symbol) (c : List Symbol) → is_keyword (codes "message") t ≡ true → ByKind message_kind (MessageLine grammar Body Nothing nothing_first) rules s (t ∷ c) → ⊥
+      is_none t c h (k, i, d) =
+          let z : message_kind t ≡ Some kind.Message = ap message_kind (is_the_word (codes "message") t h) in
+          let e : k ≡ kind.Message = cc (z, i) in
+          (subst (λ k. MessageLine grammar Body Nothing nothing_first k rules s (t ∷ c)) e d).2
+
+      by_test : (t : Symbol) (c : List Symbol) (b : Bool) → is_keyword (codes "message") t ≡ b → ByKind message_kind (MessageLine grammar Body Nothing nothing_first) rules s (t ∷ c) → is_keyword (codes "message") t ≡ false
+      by_test t c true h d = absurd (is_none t c h d)
+      by_test t c false h d = h
+
+      by_kind_of : (c : List Symbol) → ByKind message_kind (MessageLine grammar Body Nothing nothing_first) rules s c → first_passes (is_keyword (codes "message")) (c ++ rest) ≡ false
+      by_kind_of [] (k, i, d) = absurd (cc i)
+      by_kind_of (t ∷ c) d = by_test t c (is_keyword (codes "message") t) refl d
+
+  abbrev Deeper : Rules → MessageStatement → Language
+  Deeper = Mapped MessageStatement.a_message (λ rules. message_line (body grammar rules 1))
+
+  -- message M { }
+  one_more : (rules : Rules) (t : Symbol) → is_keyword (codes "message") t ≡ true → Begins (Deeper rules) (t ∷ [])
+  one_more rules t h = subst (λ t. Begins (Deeper rules) (t ∷ [])) (sym (is_the_word (codes "message") t h)) (
+    MessageStatement.a_message (message_of (codes "M") []),
+    word (codes "M") ∷ sign (codes "{") ∷ sign (codes "}") ∷ [],
+    (
+      message_of (codes "M") [],
+      refl,
+      (codes "M", [], refl, (word (codes "message") ∷ [], _, refl, (word (codes "M") ∷ [], _, refl, (sign (codes "{") ∷ [], _, refl, refl, refl), refl), refl)),
+    ),
+  )
+
+  abbrev LastOf : Rules → MessageStatement → Language
+  LastOf rules s ts = ((rules nests_bounded ≡ false) × Deeper rules s ts) ⊎ Messageless rules s ts
+
+  module _ (n : ℕ) (p : Reader (List MessageStatement)) (nests : Nests grammar n Body (Nested.beyond p)) where
+    to_last : (rules : Rules) (s : MessageStatement) (c : List Symbol) → LastOf rules s c → message_statement grammar rules (Body rules) s c
+    to_last rules s c (inl (h, (m, e, (w, ss, i, (a1, b1, h1, (a2, b2, h2, (a3, b3, h3, d, j3), j2), j1))))) =
+        subst (λ s. message_statement grammar rules (Body rules) s c) (sym e) (w, ss, i, (a1, b1, h1, (a2, b2, h2, (a3, b3, h3, nests.2 rules ss b3 h d, j3), j2), j1))
+    to_last rules MessageStatement.nothing_said c (inr d) = d
+    to_last rules (MessageStatement.a_field x) c (inr d) = d
+    to_last rules (MessageStatement.a_map m) c (inr d) = d
+    to_last rules (MessageStatement.a_oneof w xs) c (inr d) = d
+    to_last rules (MessageStatement.a_message m) c (inr d) = absurd d
+    to_last rules (MessageStatement.an_extend ms) c (inr d) = d
+    to_last rules (MessageStatement.an_enum e) c (inr d) = d
+    to_last rules (MessageStatement.reserved_ranges rs) c (inr d) = d
+    to_last rules (MessageStatement.reserved_names ns) c (inr d) = d
+
+    of_last : (rules : Rules) (s : MessageStatement) (c : List Symbol) → message_statement grammar rules (Body rules) s c → LastOf rules s c
+    of_last rules MessageStatement.nothing_said c d = inr d
+    of_last rules (MessageStatement.a_field x) c d = inr d
+    of_last rules (MessageStatement.a_map m) c d = inr d
+    of_last rules (MessageStatement.a_oneof w xs) c d = inr d
+    of_last rules (MessageStatement.a_message m) c (w, ss, i, (a1, b1, h1, (a2, b2, h2, (a3, b3, h3, d, j3), j2), j1)) =
+        let z = nests.1 rules ss b3 d in
+        inl (z.0, (m, refl, (w, ss, i, (a1, b1, h1, (a2, b2, h2, (a3, b3, h3, z.1, j3), j2), j1))))
+    of_last rules (MessageStatement.an_extend ms) c d = inr d
+    of_last rules (MessageStatement.an_enum e) c d = inr d
+    of_last rules (MessageStatement.reserved_ranges rs) c d = inr d
+    of_last rules (MessageStatement.reserved_names ns) c d = inr d
+
+    reads_last : Reads n never (λ rules. message_statement grammar rules (Body rules)) (message_statement_reader grammar n (Nested.beyond p))
+    reads_last =
+        said_so {Q = λ rules. message_statement grammar rules (Body rules)}
+        (reads_guarded n never nests_bounded (is_keyword (codes "message")) Deeper Messageless
+        (mapped MessageStatement.a_message (message_line_reader p)) (allowed_statement_reader grammar n (Nested.beyond p))
+        (reads_mapped MessageStatement.a_message (reads_line grammar (λ rules. body grammar rules 1) n p nests.0))
+        (reads_allowed grammar Body Nothing nothing_first n (Nested.beyond p) nests (λ rules s c d. d.2))
+        (λ rules s c d. line_first (body grammar rules 1) d.0 c d.2)
+        (λ rules s c rest d stop. no_message rules s c rest d)
+        one_more)
+        to_last of_last
+
+-- ---- statements, by what nests
+
+nested_lines : (grammar : Grammar) (Body : Rules → List MessageStatement → Language) (n : ℕ) → Nests grammar n Body Nested.none → Offers n never (Mapped MessageStatement.a_message (Lines grammar Body)) None
+nested_lines grammar Body n h = λ rules s c d. h rules d.2.1 d.2.3.3.3.1 d.2.3.3.3.3
+
+pub reads_statement : (grammar : Grammar) (Body : Rules → List MessageStatement → Language) (n : ℕ) (nested : Nested) → Nests grammar n Body nested
+    → Reads n never (λ rules. message_statement grammar rules (Body rules)) (message_statement_reader grammar n nested)
+reads_statement grammar Body n Nested.none h =
+    said_so {Q = Statement grammar Body} (reads_allowed grammar Body (Lines grammar Body) (lines_first grammar Body) n Nested.none h (nested_lines grammar Body n h)) (with_as grammar Body) (as_with grammar Body)
+reads_statement grammar Body n (Nested.beyond p) h = reads_last grammar Body n p h
+reads_statement grammar Body n (Nested.inside p) h =
+    said_so {Q = Statement grammar Body}
+    (reads_allowed grammar Body (Lines grammar Body) (lines_first grammar Body) n (Nested.inside p) h (reads_mapped MessageStatement.a_message (reads_line grammar Body n p h)))
+    (with_as grammar Body) (as_with grammar Body)
 
 -- ---- messages by the room that is left
-
-message_first : (grammar : Grammar) → (rules : Rules) (n : ℕ) (m : DeclaredMessage) → Headed (is_keyword (codes "message")) (message grammar rules n m)
-message_first grammar rules zero m c d = absurd d
-message_first grammar rules (suc n) m c d = headed_then (is_keyword (codes "message")) (headed_one (is_keyword (codes "message")) (word (codes "message")) refl) c d.3
 
 -- where the rule on nests is left out, one more may stand
 abbrev pub deep : ℕ → Rules → ℕ
 deep room rules = if rules nests_bounded then room else suc room
-
-abbrev None_left : (grammar : Grammar) → Rules → DeclaredMessage → Language
-None_left grammar rules = message grammar rules zero
-
-none_first : (grammar : Grammar) → (rules : Rules) (m : DeclaredMessage) → Headed (is_keyword (codes "message")) (None_left grammar rules m)
-none_first grammar rules m c d = absurd d
-
-reads_last_one : (grammar : Grammar) → (n : ℕ) → Reads n never (λ rules. message_statement grammar rules (None_left grammar rules)) (message_statement_reader grammar n None)
-reads_last_one grammar n = reads_statement grammar (None_left grammar) (none_first grammar) n None (λ rules m c d. d)
-
--- message M { }
-one_more : (grammar : Grammar) → (rules : Rules) → Begins (Mapped MessageStatement.a_message (λ rules. message grammar rules 1) rules) (word (codes "message") ∷ [])
-one_more grammar rules = (
-  MessageStatement.a_message (message_of (codes "M") []),
-  word (codes "M") ∷ sign (codes "{") ∷ sign (codes "}") ∷ [],
-  (
-    message_of (codes "M") [],
-    refl,
-    (codes "M", [], refl, (word (codes "message") ∷ [], _, refl, (word (codes "M") ∷ [], _, refl, (sign (codes "{") ∷ [], _, refl, refl, refl), refl), refl)),
-  ),
-)
-
--- no statement begins with the word `message` where no message may stand
-no_message : (grammar : Grammar) → (rules : Rules) (s : MessageStatement) (c rest : List Symbol) → message_statement grammar rules (None_left grammar rules) s c → first_passes (is_keyword (codes "message")) (c ++ rest) ≡ false
-no_message grammar rules s c rest d = by_kind_of c (of_statement grammar (None_left grammar) (none_first grammar) rules s c d)
-  where
-    is_none : (t : Symbol) (c : List Symbol) → is_keyword (codes "message") t ≡ true → ByKind message_kind (MessageLine grammar (None_left grammar) (none_first grammar)) rules s (t ∷ c) → ⊥
-    is_none t c h (k, i, d) =
-        let z : message_kind t ≡ Some kind.Message = ap message_kind (is_the_word (codes "message") t h) in
-        let e : k ≡ kind.Message = cc (z, i) in
-        (subst (λ k. MessageLine grammar (None_left grammar) (none_first grammar) k rules s (t ∷ c)) e d).2
-
-    by_test : (t : Symbol) (c : List Symbol) (b : Bool) → is_keyword (codes "message") t ≡ b → ByKind message_kind (MessageLine grammar (None_left grammar) (none_first grammar)) rules s (t ∷ c) → is_keyword (codes "message") t ≡ false
-    by_test t c true h d = absurd (is_none t c h d)
-    by_test t c false h d = h
-
-    by_kind_of : (c : List Symbol) → ByKind message_kind (MessageLine grammar (None_left grammar) (none_first grammar)) rules s c → first_passes (is_keyword (codes "message")) (c ++ rest) ≡ false
-    by_kind_of [] (k, i, d) = absurd (cc i)
-    by_kind_of (t ∷ c) d = by_test t c (is_keyword (codes "message") t) refl d
-
-abbrev LastOf : (grammar : Grammar) → Rules → MessageStatement → Language
-LastOf grammar rules s ts = ((rules nests_bounded ≡ false) × Mapped MessageStatement.a_message (λ rules. message grammar rules 1) rules s ts) ⊎ message_statement grammar rules (None_left grammar rules) s ts
-
-to_last : (grammar : Grammar) → (rules : Rules) (s : MessageStatement) (c : List Symbol) → LastOf grammar rules s c → message_statement grammar rules (message grammar rules (deep 0 rules)) s c
-to_last grammar rules s c (inl (h, (m, e, d))) =
-    subst (λ s. message_statement grammar rules (message grammar rules (deep 0 rules)) s c) (sym e) (subst (λ b. message grammar rules (if b then 0 else 1) m c) (sym h) d)
-to_last grammar rules MessageStatement.nothing_said c (inr d) = d
-to_last grammar rules (MessageStatement.a_field f) c (inr d) = d
-to_last grammar rules (MessageStatement.a_map m) c (inr d) = d
-to_last grammar rules (MessageStatement.a_oneof w fs) c (inr d) = d
-to_last grammar rules (MessageStatement.a_message m) c (inr d) = absurd d
-to_last grammar rules (MessageStatement.an_enum e) c (inr d) = d
-to_last grammar rules (MessageStatement.reserved_ranges rs) c (inr d) = d
-to_last grammar rules (MessageStatement.reserved_names ns) c (inr d) = d
-
-of_last : (grammar : Grammar) → (rules : Rules) (s : MessageStatement) (c : List Symbol) → message_statement grammar rules (message grammar rules (deep 0 rules)) s c → LastOf grammar rules s c
-of_last grammar rules MessageStatement.nothing_said c d = inr d
-of_last grammar rules (MessageStatement.a_field f) c d = inr d
-of_last grammar rules (MessageStatement.a_map m) c d = inr d
-of_last grammar rules (MessageStatement.a_oneof w fs) c d = inr d
-of_last grammar rules (MessageStatement.a_message m) c d = by_rule (rules nests_bounded) refl d
-  where
-    by_rule : (b : Bool) → rules nests_bounded ≡ b → message grammar rules (if b then 0 else 1) m c → LastOf grammar rules (MessageStatement.a_message m) c
-    by_rule true h d = absurd d
-    by_rule false h d = inl (h, (m, refl, d))
-of_last grammar rules (MessageStatement.an_enum e) c d = inr d
-of_last grammar rules (MessageStatement.reserved_ranges rs) c d = inr d
-of_last grammar rules (MessageStatement.reserved_names ns) c d = inr d
-
-reads_last : (grammar : Grammar) → (n : ℕ) → Reads n never (λ rules. message_statement grammar rules (message grammar rules (deep 0 rules))) (last_statement_reader grammar n)
-unfolding last_statement_reader
-reads_last grammar n =
-    said_so {Q = λ rules. message_statement grammar rules (message grammar rules (deep 0 rules))}
-    (reads_guarded n never nests_bounded (is_keyword (codes "message")) (Mapped MessageStatement.a_message (λ rules. message grammar rules 1)) (λ rules. message_statement grammar rules (None_left grammar rules))
-    (mapped MessageStatement.a_message (message_line_reader n (message_statement_reader grammar n None))) (message_statement_reader grammar n None)
-    (reads_mapped MessageStatement.a_message (reads_with grammar (None_left grammar) (none_first grammar) n (message_statement_reader grammar n None) (reads_last_one grammar n))) (reads_last_one grammar n)
-    (λ rules s c d. message_first grammar rules 1 d.0 c d.2)
-    (λ rules s c rest d stop. no_message grammar rules s c rest d)
-    (λ rules t h. subst (λ t. Begins (Mapped MessageStatement.a_message (λ rules. message grammar rules 1) rules) (t ∷ [])) (sym (is_the_word (codes "message") t h)) (one_more grammar rules)))
-    (to_last grammar) (of_last grammar)
 
 deeper : (room : ℕ) (rules : Rules) → suc (deep room rules) ≡ deep (suc room) rules
 deeper room rules = by_rule (rules nests_bounded)
@@ -317,24 +398,39 @@ deeper room rules = by_rule (rules nests_bounded)
     by_rule true = refl
     by_rule false = refl
 
--- a message with this room
-reads_message_in : (grammar : Grammar) → (n room : ℕ) → Reads n never (λ rules. message_statement grammar rules (message grammar rules (deep room rules))) (room_statement_reader grammar n room)
-    → Reads n never (λ rules. message grammar rules (deep (suc room) rules)) (message_reader grammar n room)
-reads_message_in grammar n room rs =
-    said_so {Q = λ rules. message grammar rules (deep (suc room) rules)}
-    (reads_with grammar (λ rules. message grammar rules (deep room rules)) (λ rules. message_first grammar rules (deep room rules)) n (room_statement_reader grammar n room) rs)
-    (λ rules m c d. subst (λ k. message grammar rules k m c) (deeper room rules) d) (λ rules m c d. subst (λ k. message grammar rules k m c) (sym (deeper room rules)) d)
+module _ (grammar : Grammar) (n : ℕ) where
+  abbrev Bodies : ℕ → Rules → List MessageStatement → Language
+  Bodies room rules = body grammar rules (deep room rules)
 
-pub reads_room : (grammar : Grammar) → (n room : ℕ) → Reads n never (λ rules. message_statement grammar rules (message grammar rules (deep room rules))) (room_statement_reader grammar n room)
-unfolding room_statement_reader
-reads_room grammar n zero = reads_last grammar n
-reads_room grammar n (suc room) =
-    reads_statement grammar (λ rules. message grammar rules (deep (suc room) rules)) (λ rules. message_first grammar rules (deep (suc room) rules)) n (Some (message_reader grammar n room))
-    (reads_message_in grammar n room (reads_room grammar n room))
+  reads_room_body : (room : ℕ) → Nests grammar n (Bodies room) (nested_in grammar n room) → Reads n never (Bodies (suc room)) (room_body_reader grammar n room)
+  reads_room_body room h =
+      said_so {Q = Bodies (suc room)}
+      (reads_body grammar (Bodies room) n (room_statement_reader grammar n room) (reads_statement grammar (Bodies room) n (nested_in grammar n room) h))
+      (λ rules ss c d. subst (λ k. body grammar rules k ss c) (deeper room rules) d) (λ rules ss c d. subst (λ k. body grammar rules k ss c) (sym (deeper room rules)) d)
+
+  last_so : (rules : Rules) (ss : List MessageStatement) (c : List Symbol) → Bodies 0 rules ss c → (rules nests_bounded ≡ false) × body grammar rules 1 ss c
+  last_so rules ss c d = by_rule (rules nests_bounded) refl d
+    where
+      by_rule : (b : Bool) → rules nests_bounded ≡ b → body grammar rules (if b then 0 else 1) ss c → (rules nests_bounded ≡ false) × body grammar rules 1 ss c
+      by_rule true h d = absurd d
+      by_rule false h d = (h, d)
+
+  pub nests_in : (room : ℕ) → Nests grammar n (Bodies room) (nested_in grammar n room)
+  unfolding nested_in
+  nests_in zero = (
+    reads_body grammar (λ rules. body grammar rules 0) n (message_statement_reader grammar n Nested.none) (reads_statement grammar (λ rules. body grammar rules 0) n Nested.none (λ rules ss c d. d)),
+    last_so,
+    (λ rules ss c h d. subst (λ b. body grammar rules (if b then 0 else 1) ss c) (sym h) d),
+  )
+  nests_in (suc room) = reads_room_body room (nests_in room)
 
 -- messages that nest at most 64 deep
 pub reads_message : (grammar : Grammar) → (n : ℕ) → Reads n never (λ rules. message grammar rules (room rules)) (message_reader grammar n 63)
-reads_message grammar n = reads_message_in grammar n 63 (reads_room grammar n 63)
+reads_message grammar n = reads_line grammar (λ rules. body grammar rules (room rules)) n (room_body_reader grammar n 63) (reads_room_body grammar n 63 (nests_in grammar n 63))
+
+-- what nests in a file
+pub nests_in_file : (grammar : Grammar) (n : ℕ) → Nests grammar n (λ rules. body grammar rules (room rules)) (nested_in grammar n 64)
+nests_in_file grammar n = nests_in grammar n 64
 
 pub file_message_first : (grammar : Grammar) → (rules : Rules) (m : DeclaredMessage) (c : List Symbol) → message grammar rules (room rules) m c → first_passes (is_keyword (codes "message")) c ≡ true
-file_message_first grammar rules m c d = message_first grammar rules (room rules) m c d
+file_message_first grammar rules m c d = line_first (body grammar rules (room rules)) m c d

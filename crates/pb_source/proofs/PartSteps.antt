@@ -1,15 +1,15 @@
 -- What a message's parts and a file's parts hold, one statement after another.
-use Rattle.std.proofs.Common.{◌≡◌, ◌≤◌, ◌<◌, ◌+◌, ℕ, suc, ℤ, pos, List, [], ◌∷◌, ◌++◌, length, take, drop, set, get_or, map, Bool, true, false, Vec, Global, String, refl, ap, sym, ◌∙◌, subst, append-nil, append_assoc, string_bytes, arith}
+use Rattle.std.proofs.Common.{◌≡◌, ◌≤◌, ◌<◌, ◌+◌, ℕ, suc, ℤ, pos, List, [], ◌∷◌, ◌++◌, length, take, drop, set, get_or, map, Bool, true, false, Vec, Global, String, refl, ap, sym, ◌∙◌, subst, append-nil, append_assoc, string_bytes, arith, Option, option_to_list}
 use Rattle.std.specs.Prelude.{if◌then◌else◌}
 use Rattle.std.proofs.lemmas.List.{length-map, length-append, drop_more, drop-set-lt, take_more_set, length_push, map_push, take_all, drop_all, map-append}
-use Rattle.pb_decl.specs.Decls.{DeclaredField, message, more_messages, messages_of}
+use Rattle.pb_decl.specs.Decls.{DeclaredField, DeclaredMessage, message, messages_of}
 use Rattle.pb_decl.specs.View.{field_view, message_view, enum_view, service_view}
 use Rattle.pb_decl.specs.declared.decl.FieldDecl.{FieldDecl}
 use Rattle.pb_decl.specs.declared.decl.EnumDecl.{EnumDecl}
 use Rattle.pb_decl.specs.declared.decl.MessageDecl.{MessageDecl}
 use Rattle.pb_decl.specs.declared.decl.ServiceDecl.{ServiceDecl}
-use Rattle.pb_source.specs.Meaning.{MapDecl, MessageStatement, FileStatement, entry_of, fields_of, map_field, in_oneof, all_said, oneofs_said, enums_said, ranges_said, names_said, nested_messages, with_own_oneofs, own_oneofs, message_of, packages_said, package_of, first_or_none, imports_said, public_from, file_enums_said, services_said}
-use Rattle.pb_source.specs.PartsView.{nested_said, HoldsSaid, with_own_oneof, OnePackage, messages_listed, FileHolds}
+use Rattle.pb_source.specs.Meaning.{MapDecl, Member, MessageStatement, FileStatement, entry_of, fields_of, map_field, fields_in, groups_in, in_oneof, all_said, oneofs_said, nested_said, enums_said, ranges_said, names_said, file_messages_said, with_own_oneofs, own_oneofs, message_of, packages_said, package_of, first_or_none, imports_said, public_from, file_enums_said, services_said}
+use Rattle.pb_source.specs.PartsView.{HoldsSaid, with_own_oneof, OnePackage, FileHolds}
 use Rattle.pb_source.specs.declared.parsing.declared.MessageParts.{MessageParts}
 use Rattle.pb_source.specs.declared.parsing.declared.FileParts.{FileParts}
 use Rattle.pb_source.proofs.SaidSteps.{all_said-push}
@@ -19,28 +19,19 @@ use Rattle.pb_source.proofs.SaidSteps.{all_said-push}
 fields_of-push : (n : ℕ) (ss : List MessageStatement) (s : MessageStatement) → fields_of n (ss ++ s ∷ []) ≡ fields_of n ss ++ fields_of (n + length (all_said oneofs_said ss)) (s ∷ [])
 fields_of-push n [] s = let e : n ≡ n + 0 = omega arith in ap (λ k. fields_of k (s ∷ [])) e
 fields_of-push n (MessageStatement.nothing_said ∷ ss) s = fields_of-push n ss s
-fields_of-push n (MessageStatement.a_field f ∷ ss) s = ap (λ fs. f ∷ fs) (fields_of-push n ss s)
+fields_of-push n (MessageStatement.a_field x ∷ ss) s = ap (λ fs. x.0 ∷ fs) (fields_of-push n ss s)
 fields_of-push n (MessageStatement.a_map m ∷ ss) s = ap (λ fs. map_field m ∷ fs) (fields_of-push n ss s)
-fields_of-push n (MessageStatement.a_oneof name fs ∷ ss) s =
+fields_of-push n (MessageStatement.a_oneof name xs ∷ ss) s =
+    let fs : List DeclaredField = fields_in xs in
     let k : ℕ = length (all_said oneofs_said ss) in
     let e : suc n + k ≡ n + suc k = omega arith in
     ap (λ gs. map (in_oneof n) fs ++ gs) (fields_of-push (suc n) ss s ∙ ap (λ j. fields_of (suc n) ss ++ fields_of j (s ∷ [])) e)
     ∙ sym (append_assoc (map (in_oneof n) fs) (fields_of (suc n) ss) (fields_of (n + suc k) (s ∷ [])))
 fields_of-push n (MessageStatement.a_message m ∷ ss) s = fields_of-push n ss s
+fields_of-push n (MessageStatement.an_extend ms ∷ ss) s = fields_of-push n ss s
 fields_of-push n (MessageStatement.an_enum e ∷ ss) s = fields_of-push n ss s
 fields_of-push n (MessageStatement.reserved_ranges rs ∷ ss) s = fields_of-push n ss s
 fields_of-push n (MessageStatement.reserved_names ns ∷ ss) s = fields_of-push n ss s
-
-nested_listed : (ss : List MessageStatement) → nested_messages ss ≡ messages_of (all_said nested_said ss)
-nested_listed [] = refl
-nested_listed (MessageStatement.nothing_said ∷ ss) = nested_listed ss
-nested_listed (MessageStatement.a_field f ∷ ss) = nested_listed ss
-nested_listed (MessageStatement.a_map m ∷ ss) = ap (more_messages (entry_of m)) (nested_listed ss)
-nested_listed (MessageStatement.a_oneof name fs ∷ ss) = nested_listed ss
-nested_listed (MessageStatement.a_message m ∷ ss) = ap (more_messages m) (nested_listed ss)
-nested_listed (MessageStatement.an_enum e ∷ ss) = nested_listed ss
-nested_listed (MessageStatement.reserved_ranges rs ∷ ss) = nested_listed ss
-nested_listed (MessageStatement.reserved_names ns ∷ ss) = nested_listed ss
 
 -- as many oneofs as statements say
 oneofs_counted : (p : MessageParts) (ss : List MessageStatement) → HoldsSaid p ss → length p.oneofs.items ≡ length (all_said oneofs_said ss)
@@ -80,9 +71,10 @@ module _ (p : MessageParts) (ss : List MessageStatement) (h : HoldsSaid p ss) wh
       holds_more p p ss MessageStatement.nothing_said h (no_more field_view p.fields.items) (no_more message_view p.messages.items) (no_more enum_view p.enums.items)
       (no_more string_bytes p.oneofs.items) (sym (append-nil p.reserved.items)) (no_more string_bytes p.reserved_names.items)
 
-  pub holds_field : (v : Vec FieldDecl Global) (f : FieldDecl) → v.items ≡ p.fields.items ++ f ∷ [] → HoldsSaid (record p { fields = v }) (ss ++ MessageStatement.a_field (field_view f) ∷ [])
-  holds_field v f e =
-      holds_more p (record p { fields = v }) ss (MessageStatement.a_field (field_view f)) h (one_more field_view p.fields.items v.items f e) (no_more message_view p.messages.items) (no_more enum_view p.enums.items)
+  pub holds_member : (v : Vec FieldDecl Global) (f : FieldDecl) (w : Vec MessageDecl Global) (o : Option DeclaredMessage) → v.items ≡ p.fields.items ++ f ∷ []
+      → map message_view w.items ≡ map message_view p.messages.items ++ option_to_list o → HoldsSaid (record p { fields = v; messages = w }) (ss ++ MessageStatement.a_field (field_view f, o) ∷ [])
+  holds_member v f w o e g =
+      holds_more p (record p { fields = v; messages = w }) ss (MessageStatement.a_field (field_view f, o)) h (one_more field_view p.fields.items v.items f e) g (no_more enum_view p.enums.items)
       (no_more string_bytes p.oneofs.items) (sym (append-nil p.reserved.items)) (no_more string_bytes p.reserved_names.items)
 
   pub holds_map : (m : MapDecl) (v : Vec MessageDecl Global) (entry : MessageDecl) (w : Vec FieldDecl Global) (f : FieldDecl) → v.items ≡ p.messages.items ++ entry ∷ [] → message_view entry ≡ entry_of m
@@ -93,13 +85,20 @@ module _ (p : MessageParts) (ss : List MessageStatement) (h : HoldsSaid p ss) wh
       (one_more message_view p.messages.items v.items entry e ∙ ap (λ x. map message_view p.messages.items ++ x ∷ []) is)
       (no_more enum_view p.enums.items) (no_more string_bytes p.oneofs.items) (sym (append-nil p.reserved.items)) (no_more string_bytes p.reserved_names.items)
 
-  pub holds_oneof : (v : Vec FieldDecl Global) (fs : List DeclaredField) (w : Vec (String Global) Global) (name : String Global)
-      → map field_view v.items ≡ map field_view p.fields.items ++ map (in_oneof (length p.oneofs.items)) fs → w.items ≡ p.oneofs.items ++ name ∷ []
-      → HoldsSaid (record p { fields = v; oneofs = w }) (ss ++ MessageStatement.a_oneof (string_bytes name) fs ∷ [])
-  holds_oneof v fs w name e g =
-      holds_more p (record p { fields = v; oneofs = w }) ss (MessageStatement.a_oneof (string_bytes name) fs) h
-      (e ∙ ap (λ gs. map field_view p.fields.items ++ gs) (sym (append-nil (map (in_oneof (length p.oneofs.items)) fs)))) (no_more message_view p.messages.items) (no_more enum_view p.enums.items)
+  pub holds_oneof : (v : Vec FieldDecl Global) (u : Vec MessageDecl Global) (xs : List Member) (w : Vec (String Global) Global) (name : String Global)
+      → map field_view v.items ≡ map field_view p.fields.items ++ map (in_oneof (length p.oneofs.items)) (fields_in xs)
+      → map message_view u.items ≡ map message_view p.messages.items ++ groups_in xs → w.items ≡ p.oneofs.items ++ name ∷ []
+      → HoldsSaid (record p { fields = v; messages = u; oneofs = w }) (ss ++ MessageStatement.a_oneof (string_bytes name) xs ∷ [])
+  holds_oneof v u xs w name e m g =
+      holds_more p (record p { fields = v; messages = u; oneofs = w }) ss (MessageStatement.a_oneof (string_bytes name) xs) h
+      (e ∙ ap (λ gs. map field_view p.fields.items ++ gs) (sym (append-nil (map (in_oneof (length p.oneofs.items)) (fields_in xs))))) m (no_more enum_view p.enums.items)
       (one_more string_bytes p.oneofs.items w.items name g) (sym (append-nil p.reserved.items)) (no_more string_bytes p.reserved_names.items)
+
+  pub holds_extend : (v : Vec MessageDecl Global) (ms : List MessageDecl) → v.items ≡ p.messages.items ++ ms → HoldsSaid (record p { messages = v }) (ss ++ MessageStatement.an_extend (map message_view ms) ∷ [])
+  holds_extend v ms e =
+      holds_more p (record p { messages = v }) ss (MessageStatement.an_extend (map message_view ms)) h (no_more field_view p.fields.items)
+      (ap (map message_view) e ∙ map-append message_view p.messages.items ms) (no_more enum_view p.enums.items)
+      (no_more string_bytes p.oneofs.items) (sym (append-nil p.reserved.items)) (no_more string_bytes p.reserved_names.items)
 
   pub holds_message : (v : Vec MessageDecl Global) (m : MessageDecl) → v.items ≡ p.messages.items ++ m ∷ [] → HoldsSaid (record p { messages = v }) (ss ++ MessageStatement.a_message (message_view m) ∷ [])
   holds_message v m e =
@@ -148,7 +147,7 @@ message_made p ss name fields oneofs h f o =
       reserved = h.reserved i;
       reserved_names = h.reserved_names i;
       is_entry = false;
-    }) ((ap messages_of h.messages ∙ sym (nested_listed ss)) i)
+    }) (messages_of (h.messages i))
 
 -- ---- optional fields, each in a oneof of its own
 
@@ -227,6 +226,7 @@ public_from-push n (FileStatement.an_import false f ∷ ss) s =
     public_from-push (suc n) ss s ∙ ap (λ j. public_from (suc n) ss ++ public_from j (s ∷ [])) e
 public_from-push n (FileStatement.a_package p ∷ ss) s = public_from-push n ss s
 public_from-push n (FileStatement.a_message m ∷ ss) s = public_from-push n ss s
+public_from-push n (FileStatement.an_extend ms ∷ ss) s = public_from-push n ss s
 public_from-push n (FileStatement.an_enum e ∷ ss) s = public_from-push n ss s
 public_from-push n (FileStatement.a_service d ∷ ss) s = public_from-push n ss s
 
@@ -250,7 +250,7 @@ file_holds_more : (old new : FileParts) (ss : List FileStatement) (s : FileState
     → string_bytes new.«package» ≡ package_of (ss ++ s ∷ [])
     → map string_bytes new.imports.items ≡ map string_bytes old.imports.items ++ imports_said s
     → new.public.items ≡ old.public.items ++ public_from (length old.imports.items) (s ∷ [])
-    → map message_view new.messages.items ≡ map message_view old.messages.items ++ messages_listed s
+    → map message_view new.messages.items ≡ map message_view old.messages.items ++ file_messages_said s
     → map enum_view new.enums.items ≡ map enum_view old.enums.items ++ file_enums_said s
     → map service_view new.services.items ≡ map service_view old.services.items ++ services_said s
     → FileHolds new (ss ++ s ∷ [])
@@ -261,7 +261,7 @@ file_holds_more old new ss s h named imports indexes messages enums services =
       package_name = named;
       imports = imports ∙ ap (λ xs. xs ++ imports_said s) h.imports ∙ sym (all_said-push imports_said ss s);
       public_indexes = indexes ∙ ap (λ zs. zs ++ public_from (length old.imports.items) (s ∷ [])) h.public_indexes ∙ ap (λ k. public_from 0 ss ++ public_from k (s ∷ [])) e ∙ sym (public_from-push 0 ss s);
-      messages = messages ∙ ap (λ ms. ms ++ messages_listed s) h.messages ∙ sym (all_said-push messages_listed ss s);
+      messages = messages ∙ ap (λ ms. ms ++ file_messages_said s) h.messages ∙ sym (all_said-push file_messages_said ss s);
       enums = enums ∙ ap (λ es. es ++ file_enums_said s) h.enums ∙ sym (all_said-push file_enums_said ss s);
       services = services ∙ ap (λ xs. xs ++ services_said s) h.services ∙ sym (all_said-push services_said ss s);
     }
@@ -292,6 +292,11 @@ module _ (p : FileParts) (ss : List FileStatement) (h : FileHolds p ss) where
   file_holds_message v m e =
       file_holds_more p (record p { messages = v }) ss (FileStatement.a_message (message_view m)) h (still (FileStatement.a_message (message_view m)) refl) (no_more string_bytes p.imports.items)
       (sym (append-nil p.public.items)) (one_more message_view p.messages.items v.items m e) (no_more enum_view p.enums.items) (no_more service_view p.services.items)
+
+  pub file_holds_extend : (v : Vec MessageDecl Global) (ms : List MessageDecl) → v.items ≡ p.messages.items ++ ms → FileHolds (record p { messages = v }) (ss ++ FileStatement.an_extend (map message_view ms) ∷ [])
+  file_holds_extend v ms e =
+      file_holds_more p (record p { messages = v }) ss (FileStatement.an_extend (map message_view ms)) h (still (FileStatement.an_extend (map message_view ms)) refl) (no_more string_bytes p.imports.items)
+      (sym (append-nil p.public.items)) (ap (map message_view) e ∙ map-append message_view p.messages.items ms) (no_more enum_view p.enums.items) (no_more service_view p.services.items)
 
   pub file_holds_enum : (v : Vec EnumDecl Global) (x : EnumDecl) → v.items ≡ p.enums.items ++ x ∷ [] → FileHolds (record p { enums = v }) (ss ++ FileStatement.an_enum (enum_view x) ∷ [])
   file_holds_enum v x e =

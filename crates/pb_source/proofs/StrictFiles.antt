@@ -13,7 +13,7 @@ use Rattle.pb_tokens.proofs.StrictLines.{Widens, until_wider, option_wider, sett
 use Rattle.pb_source.specs.declared.kind.Label.{Label}
 use Rattle.pb_source.specs.declared.kind.Label.TheVariants.{Unlabelled, Repeated, Optional}
 use Rattle.pb_source.specs.Meaning.{MapDecl, MessageStatement, EnumStatement, FileStatement, file_of}
-use Rattle.pb_source.specs.Grammar.{field, map_line, oneof_statement, oneof, enum_statement, enum_line, message_statement, message, room, method_statement, method_end, method, service_statement, service, file_statement, file}
+use Rattle.pb_source.specs.Grammar.{field, member, map_line, oneof_statement, oneof, enum_statement, enum_line, message_line, message_statement, body, message, room, method_statement, method_end, method, service_statement, service, file_statement, file}
 use Rattle.pb_source.specs.Source.{symbols_alone, IsSource, IsLenientSource}
 
 -- ---- fields, oneofs and enums
@@ -27,14 +27,20 @@ map_wider m c
     (a1, b1, h1, (a2, b2, h2, (a3, b3, h3, (a4, b4, h4, (a5, b5, h5, (a6, b6, h6, (a7, b7, h7, (a8, b8, h8, (a9, b9, h9, h, j9), j8), j7), j6), j5), j4), j3), j2), j1) =
     (a1, b1, h1, (a2, b2, h2, (a3, b3, h3, (a4, b4, h4, (a5, b5, h5, (a6, b6, h6, (a7, b7, h7, (a8, b8, h8, (a9, b9, h9, field_end_wider m.packed b9 h, j9), j8), j7), j6), j5), j4), j3), j2), j1)
 
-oneof_statement_wider : Widens (oneof_statement Strict all_rules) (oneof_statement (Lenient Proto3) all_rules)
-oneof_statement_wider None c (inl d) = inl (option_wider c d)
-oneof_statement_wider None c (inr d) = inr d
-oneof_statement_wider (Some f) c (b, d) = (b, field_wider Unlabelled f c d)
+-- in neither grammar `group` begins a group
+module _ (B C : List MessageStatement → Language) where
+  member_wider : (l : Label) → Widens (member Strict all_rules B l) (member (Lenient Proto3) all_rules C l)
+  member_wider l x c (inl (f, e, b, d)) = inl (f, e, b, field_wider l f c d)
+  member_wider l x c (inr d) = absurd d
 
-oneof_wider : (n : List ℕ) → Widens (oneof Strict all_rules n) (oneof (Lenient Proto3) all_rules n)
-oneof_wider n fs c (ss, e, (a1, b1, h1, (a2, b2, h2, (a3, b3, h3, h, j3), j2), j1)) =
-    (ss, e, (a1, b1, h1, (a2, b2, h2, (a3, b3, h3, until_wider (oneof_statement Strict all_rules) (oneof_statement (Lenient Proto3) all_rules) (mark "}") oneof_statement_wider ss b3 h, j3), j2), j1))
+  oneof_statement_wider : Widens (oneof_statement Strict all_rules B) (oneof_statement (Lenient Proto3) all_rules C)
+  oneof_statement_wider None c (inl d) = inl (option_wider c d)
+  oneof_statement_wider None c (inr d) = inr d
+  oneof_statement_wider (Some x) c (b, d) = (b, member_wider Unlabelled x c d)
+
+  oneof_wider : (n : List ℕ) → Widens (oneof Strict all_rules B n) (oneof (Lenient Proto3) all_rules C n)
+  oneof_wider n xs c (ss, e, (a1, b1, h1, (a2, b2, h2, (a3, b3, h3, h, j3), j2), j1)) =
+      (ss, e, (a1, b1, h1, (a2, b2, h2, (a3, b3, h3, until_wider (oneof_statement Strict all_rules B) (oneof_statement (Lenient Proto3) all_rules C) (mark "}") oneof_statement_wider ss b3 h, j3), j2), j1))
 
 enum_statement_wider : Widens (enum_statement Strict all_rules) (enum_statement (Lenient Proto3) all_rules)
 enum_statement_wider EnumStatement.nothing_said c (inl (a1, b1, h1, (a2, b2, h2, h, j2), j1)) = inl (a1, b1, h1, (a2, b2, setting_wider (codes "allow_alias") None a2 h2, h, j2), j1)
@@ -51,50 +57,34 @@ enum_wider e c (n, ss, i, (a1, b1, h1, (a2, b2, h2, (a3, b3, h3, h, j3), j2), j1
 
 -- ---- messages
 
-module _ (M N : DeclaredMessage → Language) (wider : Widens M N) where
-  message_statement_wider : Widens (message_statement Strict all_rules M) (message_statement (Lenient Proto3) all_rules N)
+module _ (B C : List MessageStatement → Language) (wider : Widens B C) where
+  message_line_wider : Widens (message_line B) (message_line C)
+  message_line_wider m c (w, ss, e, (a1, b1, h1, (a2, b2, h2, (a3, b3, h3, h, j3), j2), j1)) = (w, ss, e, (a1, b1, h1, (a2, b2, h2, (a3, b3, h3, wider ss b3 h, j3), j2), j1))
+
+  message_statement_wider : Widens (message_statement Strict all_rules B) (message_statement (Lenient Proto3) all_rules C)
   message_statement_wider MessageStatement.nothing_said c (inl d) = inl (option_wider c d)
   message_statement_wider MessageStatement.nothing_said c (inr (inl d)) = inr (inl d)
-  message_statement_wider MessageStatement.nothing_said c (inr (inr (inl d))) = absurd d
-  message_statement_wider MessageStatement.nothing_said c (inr (inr (inr d))) = absurd d
-  message_statement_wider (MessageStatement.a_field f) c (inl (a, b, ha, hb, j)) = inl (a, b, ha, field_wider Repeated f b hb, j)
-  message_statement_wider (MessageStatement.a_field f) c (inr (inl (a, b, ha, hb, j))) = inr (inl (a, b, ha, field_wider Optional f b hb, j))
-  message_statement_wider (MessageStatement.a_field f) c (inr (inr (inl d))) = absurd d
-  message_statement_wider (MessageStatement.a_field f) c (inr (inr (inr (b, d)))) = inr (inr (inr (b, field_wider Unlabelled f c d)))
+  message_statement_wider MessageStatement.nothing_said c (inr (inr d)) = absurd d
+  message_statement_wider (MessageStatement.a_field x) c (inl (a, b, ha, hb, j)) = inl (a, b, ha, member_wider B C Repeated x b hb, j)
+  message_statement_wider (MessageStatement.a_field x) c (inr (inl (a, b, ha, hb, j))) = inr (inl (a, b, ha, member_wider B C Optional x b hb, j))
+  message_statement_wider (MessageStatement.a_field x) c (inr (inr (inl d))) = absurd d
+  message_statement_wider (MessageStatement.a_field x) c (inr (inr (inr (f, e, b, d)))) = inr (inr (inr (f, e, b, field_wider Unlabelled f c d)))
   message_statement_wider (MessageStatement.a_map m) c d = map_wider m c d
-  message_statement_wider (MessageStatement.a_oneof n fs) c d = oneof_wider n fs c d
-  message_statement_wider (MessageStatement.a_message m) c d = wider m c d
+  message_statement_wider (MessageStatement.a_oneof n xs) c d = oneof_wider B C n xs c d
+  message_statement_wider (MessageStatement.a_message m) c d = message_line_wider m c d
+  message_statement_wider (MessageStatement.an_extend ms) c d = absurd d
   message_statement_wider (MessageStatement.an_enum e) c d = enum_wider e c d
   message_statement_wider (MessageStatement.reserved_ranges rs) c d = d
   message_statement_wider (MessageStatement.reserved_names ns) c d = d
 
+body_wider : (n : ℕ) → Widens (body Strict all_rules n) (body (Lenient Proto3) all_rules n)
+body_wider zero ss c d = absurd d
+body_wider (suc n) ss c d =
+    until_wider (message_statement Strict all_rules (body Strict all_rules n)) (message_statement (Lenient Proto3) all_rules (body (Lenient Proto3) all_rules n)) (mark "}")
+    (message_statement_wider (body Strict all_rules n) (body (Lenient Proto3) all_rules n) (body_wider n)) ss c d
+
 message_wider : (n : ℕ) → Widens (message Strict all_rules n) (message (Lenient Proto3) all_rules n)
-message_wider zero m c d = absurd d
-message_wider (suc n) m c (w, ss, e, (a1, b1, h1, (a2, b2, h2, (a3, b3, h3, h, j3), j2), j1)) = (
-  w,
-  ss,
-  e,
-  (
-    a1,
-    b1,
-    h1,
-    (
-      a2,
-      b2,
-      h2,
-      (
-        a3,
-        b3,
-        h3,
-        until_wider (message_statement Strict all_rules (message Strict all_rules n)) (message_statement (Lenient Proto3) all_rules (message (Lenient Proto3) all_rules n)) (mark "}")
-            (message_statement_wider (message Strict all_rules n) (message (Lenient Proto3) all_rules n) (message_wider n)) ss b3 h,
-        j3,
-      ),
-      j2,
-    ),
-    j1,
-  ),
-)
+message_wider n = message_line_wider (body Strict all_rules n) (body (Lenient Proto3) all_rules n) (body_wider n)
 
 -- ---- services
 
@@ -124,8 +114,8 @@ service_wider s c (ss, e, (a1, b1, h1, (a2, b2, h2, (a3, b3, h3, h, j3), j2), j1
 
 file_statement_wider : Widens (file_statement Strict all_rules) (file_statement (Lenient Proto3) all_rules)
 file_statement_wider FileStatement.nothing_said c (inl d) = inl (option_wider c d)
-file_statement_wider FileStatement.nothing_said c (inr (inl d)) = inr (inl d)
-file_statement_wider FileStatement.nothing_said c (inr (inr d)) = absurd d
+file_statement_wider FileStatement.nothing_said c (inr d) = inr d
+file_statement_wider (FileStatement.an_extend ms) c d = absurd d
 file_statement_wider (FileStatement.an_import is_public n) c d = d
 file_statement_wider (FileStatement.a_package p) c d = d
 file_statement_wider (FileStatement.a_message m) c d = message_wider 64 m c d

@@ -4,8 +4,9 @@ use Prim.Native.String.{String}
 use Rattle.std.specs.Prelude.{◌≡◌, ℕ, zero, suc, ◌≤◌, ℤ, List, [], ◌∷◌, length, codes}
 use Rattle.std.specs.Prelude.{Bool, true, false, not, if◌then◌else◌, Option, Some, None, ◌⊎◌}
 use Rattle.std.specs.Str.{bytes_eq}
+use Rattle.std.specs.Char.{is_ascii_uppercase}
 use Rattle.pb_decl.specs.Decls.{DeclaredField, DeclaredEnum, DeclaredMessage, DeclaredMethod, DeclaredService, DeclaredFile}
-use Rattle.pb_tokens.specs.Phrases.{keyword, mark, name, Until, Listed, BeginsNot, fullname, counted, signed, option, setting, field_end, value_end}
+use Rattle.pb_tokens.specs.Phrases.{keyword, mark, name, Until, Listed, BeginsNot, fullname, counted, signed, option, setting, field_end, group_end, value_end}
 use Rattle.pb_tokens.specs.Phrases.{key_type, typename, typed, message_range, enum_range, utf8_text}
 use Rattle.pb_tokens.specs.declared.rule.Rule.TheVariants.{SyntaxFirst as syntax_first, NestsBounded as nests_bounded}
 use Rattle.pb_tokens.specs.declared.grammar.Grammar.{Grammar}
@@ -17,11 +18,11 @@ use Rattle.pb_tokens.specs.Language.{Language, ◌▸◌, ◌or◌, one, nothing
 use Rattle.pb_tokens.specs.Said.{TypeSaid, joined}
 use Rattle.pb_source.specs.declared.reading.Reading.{Reading}
 use Rattle.pb_source.specs.declared.reading.Reading.TheVariants as reading
-use Rattle.pb_source.specs.Syntaxes.{is_lenient, is_proto2, optional_label}
+use Rattle.pb_source.specs.Syntaxes.{is_lenient, is_proto2, optional_label, grouping}
 use Rattle.pb_source.specs.declared.kind.Label.{Label}
 use Rattle.pb_source.specs.declared.kind.Label.TheVariants.{Unlabelled, Repeated}
-use Rattle.pb_source.specs.Meaning.{MapDecl, MessageStatement, EnumStatement, FileStatement}
-use Rattle.pb_source.specs.Meaning.{those_said, field_of, message_of, enum_of, all_said, packages_said, file_of}
+use Rattle.pb_source.specs.Meaning.{MapDecl, Member, MessageStatement, EnumStatement, FileStatement}
+use Rattle.pb_source.specs.Meaning.{those_said, field_of, group_field, message_of, enum_of, all_said, packages_said, file_of}
 
 -- ---- what only some of the grammars have
 
@@ -50,20 +51,47 @@ field g rules l f ts =
     (t : TypeSaid) × (w : List ℕ) × (n : ℕ) × (packed : Option Bool) × (f ≡ field_of l t w n packed)
     × (typed t ▸ name w ▸ mark "=" ▸ counted rules n ▸ field_end g rules packed) ts
 
+-- ---- groups (Protocol Buffers Language Specification (Proto2), "Group field")
+
+-- groupname = a word that begins with a capital letter
+abbrev pub begins_capital : List ℕ → Bool
+begins_capital [] = false
+begins_capital (c ∷ cs) = is_ascii_uppercase c
+
+abbrev pub group_name : List ℕ → Language
+group_name w ts = (begins_capital w ≡ true) × name w ts
+
+-- "group" groupname "=" integer [ opts ] "{"
+abbrev pub group_head : Grammar → Rules → List ℕ → ℕ → Option Bool → Language
+group_head g rules w n packed = keyword "group" ▸ group_name w ▸ mark "=" ▸ counted rules n ▸ group_end g rules packed
+
+-- "group" groupname "=" integer [ opts ] "{" { statement } "}", where Body has the statements of a nested message, up to the closing brace
+abbrev pub group : Grammar → Rules → (List MessageStatement → Language) → Label → Member → Language
+group g rules Body l x ts =
+    (w : List ℕ) × (n : ℕ) × (packed : Option Bool) × (ss : List MessageStatement) × (x ≡ (group_field l w n packed, Some (message_of w ss)))
+    × (group_head g rules w n packed ▸ Body ss) ts
+
+-- a field, or in proto2 a group
+abbrev pub member : Grammar → Rules → (List MessageStatement → Language) → Label → Member → Language
+member g rules Body l x ts =
+    ((f : DeclaredField) × (x ≡ (f, None)) × BeginsNot (grouping g) ts × field g rules l f ts) ⊎ in_proto2 g (group g rules Body l x) ts
+
+-- ---- maps and oneofs
+
 -- map       = "map" "<" keytype "," type ">" word "=" integer [ opts ] ";"
 abbrev pub map_line : Grammar → Rules → MapDecl → Language
 map_line g rules m =
     keyword "map" ▸ mark "<" ▸ key_type m.key ▸ mark "," ▸ typed m.value ▸ mark ">" ▸ name m.name ▸ mark "=" ▸ counted rules m.number ▸ field_end g rules m.packed
 
--- { option | type word "=" integer [ opts ] ";" | ";" }, of which a field says something
-abbrev pub oneof_statement : Grammar → Rules → Option DeclaredField → Language
-oneof_statement g rules None = option g rules or mark ";"
-oneof_statement g rules (Some f) = λ ts. BeginsNot ("option" ∷ []) ts × field g rules Unlabelled f ts
+-- { option | type word "=" integer [ opts ] ";" | ";" }, of which a field says something; in proto2 { option | field | group | ";" }
+abbrev pub oneof_statement : Grammar → Rules → (List MessageStatement → Language) → Option Member → Language
+oneof_statement g rules Body None = option g rules or mark ";"
+oneof_statement g rules Body (Some x) = λ ts. BeginsNot ("option" ∷ []) ts × member g rules Body Unlabelled x ts
 
 -- oneof     = "oneof" word "{" { option | type word "=" integer [ opts ] ";" | ";" } "}"
-abbrev pub oneof : Grammar → Rules → List ℕ → List DeclaredField → Language
-oneof g rules n fs ts =
-    (ss : List (Option DeclaredField)) × (fs ≡ those_said ss) × (keyword "oneof" ▸ name n ▸ mark "{" ▸ Until (oneof_statement g rules) (mark "}") ss) ts
+abbrev pub oneof : Grammar → Rules → (List MessageStatement → Language) → List ℕ → List Member → Language
+oneof g rules Body n xs ts =
+    (ss : List (Option Member)) × (xs ≡ those_said ss) × (keyword "oneof" ▸ name n ▸ mark "{" ▸ Until (oneof_statement g rules Body) (mark "}") ss) ts
 
 -- ---- reserved
 
@@ -91,21 +119,22 @@ enum_line g rules e ts =
 
 -- ---- extensions
 
--- [ label ] type word "=" integer [ opts ] ";", in proto2 with its label
-abbrev pub extended_field : Grammar → Rules → DeclaredField → Language
-extended_field g rules f =
-    (keyword "repeated" ▸ field g rules Repeated f) or (keyword "optional" ▸ field g rules (optional_label g) f)
-    or in_proto2 g (keyword "required" ▸ field g rules Unlabelled f)
-    or but_proto2 g (λ ts. BeginsNot ("repeated" ∷ "optional" ∷ "required" ∷ []) ts × field g rules Unlabelled f ts)
+-- [ label ] type word "=" integer [ opts ] ";", in proto2 with its label, or a group with its label
+abbrev pub extended_field : Grammar → Rules → (List MessageStatement → Language) → Member → Language
+extended_field g rules Body x =
+    (keyword "repeated" ▸ member g rules Body Repeated x) or (keyword "optional" ▸ member g rules Body (optional_label g) x)
+    or in_proto2 g (keyword "required" ▸ member g rules Body Unlabelled x)
+    or but_proto2 g (λ ts. (f : DeclaredField) × (x ≡ (f, None)) × BeginsNot ("repeated" ∷ "optional" ∷ "required" ∷ []) ts × field g rules Unlabelled f ts)
 
--- { field | ";" }
-abbrev pub extension : Grammar → Rules → Unit {0} → Language
-extension g rules u ts = mark ";" ts ⊎ ((f : DeclaredField) × extended_field g rules f ts)
+-- { field | ";" }, in proto2 { field | group | ";" }, and the message of a group
+abbrev pub extension : Grammar → Rules → (List MessageStatement → Language) → Option DeclaredMessage → Language
+extension g rules Body o ts = ((o ≡ None) × mark ";" ts) ⊎ ((x : Member) × (o ≡ x.1) × extended_field g rules Body x ts)
 
 -- extend    = "extend" typename "{" { field | ";" } "}"
-abbrev pub extend : Grammar → Rules → Language
-extend g rules ts =
-    (n : List ℕ) × (us : List (Unit {0})) × (keyword "extend" ▸ typename n ▸ mark "{" ▸ Until (extension g rules) (mark "}") us) ts
+abbrev pub extend : Grammar → Rules → (List MessageStatement → Language) → List DeclaredMessage → Language
+extend g rules Body ms ts =
+    (n : List ℕ) × (os : List (Option DeclaredMessage)) × (ms ≡ those_said os)
+    × (keyword "extend" ▸ typename n ▸ mark "{" ▸ Until (extension g rules Body) (mark "}") os) ts
 
 -- extensions = "extensions" range { "," range } [ opts ] ";"
 abbrev pub extensions : Grammar → Rules → Language
@@ -114,33 +143,42 @@ extensions g rules ts = (rs : List (ℤ × ℤ)) × (keyword "extensions" ▸ Li
 -- ---- messages
 
 -- A field begins with its label, or with its type, which none of these words begins. (`map` begins one where no `<` follows.)
-abbrev pub unlabelled : Grammar → Rules → DeclaredField → Language
-unlabelled g rules f ts =
-    BeginsNot ("message" ∷ "enum" ∷ "option" ∷ "oneof" ∷ "reserved" ∷ "optional" ∷ "repeated" ∷ "required" ∷ "extend" ∷ "extensions" ∷ []) ts
+abbrev pub unlabelled : Grammar → Rules → Member → Language
+unlabelled g rules x ts =
+    (f : DeclaredField) × (x ≡ (f, None))
+    × BeginsNot ("message" ∷ "enum" ∷ "option" ∷ "oneof" ∷ "reserved" ∷ "optional" ∷ "repeated" ∷ "required" ∷ "extend" ∷ "extensions" ∷ []) ts
     × field g rules Unlabelled f ts
 
--- { field | enum | message | option | oneof | map | reserved | ";" }, in the lenient grammars extend | extensions too, where Message has the messages
--- that may stand here;
--- field     = [ "repeated" | "optional" ] type word "=" integer [ opts ] ";", in proto2 ( "repeated" | "optional" | "required" ) type ..
-abbrev pub message_statement : Grammar → Rules → (DeclaredMessage → Language) → MessageStatement → Language
-message_statement g rules Message MessageStatement.nothing_said =
-    option g rules or mark ";" or beyond_strict g (extend g rules) or beyond_strict g (extensions g rules)
-message_statement g rules Message (MessageStatement.a_field f) =
-    (keyword "repeated" ▸ field g rules Repeated f) or (keyword "optional" ▸ field g rules (optional_label g) f)
-    or in_proto2 g (keyword "required" ▸ field g rules Unlabelled f) or but_proto2 g (unlabelled g rules f)
-message_statement g rules Message (MessageStatement.a_map m) = map_line g rules m
-message_statement g rules Message (MessageStatement.a_oneof n fs) = oneof g rules n fs
-message_statement g rules Message (MessageStatement.a_message m) = Message m
-message_statement g rules Message (MessageStatement.an_enum e) = enum_line g rules e
-message_statement g rules Message (MessageStatement.reserved_ranges rs) = ranges_line (message_range rules) rs
-message_statement g rules Message (MessageStatement.reserved_names ns) = names_line rules ns
+-- "message" word "{" { statement } "}", where Body has the statements, up to the closing brace
+abbrev pub message_line : (List MessageStatement → Language) → DeclaredMessage → Language
+message_line Body m ts =
+    (n : List ℕ) × (ss : List MessageStatement) × (m ≡ message_of n ss) × (keyword "message" ▸ name n ▸ mark "{" ▸ Body ss) ts
+
+-- { field | enum | message | option | oneof | map | reserved | ";" }, in the lenient grammars extend | extensions too, where Body has the statements of
+-- the messages that may nest here, each up to its closing brace;
+-- field     = [ "repeated" | "optional" ] type word "=" integer [ opts ] ";", in proto2 ( "repeated" | "optional" | "required" ) type ..,
+-- group     = ( "repeated" | "optional" | "required" ) "group" groupname ..
+abbrev pub message_statement : Grammar → Rules → (List MessageStatement → Language) → MessageStatement → Language
+message_statement g rules Body MessageStatement.nothing_said = option g rules or mark ";" or beyond_strict g (extensions g rules)
+message_statement g rules Body (MessageStatement.a_field x) =
+    (keyword "repeated" ▸ member g rules Body Repeated x) or (keyword "optional" ▸ member g rules Body (optional_label g) x)
+    or in_proto2 g (keyword "required" ▸ member g rules Body Unlabelled x) or but_proto2 g (unlabelled g rules x)
+message_statement g rules Body (MessageStatement.a_map m) = map_line g rules m
+message_statement g rules Body (MessageStatement.a_oneof n xs) = oneof g rules Body n xs
+message_statement g rules Body (MessageStatement.a_message m) = message_line Body m
+message_statement g rules Body (MessageStatement.an_extend ms) = beyond_strict g (extend g rules Body ms)
+message_statement g rules Body (MessageStatement.an_enum e) = enum_line g rules e
+message_statement g rules Body (MessageStatement.reserved_ranges rs) = ranges_line (message_range rules) rs
+message_statement g rules Body (MessageStatement.reserved_names ns) = names_line rules ns
+
+-- { statement } "}", of a message in a nest of at most this many
+abbrev pub body : Grammar → Rules → ℕ → List MessageStatement → Language
+body g rules zero ss ts = ⊥
+body g rules (suc room) ss ts = Until (message_statement g rules (body g rules room)) (mark "}") ss ts
 
 -- message   = "message" word "{" { statement } "}", in a nest of at most this many
 abbrev pub message : Grammar → Rules → ℕ → DeclaredMessage → Language
-message g rules zero m ts = ⊥
-message g rules (suc room) m ts =
-    (n : List ℕ) × (ss : List MessageStatement) × (m ≡ message_of n ss)
-    × (keyword "message" ▸ name n ▸ mark "{" ▸ Until (message_statement g rules (message g rules room)) (mark "}") ss) ts
+message g rules room = message_line (body g rules room)
 
 -- Where the rule on nests is left out, one more may stand: what is told of it is told at its first word.
 abbrev pub room : Rules → ℕ
@@ -192,10 +230,11 @@ access false = keyword "weak" or nothing
 -- import    = "import" [ "weak" | "public" ] text ";"
 -- package   = "package" fullname ";"
 abbrev pub file_statement : Grammar → Rules → FileStatement → Language
-file_statement g rules FileStatement.nothing_said = option g rules or mark ";" or beyond_strict g (extend g rules)
+file_statement g rules FileStatement.nothing_said = option g rules or mark ";"
 file_statement g rules (FileStatement.an_import is_public n) = keyword "import" ▸ access is_public ▸ utf8_text rules n ▸ mark ";"
 file_statement g rules (FileStatement.a_package p) = λ ts. (ws : List (List ℕ)) × (p ≡ joined ws) × (keyword "package" ▸ fullname ws ▸ mark ";") ts
 file_statement g rules (FileStatement.a_message m) = message g rules (room rules) m
+file_statement g rules (FileStatement.an_extend ms) = beyond_strict g (extend g rules (body g rules (room rules)) ms)
 file_statement g rules (FileStatement.an_enum e) = enum_line g rules e
 file_statement g rules (FileStatement.a_service s) = service g rules s
 

@@ -1,10 +1,11 @@
 -- What statements come to: the parts of a message, of an enum and of a file, from their statements in order.
-use Rattle.std.specs.Prelude.{ℕ, suc, ℤ, pos, List, [], ◌∷◌, ◌++◌, length, map, codes, Bool, true, false, if◌then◌else◌, Option, Some, None}
+use Rattle.std.specs.Prelude.{ℕ, suc, ℤ, pos, List, [], ◌∷◌, ◌++◌, length, map, codes, Bool, true, false, if◌then◌else◌, Option, Some, None, option_to_list}
+use Rattle.std.specs.Char.{to_ascii_lowercase}
 use Rattle.pb_schema.specs.Names.{in_scope, entry_name}
 use Rattle.pb_decl.specs.Decls.{DeclaredField, DeclaredEnum, DeclaredMessage, message as message_decl, DeclaredMessages}
-use Rattle.pb_decl.specs.Decls.{no_messages, more_messages, DeclaredService, DeclaredFile}
+use Rattle.pb_decl.specs.Decls.{no_messages, more_messages, messages_of, DeclaredService, DeclaredFile}
 use Rattle.pb_decl.specs.declared.decl.TypeCode.{TypeCode}
-use Rattle.pb_decl.specs.declared.decl.TypeCode.TheVariants.{Message as message_code}
+use Rattle.pb_decl.specs.declared.decl.TypeCode.TheVariants.{Message as message_code, Group as group_code}
 use Rattle.pb_tokens.specs.Said.{TypeSaid, code_said, name_said, a_scalar}
 use Rattle.pb_tokens.specs.declared.grammar.Grammar.{Grammar}
 use Rattle.pb_source.specs.Syntaxes.{is_proto2}
@@ -19,13 +20,19 @@ pub record MapDecl : Type 0 where
   pub number : ℕ
   pub packed : Option Bool
 
+-- a field, and where it is a group, its message
+abbrev pub Member : Type 0
+Member = DeclaredField × Option DeclaredMessage
+
 pub data MessageStatement : Type 0 where
   -- an option, or `;` alone
   nothing_said : MessageStatement
-  a_field : DeclaredField → MessageStatement
+  a_field : Member → MessageStatement
   a_map : MapDecl → MessageStatement
-  a_oneof : List ℕ → List DeclaredField → MessageStatement
+  a_oneof : List ℕ → List Member → MessageStatement
   a_message : DeclaredMessage → MessageStatement
+  -- the messages of the groups in a block of `extend`
+  an_extend : List DeclaredMessage → MessageStatement
   an_enum : DeclaredEnum → MessageStatement
   reserved_ranges : List (ℤ × ℤ) → MessageStatement
   reserved_names : List (List ℕ) → MessageStatement
@@ -43,6 +50,7 @@ pub data FileStatement : Type 0 where
   an_import : Bool → List ℕ → FileStatement
   a_package : List ℕ → FileStatement
   a_message : DeclaredMessage → FileStatement
+  an_extend : List DeclaredMessage → FileStatement
   an_enum : DeclaredEnum → FileStatement
   a_service : DeclaredService → FileStatement
 
@@ -105,6 +113,27 @@ map_field m = record {
   is_optional = false;
 }
 
+-- A group's own field. Its name is the group's in lower case, and its type the message of the group's name in the same scope.
+abbrev pub group_field : Label → List ℕ → ℕ → Option Bool → DeclaredField
+group_field l name n packed = record {
+  name = map to_ascii_lowercase name;
+  number = pos n;
+  is_repeated = is_repeated_label l;
+  type_code = Some group_code;
+  type_name = Some name;
+  packed = packed;
+  oneof = None;
+  is_optional = is_optional_label l;
+}
+
+-- the fields, and the messages of the groups among them
+abbrev pub fields_in : List Member → List DeclaredField
+fields_in xs = map (λ x. x.0) xs
+
+abbrev pub groups_in : List Member → List DeclaredMessage
+groups_in [] = []
+groups_in (x ∷ xs) = option_to_list x.1 ++ groups_in xs
+
 abbrev pub in_oneof : ℕ → DeclaredField → DeclaredField
 in_oneof n f = record f { oneof = Some (pos n) }
 
@@ -114,62 +143,68 @@ in_oneof n f = record f { oneof = Some (pos n) }
 abbrev pub fields_of : ℕ → List MessageStatement → List DeclaredField
 fields_of n [] = []
 fields_of n (MessageStatement.nothing_said ∷ ss) = fields_of n ss
-fields_of n (MessageStatement.a_field f ∷ ss) = f ∷ fields_of n ss
+fields_of n (MessageStatement.a_field x ∷ ss) = x.0 ∷ fields_of n ss
 fields_of n (MessageStatement.a_map m ∷ ss) = map_field m ∷ fields_of n ss
-fields_of n (MessageStatement.a_oneof name fs ∷ ss) = map (in_oneof n) fs ++ fields_of (suc n) ss
+fields_of n (MessageStatement.a_oneof name xs ∷ ss) = map (in_oneof n) (fields_in xs) ++ fields_of (suc n) ss
 fields_of n (MessageStatement.a_message m ∷ ss) = fields_of n ss
+fields_of n (MessageStatement.an_extend ms ∷ ss) = fields_of n ss
 fields_of n (MessageStatement.an_enum e ∷ ss) = fields_of n ss
 fields_of n (MessageStatement.reserved_ranges rs ∷ ss) = fields_of n ss
 fields_of n (MessageStatement.reserved_names ns ∷ ss) = fields_of n ss
 
 abbrev pub oneofs_said : MessageStatement → List (List ℕ)
-oneofs_said (MessageStatement.a_oneof name fs) = name ∷ []
+oneofs_said (MessageStatement.a_oneof name xs) = name ∷ []
 oneofs_said MessageStatement.nothing_said = []
-oneofs_said (MessageStatement.a_field f) = []
+oneofs_said (MessageStatement.a_field x) = []
 oneofs_said (MessageStatement.a_map m) = []
 oneofs_said (MessageStatement.a_message m) = []
+oneofs_said (MessageStatement.an_extend ms) = []
 oneofs_said (MessageStatement.an_enum e) = []
 oneofs_said (MessageStatement.reserved_ranges rs) = []
 oneofs_said (MessageStatement.reserved_names ns) = []
 
--- nested messages and entries
-abbrev pub messages_said : MessageStatement → DeclaredMessages → DeclaredMessages
-messages_said (MessageStatement.a_message m) ms = more_messages m ms
-messages_said (MessageStatement.a_map m) ms = more_messages (entry_of m) ms
-messages_said MessageStatement.nothing_said ms = ms
-messages_said (MessageStatement.a_field f) ms = ms
-messages_said (MessageStatement.a_oneof name fs) ms = ms
-messages_said (MessageStatement.an_enum e) ms = ms
-messages_said (MessageStatement.reserved_ranges rs) ms = ms
-messages_said (MessageStatement.reserved_names ns) ms = ms
+-- nested messages, entries, and the messages of groups
+abbrev pub nested_said : MessageStatement → List DeclaredMessage
+nested_said (MessageStatement.a_message m) = m ∷ []
+nested_said (MessageStatement.a_map m) = entry_of m ∷ []
+nested_said (MessageStatement.a_field x) = option_to_list x.1
+nested_said (MessageStatement.a_oneof name xs) = groups_in xs
+nested_said (MessageStatement.an_extend ms) = ms
+nested_said MessageStatement.nothing_said = []
+nested_said (MessageStatement.an_enum e) = []
+nested_said (MessageStatement.reserved_ranges rs) = []
+nested_said (MessageStatement.reserved_names ns) = []
 
 abbrev pub enums_said : MessageStatement → List DeclaredEnum
 enums_said (MessageStatement.an_enum e) = e ∷ []
 enums_said MessageStatement.nothing_said = []
-enums_said (MessageStatement.a_field f) = []
+enums_said (MessageStatement.a_field x) = []
 enums_said (MessageStatement.a_map m) = []
-enums_said (MessageStatement.a_oneof name fs) = []
+enums_said (MessageStatement.a_oneof name xs) = []
 enums_said (MessageStatement.a_message m) = []
+enums_said (MessageStatement.an_extend ms) = []
 enums_said (MessageStatement.reserved_ranges rs) = []
 enums_said (MessageStatement.reserved_names ns) = []
 
 abbrev pub ranges_said : MessageStatement → List (ℤ × ℤ)
 ranges_said (MessageStatement.reserved_ranges rs) = rs
 ranges_said MessageStatement.nothing_said = []
-ranges_said (MessageStatement.a_field f) = []
+ranges_said (MessageStatement.a_field x) = []
 ranges_said (MessageStatement.a_map m) = []
-ranges_said (MessageStatement.a_oneof name fs) = []
+ranges_said (MessageStatement.a_oneof name xs) = []
 ranges_said (MessageStatement.a_message m) = []
+ranges_said (MessageStatement.an_extend ms) = []
 ranges_said (MessageStatement.an_enum e) = []
 ranges_said (MessageStatement.reserved_names ns) = []
 
 abbrev pub names_said : MessageStatement → List (List ℕ)
 names_said (MessageStatement.reserved_names ns) = ns
 names_said MessageStatement.nothing_said = []
-names_said (MessageStatement.a_field f) = []
+names_said (MessageStatement.a_field x) = []
 names_said (MessageStatement.a_map m) = []
-names_said (MessageStatement.a_oneof name fs) = []
+names_said (MessageStatement.a_oneof name xs) = []
 names_said (MessageStatement.a_message m) = []
+names_said (MessageStatement.an_extend ms) = []
 names_said (MessageStatement.an_enum e) = []
 names_said (MessageStatement.reserved_ranges rs) = []
 
@@ -177,11 +212,6 @@ names_said (MessageStatement.reserved_ranges rs) = []
 abbrev pub all_said : {S A : Type 0} → (S → List A) → List S → List A
 all_said f [] = []
 all_said f (s ∷ ss) = f s ++ all_said f ss
-
--- nested messages and entries in order of appearance
-abbrev pub nested_messages : List MessageStatement → DeclaredMessages
-nested_messages [] = no_messages
-nested_messages (s ∷ ss) = messages_said s (nested_messages ss)
 
 -- each `optional` field in a oneof of its own, of which the first has this index
 abbrev pub with_own_oneofs : ℕ → List DeclaredField → List DeclaredField
@@ -201,7 +231,7 @@ message_of name ss = message_decl (record {
   reserved = all_said ranges_said ss;
   reserved_names = all_said names_said ss;
   is_entry = false;
-}) (nested_messages ss)
+}) (messages_of (all_said nested_said ss))
 
 -- ---- enums
 
@@ -251,6 +281,7 @@ packages_said (FileStatement.a_package p) = p ∷ []
 packages_said FileStatement.nothing_said = []
 packages_said (FileStatement.an_import is_public f) = []
 packages_said (FileStatement.a_message m) = []
+packages_said (FileStatement.an_extend ms) = []
 packages_said (FileStatement.an_enum e) = []
 packages_said (FileStatement.a_service s) = []
 
@@ -267,6 +298,7 @@ imports_said (FileStatement.an_import is_public f) = f ∷ []
 imports_said FileStatement.nothing_said = []
 imports_said (FileStatement.a_package p) = []
 imports_said (FileStatement.a_message m) = []
+imports_said (FileStatement.an_extend ms) = []
 imports_said (FileStatement.an_enum e) = []
 imports_said (FileStatement.a_service s) = []
 
@@ -278,20 +310,19 @@ public_from n (FileStatement.an_import false f ∷ ss) = public_from (suc n) ss
 public_from n (FileStatement.nothing_said ∷ ss) = public_from n ss
 public_from n (FileStatement.a_package p ∷ ss) = public_from n ss
 public_from n (FileStatement.a_message m ∷ ss) = public_from n ss
+public_from n (FileStatement.an_extend ms ∷ ss) = public_from n ss
 public_from n (FileStatement.an_enum e ∷ ss) = public_from n ss
 public_from n (FileStatement.a_service s ∷ ss) = public_from n ss
 
-abbrev pub file_message_said : FileStatement → DeclaredMessages → DeclaredMessages
-file_message_said (FileStatement.a_message m) ms = more_messages m ms
-file_message_said FileStatement.nothing_said ms = ms
-file_message_said (FileStatement.an_import is_public f) ms = ms
-file_message_said (FileStatement.a_package p) ms = ms
-file_message_said (FileStatement.an_enum e) ms = ms
-file_message_said (FileStatement.a_service s) ms = ms
-
-abbrev pub file_messages : List FileStatement → DeclaredMessages
-file_messages [] = no_messages
-file_messages (s ∷ ss) = file_message_said s (file_messages ss)
+-- messages, and those of the groups in blocks of `extend`
+abbrev pub file_messages_said : FileStatement → List DeclaredMessage
+file_messages_said (FileStatement.a_message m) = m ∷ []
+file_messages_said (FileStatement.an_extend ms) = ms
+file_messages_said FileStatement.nothing_said = []
+file_messages_said (FileStatement.an_import is_public f) = []
+file_messages_said (FileStatement.a_package p) = []
+file_messages_said (FileStatement.an_enum e) = []
+file_messages_said (FileStatement.a_service s) = []
 
 abbrev pub file_enums_said : FileStatement → List DeclaredEnum
 file_enums_said (FileStatement.an_enum e) = e ∷ []
@@ -299,6 +330,7 @@ file_enums_said FileStatement.nothing_said = []
 file_enums_said (FileStatement.an_import is_public f) = []
 file_enums_said (FileStatement.a_package p) = []
 file_enums_said (FileStatement.a_message m) = []
+file_enums_said (FileStatement.an_extend ms) = []
 file_enums_said (FileStatement.a_service s) = []
 
 abbrev pub services_said : FileStatement → List DeclaredService
@@ -307,11 +339,12 @@ services_said FileStatement.nothing_said = []
 services_said (FileStatement.an_import is_public f) = []
 services_said (FileStatement.a_package p) = []
 services_said (FileStatement.a_message m) = []
+services_said (FileStatement.an_extend ms) = []
 services_said (FileStatement.an_enum e) = []
 
--- ---- full names of entries
+-- ---- full names of entries and groups
 
--- Only a map's field has both a type's number and a name: a scalar has no name, and a type that is named has no number.
+-- Only the field of a map or a group has both a type's number and a name: a scalar has no name, and a type that is named has no number.
 abbrev pub scoped_field : List ℕ → DeclaredField → DeclaredField
 scoped_field scope f = by_type f.type_code f.type_name
   where
@@ -336,7 +369,7 @@ file_of g name ss = record {
   package_name = package_of ss;
   imports = all_said imports_said ss;
   public_indexes = public_from 0 ss;
-  messages = all_scoped (package_of ss) (file_messages ss);
+  messages = all_scoped (package_of ss) (messages_of (all_said file_messages_said ss));
   enums = all_said file_enums_said ss;
   services = all_said services_said ss;
   is_proto2 = is_proto2 g;

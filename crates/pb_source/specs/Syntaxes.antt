@@ -1,5 +1,6 @@
 -- What sets the grammars apart.
-use Rattle.std.specs.Prelude.{Bool, true, false, if◌then◌else◌}
+use Prim.Native.String.{String}
+use Rattle.std.specs.Prelude.{List, [], ◌∷◌, Bool, true, false, if◌then◌else◌}
 use Rattle.pb_tokens.specs.declared.grammar.Grammar.{Grammar}
 use Rattle.pb_tokens.specs.declared.grammar.Grammar.TheVariants.{Strict, Lenient}
 use Rattle.pb_tokens.specs.declared.grammar.Syntax.TheVariants.{Proto2, Proto3}
@@ -18,3 +19,7 @@ is_proto2 (Lenient Proto3) = false
 -- What the label `optional` says. In proto2 it is a label like others, and each singular field has presence.
 abbrev pub optional_label : Grammar → Label
 optional_label g = if is_proto2 g then Unlabelled else Optional
+
+-- The words that begin no field's type behind a label, or in a oneof: in proto2 `group` begins a group.
+abbrev pub grouping : Grammar → List String
+grouping g = if is_proto2 g then "group" ∷ [] else []

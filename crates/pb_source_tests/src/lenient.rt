@@ -147,7 +147,25 @@ message M { reserved 5, 7 to 9; reserved 'x'; optional int32 a = 1; } => 0a280a0
 package p; option java_package = 'x'; message M { message N { required bytes b = 3; } enum E { A = 1; } } => 0a2d0a076d2e70726f746f120170221f0a014d1a0e0a014e12090a016218032001280c220a0a014512050a01411001
 message M { optional int32 optional = 1; required int32 required = 2; repeated int32 map = 3; optional int32 group = 4; } => 0a4e0a076d2e70726f746f22430a014d12100a086f7074696f6e616c18012001280512100a087265717569726564180220012805120b0a036d6170180320032805120d0a0567726f7570180420012805
 message M { option message_set_wire_format = false; optional int32 default = 1 [deprecated = true, default = 0x1F]; } => 0a1f0a076d2e70726f746f22140a014d120f0a0764656661756c74180120012805
+message M { optional group Result = 1 { optional int32 a = 2; } } => 0a3e0a076d2e70726f746f22330a014d12190a06726573756c7418012001280a32092e4d2e526573756c741a130a06526573756c7412090a0161180220012805
+message M { repeated group Result = 1 { required string url = 2; repeated group In = 3 { } } optional int32 b = 4; required group G_2b = 5 [deprecated = true] { ; } } => 0a8a010a076d2e70726f746f227f0a014d12190a06726573756c7418012003280a32092e4d2e526573756c7412090a016218042001280512150a04675f326218052001280a32072e4d2e475f32621a350a06526573756c74120b0a0375726c18022001280912180a02696e18032003280a320c2e4d2e526573756c742e496e1a040a02496e1a060a04475f3262
+package p.q; message M { message A { optional group G = 1 { optional int32 g = 2; } } } => 0a3f0a076d2e70726f746f1203702e71222f0a014d1a2a0a014112150a016718012001280a320a2e702e712e4d2e412e471a0e0a014712090a0167180220012805
+message M { oneof o { int32 a = 1; group G = 2 { optional int32 b = 1; } string c = 3; } optional group H = 4 { map<int32, string> m = 1; } } => 0aa9010a076d2e70726f746f229d010a014d120b0a0161180120012805480012110a016718022001280a32042e4d2e474800120b0a01631803200128094800120f0a016818042001280a32042e4d2e481a0e0a014712090a01621801200128051a450a014812160a016d18012003280b320b2e4d2e482e4d456e7472791a280a064d456e747279120b0a036b6579180120012805120d0a0576616c75651802200128093a02380142030a016f
+message M { extensions 100 to max; message N { } extend M { optional group G = 100 { optional int32 a = 1; } } map<int32, int32> m = 1; optional group H = 2 { } } => 0a790a076d2e70726f746f226e0a014d12140a016d18012003280b32092e4d2e4d456e747279120f0a016818022001280a32042e4d2e481a030a014e1a0e0a014712090a01611801200128051a280a064d456e747279120b0a036b6579180120012805120d0a0576616c75651802200128053a0238011a030a0148
+message M { extensions 100 to max; } message Z { } extend M { repeated group G = 100 { enum E { A = 0; } } optional int32 i = 101; optional group H = 102 { } } message Y { } => 0a2e0a076d2e70726f746f22030a014d22030a015a220f0a0147220a0a014512050a0141100022030a014822030a0159
 message M { int32 a = 1; } => 31 Unexpected
+message M { optional group g = 1 { } } => 46 Unexpected
+message M { optional group = 1; } => 46 Unexpected
+message M { group G = 1 { } } => 31 Unexpected
+message M { optional group G = 1; } => 51 Unexpected
+message M { optional group.A a = 1; } => 45 Unexpected
+message M { optional group G = 2147483648 { } } => 50 NumberTooLarge
+message M { optional group G = 1 { int32 a = 1; } } => 54 Unexpected
+message M { optional group G = 1 { }; } } => 59 Unexpected
+message M { oneof o { optional group G = 1 { } } } => 56 Unexpected
+message M { oneof o { group g = 1 { } } } => 47 Unexpected
+extend X { group G = 1 { } } => 30 Unexpected
+extend X { optional group g = 1 { } } => 45 Unexpected
 message M { optional map<int32, int32> a = 1; } => 43 Unexpected
 message M { map a = 1; } => 35 Unexpected
 message M { oneof o { optional int32 a = 1; } } => 56 Unexpected
@@ -191,6 +209,50 @@ fn many(alloc: Global, sign: &str) -> Result<String, Fail> {
         text.push_str(&half)?;
     }
     Ok(text)
+}
+
+/// A source of proto2 that begins so, and then has this many groups, each in the one before, and in the last one these words.
+fn with_groups(alloc: Global, written: &str, count: u32, inside: &str) -> Result<String, Fail> {
+    let mut source = String::from_str(alloc, "syntax = \"proto2\"; ")?;
+    source.push_str(written)?;
+    for _ in 0..count {
+        source.push_str("optional group G = 1 { ")?;
+    }
+    source.push_str(inside)?;
+    for _ in 0..count {
+        source.push('}')?;
+    }
+    source.push('}')?;
+    Ok(source)
+}
+
+/// What such a source is refused with.
+fn groups_refused_with(
+    alloc: Global,
+    written: &str,
+    count: u32,
+    inside: &str,
+) -> Result<String, Fail> {
+    let source = with_groups(alloc, written, count, inside)?;
+    refused_with(alloc, source.as_bytes())
+}
+
+/// Messages and groups nest at most 64 deep together, also in a oneof. A group in a block of `extend` is a message of the scope around.
+#[test]
+fn nested_groups(rt: HostRuntime) -> Result<(), Fail> {
+    let alloc = rt.alloc();
+    let inside = groups_refused_with(alloc, "message M { ", 63, "")?;
+    assert!(rt; inside.as_str() == "");
+    let deep = groups_refused_with(alloc, "message M { ", 64, "")?;
+    assert!(rt; deep.as_str() == "1489 NestedTooDeep");
+    let extended = groups_refused_with(alloc, "extend M { ", 64, "")?;
+    assert!(rt; extended.as_str() == "");
+    let deep_extended = groups_refused_with(alloc, "extend M { ", 65, "")?;
+    assert!(rt; deep_extended.as_str() == "1511 NestedTooDeep");
+    let in_oneof = "oneof o { group H = 2 { } }";
+    let deep_in_oneof = groups_refused_with(alloc, "message M { ", 63, in_oneof)?;
+    assert!(rt; deep_in_oneof.as_str() == "1490 NestedTooDeep");
+    Ok(())
 }
 
 /// Many brackets are read in linear time, and take no more stack than one.

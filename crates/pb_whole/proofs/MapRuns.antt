@@ -94,10 +94,6 @@ entry_taken {pool} {m} {depth} {levels} {base} {p0} {frames} {scope} {now} at le
       (entry_closes (put_mapped number (y, e) now) read.1 refl (none_left size) (mapped_is number now key kd x d y e a b)),
 )
 
--- the tag of a record of bytes of this number
-pub tag_of : (bytes : List ℕ) (left : Option ℕ) (number type size k : ℕ) → type ≡ 2 → number ≡ k → HasTagAt bytes left number type size → HasTagAt bytes left k 2 size
-tag_of bytes left number type size k two own has = subst (λ (z : ℕ). HasTagAt bytes left z 2 size) own (typed_tag bytes left number type 2 size two has)
-
 -- THE MAP is open where its message is
 pub map_open_in : {pool : Types} {now : Part} (bytes : List ℕ) (left room number : ℕ) (key kd : Kind) → IsOpen pool now bytes left room → Means pool (part_context now) number 2 (purpose.Entry key kd) → IsMapOpen pool number key kd bytes (Some left) room
 map_open_in {pool} {now} bytes left room number key kd from means = record {

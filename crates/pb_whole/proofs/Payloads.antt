@@ -106,21 +106,6 @@ message_begun {pool} {m} {depth} {levels} {base} {p0} {frames} {scope} {now} at 
     (inner, opened, ap (room_in s) level ∙ sym is_below)
 
 -- so it is open, where its parent is
-pub entry_in_part :
-    {pool : Types} {now : Part} (bytes : List ℕ) (left number tag_size start size room : ℕ) (key kd : Kind) → IsPool pool → IsOpen pool now bytes left room
-    → HasTagAt bytes (Some left) number 2 tag_size → ((at : ℕ) → HasLength (passed (given_at at (Some left) bytes) tag_size) size (passed (given_at at (Some left) bytes) start))
-    → Means pool (part_context now) number 2 (purpose.Entry key kd) → 0 < room → IsOpen pool (entry_part key kd None None) (take (length bytes - start) (drop start bytes)) size (room - 1)
-entry_in_part {pool} {now} bytes left number tag_size start size room key kd ok from has l means some = record {
-  m = from.m;
-  depth = from.depth;
-  levels = from.levels;
-  at = from.at + start;
-  base = from.base;
-  p0 = from.p0;
-  frames = frame_of now number (slot.Map number) false from.stands.0 ∷ from.frames;
-  stands = entry_begun from.at (Some left) bytes number tag_size start size room key kd ok from.stands.1 from.stands.2 (has from.at) (l from.at) means some;
-}
-
 pub message_in_part :
     {pool : Types} {now : Part} (bytes : List ℕ) (left number tag_size start size room below : ℕ) (j : MessageId) (s : Slot) (outer : Part) (w : Message) → IsPool pool → IsOpen pool now bytes left room → below ≡ room_in s room
     → HasTagAt bytes (Some left) number 2 tag_size → ((at : ℕ) → HasLength (passed (given_at at (Some left) bytes) tag_size) size (passed (given_at at (Some left) bytes) start))
@@ -185,14 +170,6 @@ behind_inner at left bytes start size end ends =
     ∙ ap (λ (z : List ℕ). given_at ((at + start) + size) (Some ((at + left) - ((at + start) + size))) z) (ap (drop size) (slice_from start bytes) ∙ drop-drop size start bytes)
     ∙ ap (λ (z : ℕ). given_at ((at + start) + size) (Some z) (drop (start + size) bytes)) left_is
     ∙ ap (λ (z : ℕ). given_at z (Some (left - (start + size))) (drop (start + size) bytes)) at_is
-
-pub entry_over :
-    {pool : Types} {m depth levels : ℕ} {base : List Record} {p0 : Place} {frames : List Frame} {scope : Scope} {now : Part} (at left : ℕ) (bytes : List ℕ) (number start size room inner : ℕ) (key kd : Kind) (x : Option Scalar) (d : Option Datum) (next : Part)
-    → Stands pool m depth levels base p0 frames now scope (given_at at (Some left) bytes) → scope.room ≡ room
-    → StandsIn pool m depth levels base p0 (frame_of now number (slot.Map number) false scope ∷ frames) inner (entry_part key kd x d) (passed (payload_place at bytes start size) size) → next ≡ put_entry (slot.Map number) now key kd x d
-    → StandsIn pool m depth levels base p0 frames room next (passed (given_at at (Some left) bytes) (start + size))
-entry_over {pool} {m} {depth} {levels} {base} {p0} {frames} {scope} {now} at left bytes number start size room inner key kd x d next s level there is =
-    (one_more_in number scope, subst (Stands pool m depth levels base p0 frames next (one_more_in number scope)) (behind_inner at left bytes start size scope.end s.ends) (entry_closes next there.1 refl (none_left size) is), level)
 
 pub message_over :
     {pool : Types} {m depth levels : ℕ} {base : List Record} {p0 : Place} {frames : List Frame} {scope : Scope} {now outer : Part} (at left : ℕ) (bytes : List ℕ) (number start size room inner k : ℕ) (t : Slot) (w : Message) (next : Part)

@@ -93,6 +93,7 @@ impl Reader<'_> {
 
     /// The entries of the map of a number whose records follow each other from the first byte on, and how many bytes these take.
     #[cycle(read)]
+    #[inline(never)]
     fn entries_from(
         &self,
         number: u32,

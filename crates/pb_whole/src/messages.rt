@@ -174,6 +174,7 @@ impl Reader<'_> {
     /// The messages of the list of a number whose records of a wire type follow each other from the first byte on, and how many bytes
     /// these take.
     #[cycle(read)]
+    #[inline(never)]
     fn messages_from(
         &self,
         number: u32,

@@ -41,7 +41,27 @@ impl Reader<'_> {
         }
     }
 
-    /// Puts the number after a tag into a part, and how many bytes its record takes. An element takes those of its list with it that follow it.
+    /// As `read_one`, for what few numbers outside maps are for. A function of its own, so that `read_number` is small enough to be
+    /// inlined. The purpose is looked up once more: as an argument it would be written to memory for each number.
+    #[inline(never)]
+    fn read_other(
+        &self,
+        part: &mut Part,
+        tag: RecordTag,
+        bytes: &[u8],
+        left: Left,
+    ) -> Result<usize, NoMemory>
+        requires at_tag { IsAtTag self.now.pool.now part.old bytes.now left tag }
+        requires number { IsNumberType tag.wire_type }
+        ensures passes { Passes tag.size bytes.now result }
+        ensures read { ReadsOne self.now.pool.now part.old part.new bytes.now left result }
+    {
+        let purpose = purpose_of(self.pool, part, tag.number, tag.wire_type);
+        self.read_one(part, tag, purpose, bytes, left)
+    }
+
+    /// Puts the number after a tag into a part, and how many bytes its record takes. An element takes those of its list with it that
+    /// follow it.
     #[inline(always)]
     pub(crate) fn read_number(
         &self,
@@ -61,12 +81,7 @@ impl Reader<'_> {
             Purpose::One(kind, shape) => {
                 self.read_one(part, tag, Purpose::One(kind, shape), bytes, left)
             }
-            Purpose::Key(_)
-            | Purpose::EntryValue(_)
-            | Purpose::Packed(_)
-            | Purpose::Message(_, _)
-            | Purpose::Entry(_, _)
-            | Purpose::Unknown => self.read_one(part, tag, purpose, bytes, left),
+            _ => self.read_other(part, tag, bytes, left),
         }
     }
 }

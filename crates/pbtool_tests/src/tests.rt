@@ -7,11 +7,14 @@ mod compiled;
 mod decimal;
 mod early;
 mod explain;
+mod explain_apart;
 mod from_json;
 mod json;
 mod keep_going;
 mod lenient;
 mod nested;
+mod refused_sets;
+mod refused_sources;
 mod typed;
 
 use pb_cli::{Files, HostFiles, MemFiles, run};

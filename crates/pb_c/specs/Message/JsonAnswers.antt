@@ -8,7 +8,7 @@ use Rattle.pb_json.specs.JsonText.{IsJsonText}
 use Rattle.pb_json.specs.Mapping.{json_of}
 use Rattle.pb_json.specs.Refusals.{Refused}
 use Rattle.pb_c.specs.CauseNames.{json_number}
-use Rattle.pb_c.specs.Told.{IsLaid}
+use Rattle.pb_c.specs.Reporting.{IsLaid}
 
 abbrev pub json_form : Bool → Bool → JsonForm
 json_form declared indented =

@@ -8,7 +8,7 @@ ghost use Rattle.pb_c.specs.Message.Changes.{IsChangeAnswer, IsChanged, cause_an
 
 use super::handle::{MessageHandle, put, take};
 use super::own::OwnMessage;
-use crate::told::{ABSENT, BAD_PLACE, BAD_VALUE, DONE, EMPTY, MEMORY};
+use crate::reporting::{ABSENT, BAD_PLACE, BAD_VALUE, DONE, EMPTY, MEMORY};
 use pb_c_changes::{PlainChange, Put, Unchanged, change};
 use pb_c_values::PlainValue;
 use pb_place::ChangeError;

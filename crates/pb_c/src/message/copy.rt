@@ -6,7 +6,7 @@ ghost use Rattle.pb_encode.specs.Encoding.{bytes_of};
 
 use super::handle::{MessageHandle, hold, put, take};
 use super::own::{OwnMessage, boxed};
-use crate::told::{DONE, EMPTY, MEMORY};
+use crate::reporting::{DONE, EMPTY, MEMORY};
 use crate::typed::TOO_LARGE;
 use pb_decode::decode;
 use pb_encode::{EncodeError, encode};

@@ -3,11 +3,11 @@
 ghost use Rattle.std.specs.Prelude.{◌≡◌, ◌≢◌, ◌<◌, ◌≤◌, ◌^◌, ◌↔◌, ◌⊎◌, None, Some, length};
 ghost use Rattle.pb_value.specs.Dynamic.{Dynamic};
 ghost use Rattle.pb_encode.specs.Encoding.{bytes_of};
-ghost use Rattle.pb_c.specs.Told.{IsLaid};
+ghost use Rattle.pb_c.specs.Reporting.{IsLaid};
 
 use super::handle::{MessageHandle, put, take};
 use super::own::OwnMessage;
-use crate::told::{DONE, EMPTY, MEMORY};
+use crate::reporting::{DONE, EMPTY, MEMORY};
 use crate::typed::TOO_LARGE;
 use crate::typed::canon::write_canonical;
 use pb_encode::encoded_len;

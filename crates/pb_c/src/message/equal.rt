@@ -9,7 +9,7 @@ ghost use Rattle.pb_c.specs.Message.Pairs.{IsTooLargeIn, Marks};
 use super::copy::canonical_of;
 use super::handle::{MessageHandle, put, take};
 use super::own::OwnMessage;
-use crate::told::{DONE, EMPTY, MEMORY};
+use crate::reporting::{DONE, EMPTY, MEMORY};
 use crate::typed::TOO_LARGE;
 use pb_encode::encoded_len;
 use pb_value::DynamicMessage;

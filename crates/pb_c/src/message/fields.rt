@@ -8,7 +8,7 @@ ghost use Rattle.pb_c.specs.Message.Places.{IsAnswered};
 use super::handle::{MessageHandle, put, take};
 use super::miss::miss_number;
 use super::own::OwnMessage;
-use crate::told::{ABSENT, BAD_PLACE, DONE, EMPTY, MEMORY};
+use crate::reporting::{ABSENT, BAD_PLACE, DONE, EMPTY, MEMORY};
 use pb_c_values::{PlainValue, fields_at};
 use pb_value::DynamicMessage;
 use pb_value::parts::{empty_body, from_well_formed};

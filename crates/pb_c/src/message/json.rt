@@ -9,7 +9,7 @@ ghost use Rattle.pb_c.specs.Message.JsonAnswers.{IsJsonLaid, RefusesAs, json_for
 
 use super::handle::{MessageHandle, put, take};
 use super::own::OwnMessage;
-use crate::told::{DONE, EMPTY, MEMORY};
+use crate::reporting::{DONE, EMPTY, MEMORY};
 use crate::typed::write_out;
 use pb_json::{JsonCause, JsonError, JsonForm, Layout, Names, Refusal, write_json};
 use pb_value::DynamicMessage;

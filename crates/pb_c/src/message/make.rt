@@ -9,7 +9,7 @@ ghost use Rattle.pb_c.specs.Typed.{HasType, LacksType, message_of};
 use super::handle::{MessageHandle, hold};
 use super::own::{OwnMessage, boxed};
 use crate::handle::{PoolHandle, put, take};
-use crate::told::{DONE, EMPTY, MEMORY, NO_TYPE};
+use crate::reporting::{DONE, EMPTY, MEMORY, NO_TYPE};
 use crate::typed::type_numbered;
 use pb_schema::Pool;
 use pb_value::DynamicMessage;

@@ -2,13 +2,13 @@
 
 ghost use Rattle.std.specs.Prelude.{◌≡◌, ◌≢◌, ◌↔◌, ◌⊎◌, None, Some};
 ghost use Rattle.pb_c_values.specs.Answers.{bytes_in};
-ghost use Rattle.pb_c.specs.Told.{IsLaid};
+ghost use Rattle.pb_c.specs.Reporting.{IsLaid};
 ghost use Rattle.pb_c.specs.Message.Places.{IsAnswered};
 
 use super::handle::{MessageHandle, put, take};
 use super::miss::miss_number;
 use super::own::OwnMessage;
-use crate::told::{ABSENT, BAD_PLACE, DONE, EMPTY, MEMORY, lay_over};
+use crate::reporting::{ABSENT, BAD_PLACE, DONE, EMPTY, MEMORY, lay_over};
 use pb_c_values::{PlainValue, bytes_at};
 use pb_value::DynamicMessage;
 use pb_value::parts::{empty_body, from_well_formed};

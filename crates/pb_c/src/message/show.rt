@@ -3,11 +3,11 @@
 ghost use Rattle.std.specs.Prelude.{◌≡◌, ◌≢◌, ◌↔◌, ◌⊎◌, None, Some};
 ghost use Rattle.pb_value.specs.Dynamic.{Dynamic};
 ghost use Rattle.pb_listing.specs.Listing.{listing};
-ghost use Rattle.pb_c.specs.Told.{IsLaid};
+ghost use Rattle.pb_c.specs.Reporting.{IsLaid};
 
 use super::handle::{MessageHandle, put, take};
 use super::own::OwnMessage;
-use crate::told::{DONE, EMPTY, MEMORY};
+use crate::reporting::{DONE, EMPTY, MEMORY};
 use crate::typed::show::write_listing;
 use pb_value::parts::{empty_body, from_well_formed};
 use std::alloc::Global;

@@ -5,7 +5,7 @@ ghost use Rattle.pb_c.specs.Message.Listed.{IsListed, IsListedDecimal};
 
 use super::handle::{MessageHandle, put, take};
 use super::own::OwnMessage;
-use crate::told::{DONE, EMPTY, MEMORY};
+use crate::reporting::{DONE, EMPTY, MEMORY};
 use crate::typed::write_out;
 use pb_listing::{FloatForm, write_message_as};
 use pb_value::DynamicMessage;
@@ -15,7 +15,7 @@ use std::alloc::Global;
 use std::mem;
 
 /// Writes the listing of a message with floats in decimal. It is made in memory first, so nothing is written where that runs out.
-fn write_decimal(
+pub(crate) fn write_decimal(
     alloc: Global,
     message: &DynamicMessage<'_>,
     out: &mut [u8],

@@ -2,13 +2,13 @@
 
 ghost use Rattle.std.specs.Prelude.{◌≡◌, ◌≢◌, ◌↔◌, ◌⊎◌, None, Some};
 ghost use Rattle.pb_c_values.specs.Answers.{unknown_in};
-ghost use Rattle.pb_c.specs.Told.{IsLaid};
+ghost use Rattle.pb_c.specs.Reporting.{IsLaid};
 ghost use Rattle.pb_c.specs.Message.Places.{IsAnswered};
 
 use super::handle::{MessageHandle, put, take};
 use super::miss::miss_number;
 use super::own::OwnMessage;
-use crate::told::{ABSENT, BAD_PLACE, DONE, EMPTY, MEMORY};
+use crate::reporting::{ABSENT, BAD_PLACE, DONE, EMPTY, MEMORY};
 use crate::typed::write_out;
 use pb_c_values::{PlainValue, unknown_at};
 use pb_value::DynamicMessage;

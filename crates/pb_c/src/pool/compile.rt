@@ -14,7 +14,7 @@ ghost use Rattle.pb_c.specs.SourcePool.{AreNames, AreNamed, AreSources, IsUnpars
 use super::linking::link_files;
 use super::refusal::Refusal;
 use crate::handle::{PoolHandle, take};
-use crate::told::{BAD_NAME, DONE, MEMORY};
+use crate::reporting::{BAD_NAME, DONE, MEMORY};
 use pb_decl::FileDecl;
 use pb_source::reading::Reading;
 use pb_source::{SourceCause, SourceFault, parse, parse_lenient};

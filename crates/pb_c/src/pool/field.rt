@@ -9,7 +9,7 @@ ghost use Rattle.pb_c.specs.Held.{types_held};
 ghost use Rattle.pb_c.specs.Typed.{HasType, LacksType};
 
 use crate::handle::{PoolHandle, put, take};
-use crate::told::{ABSENT, DONE, EMPTY, NO_TYPE};
+use crate::reporting::{ABSENT, DONE, EMPTY, NO_TYPE};
 use crate::typed::type_numbered;
 use pb_schema::{Field, Kind, Pool, Shape};
 use std::alloc::Global;

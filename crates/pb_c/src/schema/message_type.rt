@@ -9,7 +9,7 @@ ghost use Rattle.pb_c.specs.Typed.{HasType, LacksType};
 
 use crate::handle::{PoolHandle, put, take};
 use crate::pool::field::{FieldReport, report_field};
-use crate::told::{ABSENT, DONE, EMPTY, NO_TYPE};
+use crate::reporting::{ABSENT, DONE, EMPTY, NO_TYPE};
 use crate::typed::{type_numbered, write_out};
 use pb_schema::{Field, MessageType, Pool, Shape};
 use std::alloc::Global;

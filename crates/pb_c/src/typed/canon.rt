@@ -10,11 +10,11 @@ ghost use Rattle.pb_canonical.specs.Canonical.{IsCanonical};
 ghost use Rattle.pb_encode.specs.Encoding.{bytes_of};
 ghost use Rattle.pb_decode.specs.Push.{IsFaultOf};
 ghost use Rattle.pb_c.specs.Held.{types_held};
-ghost use Rattle.pb_c.specs.Told.{AreLimits, IsLaid, Tells, bounds};
+ghost use Rattle.pb_c.specs.Reporting.{AreLimits, IsLaid, Tells, bounds};
 ghost use Rattle.pb_c.specs.Typed.{HasType, LacksType};
 
 use crate::handle::{PoolHandle, put, take};
-use crate::told::{BAD_LIMITS, DONE, EMPTY, FAULT, FaultReport, MEMORY, NO_TYPE, Step};
+use crate::reporting::{BAD_LIMITS, DONE, EMPTY, FAULT, FaultReport, MEMORY, NO_TYPE, Step};
 use crate::typed::canonical::is_known_canonical;
 use crate::typed::{TOO_LARGE, read_message, write_out};
 use pb_encode::{EncodeError, encode};

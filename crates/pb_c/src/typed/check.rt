@@ -7,11 +7,11 @@ ghost use Rattle.pb_value.specs.Data.{Message};
 ghost use Rattle.pb_value.specs.Derives.{Text};
 ghost use Rattle.pb_decode.specs.Push.{IsFaultOf};
 ghost use Rattle.pb_c.specs.Held.{types_held};
-ghost use Rattle.pb_c.specs.Told.{AreLimits, Tells, bounds};
+ghost use Rattle.pb_c.specs.Reporting.{AreLimits, Tells, bounds};
 ghost use Rattle.pb_c.specs.Typed.{HasType, LacksType};
 
 use crate::handle::{PoolHandle, put, take};
-use crate::told::{BAD_LIMITS, DONE, EMPTY, FAULT, FaultReport, MEMORY, NO_TYPE, Step};
+use crate::reporting::{BAD_LIMITS, DONE, EMPTY, FAULT, FaultReport, MEMORY, NO_TYPE, Step};
 use crate::typed::{tell_error, type_numbered};
 use pb_decode::validate;
 use pb_schema::Pool;

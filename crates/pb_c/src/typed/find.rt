@@ -9,91 +9,29 @@ ghost use Rattle.pb_value.specs.Derives.{Text};
 ghost use Rattle.pb_decode.specs.Push.{IsFaultOf};
 ghost use Rattle.pb_find.specs.ScalarAt.{IsFound, scalar_at};
 ghost use Rattle.pb_find.specs.View.{scalar_view};
-ghost use Rattle.pb_c_values.specs.Plain.{scalar_bytes, scalar_plain};
 ghost use Rattle.pb_c.specs.Held.{types_held};
-ghost use Rattle.pb_c.specs.Told.{AreLimits, Tells, bounds};
+ghost use Rattle.pb_c.specs.Reporting.{AreLimits, Tells, bounds};
 ghost use Rattle.pb_c.specs.Typed.{HasType, LacksType, message_of};
 ghost use Rattle.pb_c.specs.Typed.Found.{Reports, TellsFound};
 
 use crate::handle::{PoolHandle, put, take};
-use crate::told::{
+use crate::reporting::{
     ABSENT, BAD_LIMITS, DONE, EMPTY, FAULT, FaultReport, MEMORY, NO_TYPE, Step, lay_over,
 };
 use crate::typed::{tell_error, type_numbered};
-use pb_c_values::{
-    BOOL, BYTES, DOUBLE, ENUM, FLOAT, INT32, INT64, PlainValue, STRING, UINT32, UINT64, all_bits,
-    bit,
-};
+use pb_c_held::{scalar_bytes, scalar_value};
+use pb_c_values::PlainValue;
 use pb_decode::DecodeError;
 use pb_find::{ScalarRef, find};
 use pb_wire::Limits;
 use std::alloc::Global;
 
-/// A scalar, as C is given it.
-fn plain_scalar(scalar: ScalarRef<'_>) -> PlainValue
-    ensures { result ≡ scalar_plain (scalar_view scalar.entry) }
-{
-    match scalar {
-        ScalarRef::I32(number) => PlainValue {
-            kind: INT32,
-            number: all_bits(number),
-        },
-        ScalarRef::I64(number) => PlainValue {
-            kind: INT64,
-            number: number.cast_unsigned(),
-        },
-        ScalarRef::U32(number) => PlainValue {
-            kind: UINT32,
-            number: u64::from(number),
-        },
-        ScalarRef::U64(number) => PlainValue {
-            kind: UINT64,
-            number,
-        },
-        ScalarRef::Bool(value) => PlainValue {
-            kind: BOOL,
-            number: bit(value),
-        },
-        ScalarRef::F32(bits) => PlainValue {
-            kind: FLOAT,
-            number: u64::from(bits),
-        },
-        ScalarRef::F64(bits) => PlainValue {
-            kind: DOUBLE,
-            number: bits,
-        },
-        ScalarRef::Enum(number) => PlainValue {
-            kind: ENUM,
-            number: all_bits(number),
-        },
-        ScalarRef::Text(text) => PlainValue {
-            kind: STRING,
-            number: text.len() as u64,
-        },
-        ScalarRef::Bytes(bytes) => PlainValue {
-            kind: BYTES,
-            number: bytes.len() as u64,
-        },
-    }
-}
-
-/// The bytes of a string or of bytes, and else none.
-fn bytes_of<'a>(scalar: ScalarRef<'a>) -> &'a [u8]
-    ensures { result.now ≡ scalar_bytes (scalar_view scalar.entry) }
-{
-    match scalar {
-        ScalarRef::Text(text) => text.as_bytes(),
-        ScalarRef::Bytes(bytes) => bytes,
-        _ => &[],
-    }
-}
-
 /// Reports a scalar.
 fn report_scalar(scalar: ScalarRef<'_>, value: &mut PlainValue, out: &mut [u8])
     ensures { Reports (scalar_view scalar.entry) value.new out.old out.new }
 {
-    *value = plain_scalar(scalar);
-    lay_over(bytes_of(scalar), out);
+    *value = scalar_value(scalar);
+    lay_over(scalar_bytes(scalar), out);
 }
 
 /// Reports what was found, and answers accordingly.

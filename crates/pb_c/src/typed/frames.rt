@@ -4,12 +4,12 @@ ghost use Rattle.std.specs.Prelude.{◌≡◌, ◌≢◌, ◌+◌, ◌*◌, ◌<
 ghost use Rattle.pb_wire.specs.Fault.{Fault};
 ghost use Rattle.pb_schema.specs.Types.{Types};
 ghost use Rattle.pb_c.specs.Held.{types_held};
-ghost use Rattle.pb_c.specs.Told.{AreLimits, Tells, bounds};
+ghost use Rattle.pb_c.specs.Reporting.{AreLimits, Tells, bounds};
 ghost use Rattle.pb_c.specs.Typed.{ByFault, HasType, LacksType};
-ghost use Rattle.pb_c.specs.Typed.Frames.{AnswersFault, IsFramed, IsNoFrame, IsPart};
+ghost use Rattle.pb_c.specs.Typed.Frames.{AnswersFault, IsFramed, IsNoFrame, IsPart, IsSpan};
 
 use crate::handle::{PoolHandle, put, take};
-use crate::told::{BAD_LIMITS, DONE, EMPTY, FAULT, FaultReport, MEMORY, NO_TYPE, Step};
+use crate::reporting::{BAD_LIMITS, DONE, EMPTY, FAULT, FaultReport, MEMORY, NO_TYPE, Step};
 use crate::typed::{PART, tell_error, type_numbered};
 use pb_decode::{DecodeError, validate};
 use pb_schema::{MessageId, Pool};
@@ -17,7 +17,7 @@ use pb_stream::read_delimited;
 use pb_wire::{Cause, FailurePlan, Limits, MemInput, read_varint};
 use std::alloc::Global;
 
-/// Where the message of a frame is.
+/// Where the message of a frame is, by its length.
 #[repr(C)]
 #[derive(Clone, Copy, Debug, PartialEq, Eq)]
 pub struct FrameReport {
@@ -30,8 +30,10 @@ pub struct FrameReport {
 /// Checks the frame that the bytes begin with: a message of the type of this number in the pool, after its length.
 ///
 /// Answers DONE with where the message begins and ends, whatever follows it; PART where the bytes end before their frame does, so that
-/// more are needed; and else as `mb_check` does. A fault's byte counts from the first byte of the length. What is reported of the frame
-/// is written at DONE alone.
+/// more are needed; and else as `mb_check` does. A fault's byte counts from the first byte of the length.
+///
+/// At FAULT and PART it is reported where the message would begin and end by its length, up to the greatest size, so that a caller can skip a
+/// refused frame; both are 0 where the length cannot be read. At other answers nothing is reported of the frame.
 #[unsafe(no_mangle)]
 pub extern "C" fn mb_frames(
     alloc: Global,
@@ -51,7 +53,8 @@ pub extern "C" fn mb_frames(
     ensures fault { result ≡ FAULT → (ts : Types) × HasType (types_held pool.old) message_type ts
         × ((f : Fault) × IsNoFrame ts message_type (bounds max_bytes max_depth) bytes.now f × Tells f fault.new path.old path.new) }
     ensures steps { result ≡ FAULT → fault.new.steps ≤ 2 * max_depth + 1 }
-    ensures unframed { result ≢ DONE → frame.new ≡ frame.old }
+    ensures span { (result ≡ PART) ⊎ (result ≡ FAULT) → IsSpan bytes.now frame.new }
+    ensures unframed { result ≢ DONE → result ≢ PART → result ≢ FAULT → frame.new ≡ frame.old }
     ensures untold { result ≢ FAULT → (fault.new ≡ fault.old) × (path.new ≡ path.old) }
     ensures limits { result ≡ BAD_LIMITS ↔ ¬ AreLimits max_bytes max_depth }
     ensures empty { result ≡ EMPTY ↔ AreLimits max_bytes max_depth × (types_held pool.old ≡ None) }
@@ -102,7 +105,8 @@ fn check_frame(
     ensures framed { result ≡ DONE → IsFramed pool.now number limits bytes.now frame.new }
     ensures part { result ≡ PART → IsPart pool.now number limits bytes.now }
     ensures fault { result ≡ FAULT → (f : Fault) × IsNoFrame pool.now number limits bytes.now f × Tells f fault.new path.old path.new }
-    ensures unframed { result ≢ DONE → frame.new ≡ frame.old }
+    ensures span { (result ≡ PART) ⊎ (result ≡ FAULT) → IsSpan bytes.now frame.new }
+    ensures unframed { result ≢ DONE → result ≢ PART → result ≢ FAULT → frame.new ≡ frame.old }
     ensures untold { result ≢ FAULT → (fault.new ≡ fault.old) × (path.new ≡ path.old) }
     ensures no_type { result ≡ NO_TYPE ↔ length pool.now.messages ≤ number }
     ensures answers { (result ≡ DONE) ⊎ (result ≡ PART) ⊎ (result ≡ NO_TYPE) ⊎ (result ≡ FAULT) ⊎ (result ≡ MEMORY) }
@@ -119,7 +123,32 @@ fn check_frame(
         *frame = found;
         return DONE;
     }
-    tell_no_frame(alloc, pool, message_type, bytes, limits, fault, path)
+    let answer = tell_no_frame(alloc, pool, message_type, bytes, limits, fault, path);
+    report_span(answer, bytes, frame);
+    answer
+}
+
+/// Reports where the message of a frame is by its length, where a call answers what the frame is.
+fn report_span(answer: u32, bytes: &[u8], frame: &mut FrameReport)
+    ensures span { answer ≢ MEMORY → IsSpan bytes.now frame.new }
+    ensures unframed { answer ≡ MEMORY → frame.new ≡ frame.old }
+{
+    if answer != MEMORY {
+        *frame = span_of(bytes);
+    }
+}
+
+/// Where the message of the frame that bytes begin with is by its length, whatever it holds and whether or not it is there.
+fn span_of(bytes: &[u8]) -> FrameReport
+    ensures { IsSpan bytes.now result }
+{
+    match read_varint(bytes) {
+        Ok((size, begin)) => FrameReport {
+            begin,
+            end: begin.saturating_add(size as usize),
+        },
+        Err(_) => FrameReport { begin: 0, end: 0 },
+    }
 }
 
 /// Where the message of the frame is that the bytes begin with, if they begin with one. The message is judged in place.

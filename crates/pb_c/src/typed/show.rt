@@ -8,11 +8,11 @@ ghost use Rattle.pb_value.specs.Derives.{Text};
 ghost use Rattle.pb_decode.specs.Push.{IsFaultOf};
 ghost use Rattle.pb_listing.specs.Listing.{listing};
 ghost use Rattle.pb_c.specs.Held.{types_held};
-ghost use Rattle.pb_c.specs.Told.{AreLimits, IsLaid, Tells, bounds};
+ghost use Rattle.pb_c.specs.Reporting.{AreLimits, IsLaid, Tells, bounds};
 ghost use Rattle.pb_c.specs.Typed.{HasType, LacksType, message_of};
 
 use crate::handle::{PoolHandle, put, take};
-use crate::told::{BAD_LIMITS, DONE, EMPTY, FAULT, FaultReport, MEMORY, NO_TYPE, Step};
+use crate::reporting::{BAD_LIMITS, DONE, EMPTY, FAULT, FaultReport, MEMORY, NO_TYPE, Step};
 use crate::typed::{read_message, write_out};
 use pb_listing::write_message;
 use pb_schema::Pool;

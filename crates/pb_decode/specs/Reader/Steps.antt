@@ -1,6 +1,6 @@
 -- What a step of the reader does that has read everything up to these bytes. Each holds wherever it began: of any type, any levels, any records before
 -- and any first place.
-use Rattle.std.specs.Prelude.{◌≡◌, ℕ, List, drop, Option, Some, Result, IfOk, IfErr, IfSome, OnOk}
+use Rattle.std.specs.Prelude.{◌≡◌, ◌≤◌, ℕ, List, drop, length, Option, Some, Result, IfOk, IfErr, IfSome, OnOk}
 use Rattle.pb_wire.specs.Record.{Record, wire_type}
 use Rattle.pb_wire.specs.Fault.{Place, Moves, HasTag, Reads as HasNumber}
 use Rattle.pb_wire.specs.Token.{passed}
@@ -12,7 +12,8 @@ use Rattle.pb_decode.specs.declared.error.DecodeError.{DecodeError}
 use Rattle.pb_parts.specs.declared.open.purpose.Purpose.{Purpose}
 use Rattle.pb_decode.specs.declared.reader.state.Reader.{Reader}
 use Rattle.pb_parts.specs.declared.tokens.number.Number.{Number}
-use Rattle.pb_parts.specs.declared.tokens.step.Step.TheVariants.{Elements}
+use Rattle.pb_parts.specs.declared.tokens.record_tag.RecordTag.{RecordTag}
+use Rattle.pb_parts.specs.declared.tokens.step.Step.TheVariants.{Tag, Elements}
 use Rattle.pb_parts.specs.Open.Frames.{CanHold}
 use Rattle.pb_parts.specs.Open.Openings.{innermost_group}
 use Rattle.pb_parts.specs.Open.PartView.{part_view}
@@ -20,11 +21,19 @@ use Rattle.pb_parts.specs.Open.Purposes.{Means, part_context}
 use Rattle.pb_parts.specs.Tokens.Number.{number_view}
 use Rattle.pb_parts.specs.Tokens.Numbers.{Follows}
 use Rattle.pb_parts.specs.Tokens.After.{tag, awaited}
-use Rattle.pb_decode.specs.Reader.{State, frames_view, state_view, here, Reads, StandsAt, AfterAt, Stops, Taken, IfFault, Told}
+use Rattle.pb_decode.specs.Reader.{State, frames_view, state_view, here, IsReading, Reads, StandsAt, AfterAt, Stops, Taken, IfFault, Told}
 
 -- these bytes begin with a tag of this many bytes
 abbrev pub HasTagHere : State → List ℕ → ℕ → ℕ → ℕ → Type 0
 HasTagHere s rest number type size = HasTag (here s rest) number type (passed (here s rest) size)
+
+-- a reader reads up to these bytes, a tag comes next, and a whole one begins them
+pub record IsAtTag (pool : Types) (reader : Reader) (rest : List ℕ) (tag : RecordTag) : Type 0 where
+  pub rules : IsPool pool
+  pub reading : IsReading pool (state_view reader) rest
+  pub step : reader.step ≡ Tag
+  pub within : tag.size ≤ length rest
+  pub there : HasTagHere (state_view reader) rest tag.number tag.wire_type tag.size
 
 -- the error, if there is one, reports a fault that no more bytes change
 abbrev pub TellsFault : {A : Type 0} → Types → Reader → List ℕ → Result A DecodeError → Type 0

@@ -130,8 +130,8 @@ pub(crate) fn pass_length(
     ensures reads { PassesLength number purpose begin size reader.old reader.new result }
 {
     match purpose {
-        Purpose::Message(kind, slot) => {
-            pass_message(alloc, reader, number, kind, slot, begin, size)?;
+        Purpose::Message(message_type, slot) => {
+            pass_message(alloc, reader, number, message_type, slot, begin, size)?;
             Ok(())
         }
         Purpose::Entry(key_kind, value_kind) => {
@@ -142,11 +142,7 @@ pub(crate) fn pass_length(
             pass_list(reader, number, kind, begin, size);
             Ok(())
         }
-        Purpose::One(_, _)
-        | Purpose::Element(_)
-        | Purpose::Key(_)
-        | Purpose::EntryValue(_)
-        | Purpose::Unknown => {
+        _ => {
             pass_bytes(reader, number, purpose, begin, size);
             Ok(())
         }

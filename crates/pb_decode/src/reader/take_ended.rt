@@ -99,7 +99,7 @@ fn close_innermost(alloc: Global, pool: &Pool, reader: &mut Reader) -> Result<()
 }
 
 /// Closes the parts that end at a tag, innermost first. The top stays open.
-fn close_all_ended(alloc: Global, pool: &Pool, reader: &mut Reader) -> Result<(), DecodeError>
+fn close_ended(alloc: Global, pool: &Pool, reader: &mut Reader) -> Result<(), DecodeError>
     requires rules { IsPool pool.now }
     requires reading { (rest : List ℕ) × IsReading pool.now (state_view reader.old) rest }
     requires tag { reader.old.step ≡ Tag }
@@ -115,23 +115,6 @@ fn close_all_ended(alloc: Global, pool: &Pool, reader: &mut Reader) -> Result<()
         close_innermost(alloc, pool, reader)?;
     }
     Ok(())
-}
-
-/// As `close_all_ended`. At most tags nothing ends.
-#[inline(always)]
-fn close_ended(alloc: Global, pool: &Pool, reader: &mut Reader) -> Result<(), DecodeError>
-    requires rules { IsPool pool.now }
-    requires reading { (rest : List ℕ) × IsReading pool.now (state_view reader.old) rest }
-    requires tag { reader.old.step ≡ Tag }
-    ensures at { OnOk result ((reader.new.at ≡ reader.old.at) × (reader.new.step ≡ Tag)) }
-    ensures goes_on { OnOk result (PartGoesOn reader.new) }
-    ensures taken { KeepsReading pool.now reader.old reader.new result }
-    ensures refused { TellsFaultAnyway pool.now reader.old result }
-{
-    if !part_ends(reader) {
-        return Ok(());
-    }
-    close_all_ended(alloc, pool, reader)
 }
 
 /// Closes all that ends at the reader's position: a packed list, and then the parts that end with it, or those that end at a

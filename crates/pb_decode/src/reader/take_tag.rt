@@ -36,14 +36,8 @@ pub(crate) fn innermost(frames: &[Frame]) -> Option<u32>
     ensures { result ≡ innermost_group (frames_view frames.now) }
 {
     match frames.last() {
-        Some(frame) => {
-            if frame.group {
-                Some(frame.number)
-            } else {
-                None
-            }
-        }
-        None => None,
+        Some(frame) if frame.group => Some(frame.number),
+        _ => None,
     }
 }
 

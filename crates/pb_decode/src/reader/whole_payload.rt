@@ -1,13 +1,10 @@
 //! Messages and map entries that are complete in the bytes: each is read by `pb_whole` and goes into its slot, without a frame.
 
 ghost use Rattle.std.specs.Prelude.{◌≡◌, ◌+◌, ◌≤◌, length, IfOk, IfSome, IfNone};
-ghost use Rattle.pb_schema.specs.Rules.{IsPool};
 ghost use Rattle.pb_parts.specs.declared.open.purpose.Purpose.TheVariants as purposes;
-ghost use Rattle.pb_parts.specs.declared.tokens.step.Step.TheVariants.{Tag};
 ghost use Rattle.pb_parts.specs.Open.PartView.{part_view};
 ghost use Rattle.pb_parts.specs.Open.Purposes.{Means, part_context};
-ghost use Rattle.pb_decode.specs.Reader.{state_view, IsReading};
-ghost use Rattle.pb_decode.specs.Reader.Steps.{HasTagHere, TakesWhole};
+ghost use Rattle.pb_decode.specs.Reader.Steps.{IsAtTag, TakesWhole};
 
 use crate::reader::state::{Reader, left};
 use pb_parts::close::closing::close_entry;
@@ -34,12 +31,8 @@ pub(crate) fn take_message(
     by_tokens: &mut bool,
     bytes: &[u8],
 ) -> Result<Option<usize>, NoMemory>
-    requires rules { IsPool whole.now.pool.now }
-    requires reading { IsReading whole.now.pool.now (state_view reader.old) bytes.now }
-    requires step { reader.old.step ≡ Tag }
+    requires at_tag { IsAtTag whole.now.pool.now reader.old bytes.now tag }
     requires bytes { tag.wire_type ≡ 2 }
-    requires within { tag.size ≤ length bytes.now }
-    requires tag { HasTagHere (state_view reader.old) bytes.now tag.number tag.wire_type tag.size }
     requires means { Means whole.now.pool.now (part_context (part_view reader.old.part)) tag.number 2 (purposes.Message message_type slot) }
     ensures passes { IfOk result (λ o. IfSome o (λ n. (tag.size ≤ n) × (n ≤ length bytes.now) × (reader.new.at ≡ reader.old.at + n))) }
     ensures none { IfOk result (λ o. IfNone o (reader.new ≡ reader.old)) }
@@ -68,12 +61,13 @@ pub(crate) fn take_message(
         Part::Message(_kind, message) => {
             let outer = &mut reader.part;
             let around = &mut reader.scope;
+            let number = tag.number;
             close_message(
                 whole.alloc,
                 whole.pool,
                 outer,
                 around,
-                tag.number,
+                number,
                 slot,
                 message,
             )?;
@@ -100,12 +94,8 @@ pub(crate) fn take_entry(
     by_tokens: &mut bool,
     bytes: &[u8],
 ) -> Result<Option<usize>, NoMemory>
-    requires rules { IsPool whole.now.pool.now }
-    requires reading { IsReading whole.now.pool.now (state_view reader.old) bytes.now }
-    requires step { reader.old.step ≡ Tag }
+    requires at_tag { IsAtTag whole.now.pool.now reader.old bytes.now tag }
     requires bytes { tag.wire_type ≡ 2 }
-    requires within { tag.size ≤ length bytes.now }
-    requires tag { HasTagHere (state_view reader.old) bytes.now tag.number tag.wire_type tag.size }
     requires means { Means whole.now.pool.now (part_context (part_view reader.old.part)) tag.number 2 (purposes.Entry key_kind value_kind) }
     ensures passes { IfOk result (λ o. IfSome o (λ n. (tag.size ≤ n) × (n ≤ length bytes.now) × (reader.new.at ≡ reader.old.at + n))) }
     ensures none { IfOk result (λ o. IfNone o (reader.new ≡ reader.old)) }
@@ -139,14 +129,15 @@ pub(crate) fn take_entry(
             key,
             value,
         } => {
-            let slot = Slot::Map(tag.number);
+            let number = tag.number;
+            let slot = Slot::Map(number);
             let outer = &mut reader.part;
             let around = &mut reader.scope;
             close_entry(
                 whole.alloc,
                 outer,
                 around,
-                tag.number,
+                number,
                 slot,
                 key_kind,
                 value_kind,

@@ -8,7 +8,7 @@ ghost use Rattle.pb_parts.specs.Open.Purposes.{Means, part_context};
 ghost use Rattle.pb_parts.specs.Values.PayloadValue.{IsBytesPurpose};
 ghost use Rattle.pb_parts.specs.Tokens.Number.{IsNumberType};
 ghost use Rattle.pb_decode.specs.Reader.{state_view, IsReading};
-ghost use Rattle.pb_decode.specs.Reader.Steps.{HasTagHere, TakesWhole};
+ghost use Rattle.pb_decode.specs.Reader.Steps.{IsAtTag, TakesWhole};
 
 use crate::reader::pass_length::pass_length;
 use crate::reader::state::{Reader, left};
@@ -37,12 +37,8 @@ fn take_number_record(
     tag: RecordTag,
     bytes: &[u8],
 ) -> Result<Option<usize>, NoMemory>
-    requires rules { IsPool pool.now }
-    requires reading { IsReading pool.now (state_view reader.old) bytes.now }
-    requires step { reader.old.step ≡ Tag }
+    requires at_tag { IsAtTag pool.now reader.old bytes.now tag }
     requires number { IsNumberType tag.wire_type }
-    requires within { tag.size ≤ length bytes.now }
-    requires tag { HasTagHere (state_view reader.old) bytes.now tag.number tag.wire_type tag.size }
     ensures passes { IfOk result (λ o. IfSome o (λ n. (tag.size ≤ n) × (n ≤ length bytes.now) × (reader.new.at ≡ reader.old.at + n))) }
     ensures none { IfOk result (λ o. IfNone o (reader.new ≡ reader.old)) }
     ensures taken { TakesWhole pool.now reader.old reader.new bytes.now result }
@@ -81,12 +77,8 @@ fn take_bytes_record(
     purpose: Purpose,
     bytes: &[u8],
 ) -> Result<Option<usize>, NoMemory>
-    requires rules { IsPool pool.now }
-    requires reading { IsReading pool.now (state_view reader.old) bytes.now }
-    requires step { reader.old.step ≡ Tag }
+    requires at_tag { IsAtTag pool.now reader.old bytes.now tag }
     requires bytes { tag.wire_type ≡ 2 }
-    requires within { tag.size ≤ length bytes.now }
-    requires tag { HasTagHere (state_view reader.old) bytes.now tag.number tag.wire_type tag.size }
     requires means { Means pool.now (part_context (part_view reader.old.part)) tag.number 2 purpose }
     requires purpose { IsBytesPurpose purpose }
     ensures passes { IfOk result (λ o. IfSome o (λ n. (tag.size ≤ n) × (n ≤ length bytes.now) × (reader.new.at ≡ reader.old.at + n))) }
@@ -119,12 +111,8 @@ fn take_opening(
     purpose: Purpose,
     bytes: &[u8],
 ) -> Result<Option<usize>, NoMemory>
-    requires rules { IsPool pool.now }
-    requires reading { IsReading pool.now (state_view reader.old) bytes.now }
-    requires step { reader.old.step ≡ Tag }
+    requires at_tag { IsAtTag pool.now reader.old bytes.now tag }
     requires bytes { tag.wire_type ≡ 2 }
-    requires within { tag.size ≤ length bytes.now }
-    requires tag { HasTagHere (state_view reader.old) bytes.now tag.number tag.wire_type tag.size }
     requires means { Means pool.now (part_context (part_view reader.old.part)) tag.number 2 purpose }
     ensures passes { IfOk result (λ o. IfSome o (λ n. (tag.size ≤ n) × (n ≤ length bytes.now) × (reader.new.at ≡ reader.old.at + n))) }
     ensures none { IfOk result (λ o. IfNone o (reader.new ≡ reader.old)) }
@@ -141,39 +129,6 @@ fn take_opening(
     Ok(Some(start))
 }
 
-/// Takes the message or the entry of a record that is complete after its tag, and how many bytes the record takes.
-fn take_inner(
-    alloc: Global,
-    pool: &Pool,
-    reader: &mut Reader,
-    tag: RecordTag,
-    purpose: Purpose,
-    by_tokens: &mut bool,
-    bytes: &[u8],
-) -> Result<Option<usize>, NoMemory>
-    requires rules { IsPool pool.now }
-    requires reading { IsReading pool.now (state_view reader.old) bytes.now }
-    requires step { reader.old.step ≡ Tag }
-    requires bytes { tag.wire_type ≡ 2 }
-    requires within { tag.size ≤ length bytes.now }
-    requires tag { HasTagHere (state_view reader.old) bytes.now tag.number tag.wire_type tag.size }
-    requires means { Means pool.now (part_context (part_view reader.old.part)) tag.number 2 purpose }
-    ensures passes { IfOk result (λ o. IfSome o (λ n. (tag.size ≤ n) × (n ≤ length bytes.now) × (reader.new.at ≡ reader.old.at + n))) }
-    ensures none { IfOk result (λ o. IfNone o (reader.new ≡ reader.old)) }
-    ensures taken { TakesWhole pool.now reader.old reader.new bytes.now result }
-{
-    let whole = WholeReader { alloc, pool };
-    match purpose {
-        Purpose::Message(kind, slot) => {
-            take_message(&whole, reader, tag, kind, slot, by_tokens, bytes)
-        }
-        Purpose::Entry(key_kind, value_kind) => {
-            take_entry(&whole, reader, tag, key_kind, value_kind, by_tokens, bytes)
-        }
-        _ => Ok(None),
-    }
-}
-
 /// Takes the message or the entry of a record at once, or opens what the record opens, and how many bytes that takes. A record
 /// is opened too where its payload was read and is none: it has a fault, or memory was refused, and from there on all is read token by
 /// token, so that no byte is read twice at once.
@@ -186,19 +141,25 @@ fn take_inner_or_open(
     by_tokens: &mut bool,
     bytes: &[u8],
 ) -> Result<Option<usize>, NoMemory>
-    requires rules { IsPool pool.now }
-    requires reading { IsReading pool.now (state_view reader.old) bytes.now }
-    requires step { reader.old.step ≡ Tag }
+    requires at_tag { IsAtTag pool.now reader.old bytes.now tag }
     requires bytes { tag.wire_type ≡ 2 }
-    requires within { tag.size ≤ length bytes.now }
-    requires tag { HasTagHere (state_view reader.old) bytes.now tag.number tag.wire_type tag.size }
     requires means { Means pool.now (part_context (part_view reader.old.part)) tag.number 2 purpose }
     ensures passes { IfOk result (λ o. IfSome o (λ n. (tag.size ≤ n) × (n ≤ length bytes.now) × (reader.new.at ≡ reader.old.at + n))) }
     ensures none { IfOk result (λ o. IfNone o (reader.new ≡ reader.old)) }
     ensures taken { TakesWhole pool.now reader.old reader.new bytes.now result }
 {
     if !*by_tokens {
-        if let Some(size) = take_inner(alloc, pool, reader, tag, purpose, by_tokens, bytes)? {
+        let whole = WholeReader { alloc, pool };
+        let taken = match purpose {
+            Purpose::Message(message_type, slot) => {
+                take_message(&whole, reader, tag, message_type, slot, by_tokens, bytes)?
+            }
+            Purpose::Entry(key_kind, value_kind) => {
+                take_entry(&whole, reader, tag, key_kind, value_kind, by_tokens, bytes)?
+            }
+            _ => None,
+        };
+        if let Some(size) = taken {
             return Ok(Some(size));
         }
     }
@@ -215,12 +176,8 @@ fn take_length_record(
     by_tokens: &mut bool,
     bytes: &[u8],
 ) -> Result<Option<usize>, NoMemory>
-    requires rules { IsPool pool.now }
-    requires reading { IsReading pool.now (state_view reader.old) bytes.now }
-    requires step { reader.old.step ≡ Tag }
+    requires at_tag { IsAtTag pool.now reader.old bytes.now tag }
     requires bytes { tag.wire_type ≡ 2 }
-    requires within { tag.size ≤ length bytes.now }
-    requires tag { HasTagHere (state_view reader.old) bytes.now tag.number tag.wire_type tag.size }
     ensures passes { IfOk result (λ o. IfSome o (λ n. (tag.size ≤ n) × (n ≤ length bytes.now) × (reader.new.at ≡ reader.old.at + n))) }
     ensures none { IfOk result (λ o. IfNone o (reader.new ≡ reader.old)) }
     ensures taken { TakesWhole pool.now reader.old reader.new bytes.now result }
@@ -241,12 +198,8 @@ fn take_group_start(
     tag: RecordTag,
     bytes: &[u8],
 ) -> Result<Option<usize>, NoMemory>
-    requires rules { IsPool pool.now }
-    requires reading { IsReading pool.now (state_view reader.old) bytes.now }
-    requires step { reader.old.step ≡ Tag }
+    requires at_tag { IsAtTag pool.now reader.old bytes.now tag }
     requires start { tag.wire_type ≡ 3 }
-    requires within { tag.size ≤ length bytes.now }
-    requires tag { HasTagHere (state_view reader.old) bytes.now tag.number tag.wire_type tag.size }
     ensures passes { IfOk result (λ o. IfSome o (λ n. (n ≡ tag.size) × (reader.new.at ≡ reader.old.at + n))) }
     ensures none { IfOk result (λ o. IfNone o (reader.new ≡ reader.old)) }
     ensures taken { TakesWhole pool.now reader.old reader.new bytes.now result }
@@ -267,12 +220,8 @@ fn take_group_end(
     tag: RecordTag,
     bytes: &[u8],
 ) -> Result<Option<usize>, NoMemory>
-    requires rules { IsPool pool.now }
-    requires reading { IsReading pool.now (state_view reader.old) bytes.now }
-    requires step { reader.old.step ≡ Tag }
+    requires at_tag { IsAtTag pool.now reader.old bytes.now tag }
     requires end { tag.wire_type ≡ 4 }
-    requires within { tag.size ≤ length bytes.now }
-    requires tag { HasTagHere (state_view reader.old) bytes.now tag.number tag.wire_type tag.size }
     ensures passes { IfOk result (λ o. IfSome o (λ n. (n ≡ tag.size) × (reader.new.at ≡ reader.old.at + n))) }
     ensures none { IfOk result (λ o. IfNone o (reader.new ≡ reader.old)) }
     ensures taken { TakesWhole pool.now reader.old reader.new bytes.now result }

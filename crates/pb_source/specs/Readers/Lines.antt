@@ -4,7 +4,7 @@ use Rattle.std.specs.Str.{bytes_eq}
 use Rattle.pb_decl.specs.Decls.{DeclaredField, DeclaredEnum, DeclaredMessage, DeclaredMethod, DeclaredService}
 use Rattle.pb_decl.specs.declared.decl.TypeCode.{TypeCode}
 use Rattle.pb_tokens.specs.Readers.Phrases.{is_dot, listed, name_reader, fullname_reader, typename_reader, counted_reader, signed_reader}
-use Rattle.pb_tokens.specs.Readers.Phrases.{is_text, utf8_reader, option_reader, setting_reader, field_end_reader, value_end_reader}
+use Rattle.pb_tokens.specs.Readers.Phrases.{is_text, utf8_reader, option_reader, setting_reader, field_end_reader, group_end_reader, value_end_reader}
 use Rattle.pb_tokens.specs.Readers.Phrases.{type_of, type_reader, key_reader, message_range_reader, enum_range_reader}
 use Rattle.pb_tokens.specs.declared.rule.Rule.TheVariants.{SyntaxFirst as syntax_first, NestsBounded as nests_bounded}
 use Rattle.pb_tokens.specs.declared.grammar.Grammar.{Grammar}
@@ -13,7 +13,7 @@ use Rattle.pb_tokens.specs.declared.grammar.Syntax.{Syntax}
 use Rattle.pb_tokens.specs.declared.grammar.Syntax.TheVariants.{Proto2, Proto3}
 use Rattle.pb_tokens.specs.Symbols.{Symbol, word, number, text, sign}
 use Rattle.pb_tokens.specs.Said.{TypeSaid, joined}
-use Rattle.pb_tokens.specs.Readers.Forms.{Reader, answer, chain, mapped, both, behind, before, choice, by_kind, guarded, symbol}
+use Rattle.pb_tokens.specs.Readers.Forms.{Reader, answer, chain, mapped, both, behind, before, choice, by_kind, guarded, symbol, plain}
 use Rattle.pb_tokens.specs.Readers.Forms.{judged, is_keyword, is_mark, keyword_reader, mark_reader, until, to_end}
 use Rattle.pb_source.specs.declared.reading.Reading.{Reading}
 use Rattle.pb_source.specs.declared.reading.Reading.TheVariants as reading
@@ -34,7 +34,8 @@ use Rattle.pb_source.specs.declared.kind.ServiceKind.{ServiceKind}
 use Rattle.pb_source.specs.declared.kind.ServiceKind.TheVariants as in_service
 use Rattle.pb_source.specs.declared.kind.MethodKind.{MethodKind}
 use Rattle.pb_source.specs.declared.kind.MethodKind.TheVariants as in_method
-use Rattle.pb_source.specs.Meaning.{MapDecl, MessageStatement, EnumStatement, FileStatement, those_said, field_of, message_of, enum_of}
+use Rattle.pb_source.specs.Meaning.{MapDecl, Member, MessageStatement, EnumStatement, FileStatement, those_said, field_of, group_field, message_of, enum_of}
+use Rattle.pb_source.specs.Grammar.{begins_capital}
 
 abbrev pub is_closing : Symbol → Bool
 is_closing = is_mark (codes "}")
@@ -61,6 +62,75 @@ field_from l x = field_of l x.0 x.1.0 x.1.1.0 x.1.1.1
 unfoldable pub field_reader : Grammar → ℕ → Label → Reader DeclaredField
 field_reader g n l = mapped (field_from l) (both (type_reader n) (field_tail_reader g n))
 
+-- ---- groups
+
+-- how the statements of a nested message are read, up to the closing brace
+pub data Nested : Type 0 where
+  -- no message may nest
+  none : Nested
+  -- one may where the rule on nests is left out
+  beyond : Reader (List MessageStatement) → Nested
+  inside : Reader (List MessageStatement) → Nested
+
+abbrev pub is_group : Symbol → Bool
+is_group = is_keyword (codes "group")
+
+abbrev pub if_capital : Bool → List ℕ → Option (List ℕ)
+if_capital true w = Some w
+if_capital false w = None
+
+abbrev pub group_name_in : Symbol → Option (List ℕ)
+group_name_in (word w) = if_capital (begins_capital w) w
+group_name_in (number w) = None
+group_name_in (text b) = None
+group_name_in (sign c) = None
+
+-- a group's name: a word that begins with a capital letter
+abbrev pub group_name_reader : Reader (List ℕ)
+group_name_reader = symbol (plain group_name_in)
+
+-- "group" groupname "=" integer [ opts ] "{"
+unfoldable pub group_head_reader : Grammar → ℕ → Reader (List ℕ × (ℕ × Option Bool))
+group_head_reader g n =
+    behind (keyword_reader (codes "group")) (both group_name_reader (behind (mark_reader (codes "=")) (both counted_reader (group_end_reader g n))))
+
+abbrev pub group_from : Label → (List ℕ × (ℕ × Option Bool)) × List MessageStatement → Member
+group_from l x = (group_field l x.0.0 x.0.1.0 x.0.1.1, Some (message_of x.0.0 x.1))
+
+-- a group, by the reader of its statements, up to the closing brace
+abbrev pub group_reader : Grammar → ℕ → Label → Reader (List MessageStatement) → Reader Member
+group_reader g n l body = mapped (group_from l) (both (group_head_reader g n) body)
+
+abbrev pub alone : DeclaredField → Member
+alone f = (f, None)
+
+-- the statement of a field that is no group
+abbrev pub a_single : DeclaredField → MessageStatement
+a_single f = MessageStatement.a_field (alone f)
+
+abbrev pub if_ungrouped : Symbol → Option (Unit {0})
+if_ungrouped s = if is_group s then None else Some tt
+
+-- a field that does not begin with the word `group`
+unfoldable pub ungrouped_reader : Grammar → ℕ → Label → Reader Member
+ungrouped_reader g n l = by_kind if_ungrouped (λ _. Some (mapped alone (field_reader g n l)))
+
+-- a field or a group, by the messages that may nest
+abbrev pub grouped_reader : Grammar → ℕ → Label → Nested → Reader Member
+grouped_reader g n l Nested.none = ungrouped_reader g n l
+grouped_reader g n l (Nested.beyond body) = guarded nests_bounded is_group (group_reader g n l body) (ungrouped_reader g n l)
+grouped_reader g n l (Nested.inside body) = choice is_group (group_reader g n l body) (ungrouped_reader g n l)
+
+-- a field, or in proto2 a group
+abbrev pub member_by : Bool → Grammar → ℕ → Label → Nested → Reader Member
+member_by true g n l nested = grouped_reader g n l nested
+member_by false g n l nested = mapped alone (field_reader g n l)
+
+abbrev pub member_reader : Grammar → ℕ → Label → Nested → Reader Member
+member_reader g n l nested = member_by (is_proto2 g) g n l nested
+
+-- ---- maps
+
 abbrev pub map_from : TypeCode × (TypeSaid × (List ℕ × (ℕ × Option Bool))) → MapDecl
 map_from x = record { key = x.0; value = x.1.0; name = x.1.1.0; number = x.1.1.1.0; packed = x.1.1.1.1 }
 
@@ -82,7 +152,7 @@ of_map_reader g n = mapped (field_from Unlabelled) (both (mapped (λ ws. type_of
 abbrev pub map_rest_reader : Bool → Grammar → ℕ → Reader MessageStatement
 map_rest_reader true g n = mapped MessageStatement.a_map (map_tail_reader g (suc n))
 map_rest_reader false g n =
-    choice (is_mark (codes "<")) (mapped MessageStatement.a_map (map_tail_reader g (suc n))) (mapped MessageStatement.a_field (of_map_reader g n))
+    choice (is_mark (codes "<")) (mapped MessageStatement.a_map (map_tail_reader g (suc n))) (mapped a_single (of_map_reader g n))
 
 -- a map field, or but in proto2 a field of a type whose name begins with the word `map`
 unfoldable pub map_reader : Grammar → ℕ → Reader MessageStatement
@@ -110,17 +180,17 @@ oneof_kind =
     (Some in_a_oneof.Field)
     ((codes ";", Some in_a_oneof.Empty) ∷ (codes ".", Some in_a_oneof.Field) ∷ [])
 
-abbrev pub oneof_line : Grammar → ℕ → OneofKind → Option (Reader (Option DeclaredField))
-oneof_line g n in_a_oneof.Empty = Some (mapped (λ _. None) (mark_reader (codes ";")))
-oneof_line g n in_a_oneof.Option = Some (mapped (λ _. None) (option_reader g n))
-oneof_line g n in_a_oneof.Field = Some (mapped Some (field_reader g n Unlabelled))
+abbrev pub oneof_line : Grammar → ℕ → Nested → OneofKind → Option (Reader (Option Member))
+oneof_line g n nested in_a_oneof.Empty = Some (mapped (λ _. None) (mark_reader (codes ";")))
+oneof_line g n nested in_a_oneof.Option = Some (mapped (λ _. None) (option_reader g n))
+oneof_line g n nested in_a_oneof.Field = Some (mapped Some (member_reader g n Unlabelled nested))
 
-unfoldable pub oneof_statement_reader : Grammar → ℕ → Reader (Option DeclaredField)
-oneof_statement_reader g n = by_kind oneof_kind (oneof_line g n)
+unfoldable pub oneof_statement_reader : Grammar → ℕ → Nested → Reader (Option Member)
+oneof_statement_reader g n nested = by_kind oneof_kind (oneof_line g n nested)
 
 -- the name, and the fields
-unfoldable pub oneof_reader : Grammar → ℕ → Reader (List ℕ × List DeclaredField)
-oneof_reader g n = behind (keyword_reader (codes "oneof")) (both name_reader (mapped those_said (braced n (oneof_statement_reader g n))))
+unfoldable pub oneof_reader : Grammar → ℕ → Nested → Reader (List ℕ × List Member)
+oneof_reader g n nested = behind (keyword_reader (codes "oneof")) (both name_reader (mapped those_said (braced n (oneof_statement_reader g n nested))))
 
 -- ---- reserved
 
@@ -173,21 +243,30 @@ extend_kind =
     (Some in_extend.Field)
     ((codes ";", Some in_extend.Empty) ∷ (codes ".", Some in_extend.Field) ∷ [])
 
-abbrev pub extension_line : Grammar → ℕ → ExtendKind → Option (Reader (Unit {0}))
-extension_line g n in_extend.Empty = Some (mark_reader (codes ";"))
-extension_line g n in_extend.Repeated = Some (mapped (λ _. tt) (behind (keyword_reader (codes "repeated")) (field_reader g n Repeated)))
-extension_line g n in_extend.Optional = Some (mapped (λ _. tt) (behind (keyword_reader (codes "optional")) (field_reader g n (optional_label g))))
-extension_line g n in_extend.Required = taken (is_proto2 g) (mapped (λ _. tt) (behind (keyword_reader (codes "required")) (field_reader g n Unlabelled)))
-extension_line g n in_extend.Field = taken (not (is_proto2 g)) (mapped (λ _. tt) (field_reader g n Unlabelled))
+-- a field or a group behind the word of its label
+abbrev pub labelled_reader : Grammar → ℕ → List ℕ → Label → Nested → Reader Member
+labelled_reader g n w l nested = behind (keyword_reader w) (member_reader g n l nested)
+
+-- the message of a group
+abbrev pub group_in : Member → Option DeclaredMessage
+group_in x = x.1
+
+abbrev pub extension_line : Grammar → ℕ → Nested → ExtendKind → Option (Reader (Option DeclaredMessage))
+extension_line g n nested in_extend.Empty = Some (mapped (λ _. None) (mark_reader (codes ";")))
+extension_line g n nested in_extend.Repeated = Some (mapped group_in (labelled_reader g n (codes "repeated") Repeated nested))
+extension_line g n nested in_extend.Optional = Some (mapped group_in (labelled_reader g n (codes "optional") (optional_label g) nested))
+extension_line g n nested in_extend.Required = taken (is_proto2 g) (mapped group_in (labelled_reader g n (codes "required") Unlabelled nested))
+extension_line g n nested in_extend.Field = taken (not (is_proto2 g)) (mapped (λ _. None) (field_reader g n Unlabelled))
 
 -- { field | ";" }, each
-unfoldable pub extension_reader : Grammar → ℕ → Reader (Unit {0})
-extension_reader g n = by_kind extend_kind (extension_line g n)
+unfoldable pub extension_reader : Grammar → ℕ → Nested → Reader (Option DeclaredMessage)
+extension_reader g n nested = by_kind extend_kind (extension_line g n nested)
 
 -- extend    = "extend" typename "{" { field | ";" } "}"
-unfoldable pub extend_reader : Grammar → ℕ → Reader (Unit {0})
-extend_reader g n =
-    behind (keyword_reader (codes "extend")) (behind (mapped (λ _. tt) (typename_reader n)) (mapped (λ _. tt) (braced n (extension_reader g n))))
+unfoldable pub extend_reader : Grammar → ℕ → Nested → Reader (List DeclaredMessage)
+extend_reader g n nested =
+    behind (keyword_reader (codes "extend"))
+    (behind (mapped (λ _. tt) (typename_reader n)) (mapped those_said (braced n (extension_reader g n nested))))
 
 -- extensions = "extensions" range { "," range } [ opts ] ";"
 unfoldable pub extensions_reader : Grammar → ℕ → Reader (Unit {0})
@@ -207,47 +286,66 @@ message_kind =
     (Some in_message.Field)
     ((codes ";", Some in_message.Empty) ∷ (codes ".", Some in_message.Field) ∷ [])
 
--- where the messages that may stand in this one, if any, have a reader
-abbrev pub message_statement_line : Grammar → ℕ → Option (Reader DeclaredMessage) → MessageKind → Option (Reader MessageStatement)
-message_statement_line g n inner in_message.Empty = Some (mapped (λ _. MessageStatement.nothing_said) (mark_reader (codes ";")))
-message_statement_line g n inner in_message.Option = Some (mapped (λ _. MessageStatement.nothing_said) (option_reader g n))
-message_statement_line g n inner in_message.Message = option_map (mapped MessageStatement.a_message) inner
-message_statement_line g n inner in_message.Enum = Some (mapped MessageStatement.an_enum (enum_reader g n))
-message_statement_line g n inner in_message.Oneof = Some (mapped (λ x. MessageStatement.a_oneof x.0 x.1) (oneof_reader g n))
-message_statement_line g n inner in_message.Reserved =
+-- "message" word "{" { statement } "}", by the reader of the statements, up to the closing brace
+unfoldable pub message_line_reader : Reader (List MessageStatement) → Reader DeclaredMessage
+message_line_reader body =
+    mapped (λ x. message_of x.0 x.1) (behind (keyword_reader (codes "message")) (both name_reader (behind (mark_reader (codes "{")) body)))
+
+abbrev pub nested_message_reader : Nested → Option (Reader MessageStatement)
+nested_message_reader Nested.none = None
+nested_message_reader (Nested.beyond body) = None
+nested_message_reader (Nested.inside body) = Some (mapped MessageStatement.a_message (message_line_reader body))
+
+abbrev pub message_statement_line : Grammar → ℕ → Nested → MessageKind → Option (Reader MessageStatement)
+message_statement_line g n nested in_message.Empty = Some (mapped (λ _. MessageStatement.nothing_said) (mark_reader (codes ";")))
+message_statement_line g n nested in_message.Option = Some (mapped (λ _. MessageStatement.nothing_said) (option_reader g n))
+message_statement_line g n nested in_message.Message = nested_message_reader nested
+message_statement_line g n nested in_message.Enum = Some (mapped MessageStatement.an_enum (enum_reader g n))
+message_statement_line g n nested in_message.Oneof = Some (mapped (λ x. MessageStatement.a_oneof x.0 x.1) (oneof_reader g n nested))
+message_statement_line g n nested in_message.Reserved =
     Some (reserved_reader n message_range_reader MessageStatement.reserved_ranges MessageStatement.reserved_names)
-message_statement_line g n inner in_message.Repeated =
-    Some (mapped MessageStatement.a_field (behind (keyword_reader (codes "repeated")) (field_reader g n Repeated)))
-message_statement_line g n inner in_message.Optional =
-    Some (mapped MessageStatement.a_field (behind (keyword_reader (codes "optional")) (field_reader g n (optional_label g))))
-message_statement_line g n inner in_message.Required =
-    taken (is_proto2 g) (mapped MessageStatement.a_field (behind (keyword_reader (codes "required")) (field_reader g n Unlabelled)))
-message_statement_line g n inner in_message.Map = Some (map_reader g n)
-message_statement_line g n inner in_message.Field = taken (not (is_proto2 g)) (mapped MessageStatement.a_field (field_reader g n Unlabelled))
-message_statement_line g n inner in_message.Extend = dropped g MessageStatement.nothing_said (extend_reader g n)
-message_statement_line g n inner in_message.Extensions = dropped g MessageStatement.nothing_said (extensions_reader g n)
+message_statement_line g n nested in_message.Repeated = Some (mapped MessageStatement.a_field (labelled_reader g n (codes "repeated") Repeated nested))
+message_statement_line g n nested in_message.Optional =
+    Some (mapped MessageStatement.a_field (labelled_reader g n (codes "optional") (optional_label g) nested))
+message_statement_line g n nested in_message.Required =
+    taken (is_proto2 g) (mapped MessageStatement.a_field (labelled_reader g n (codes "required") Unlabelled nested))
+message_statement_line g n nested in_message.Map = Some (map_reader g n)
+message_statement_line g n nested in_message.Field =
+    taken (not (is_proto2 g)) (mapped a_single (field_reader g n Unlabelled))
+message_statement_line g n nested in_message.Extend = taken (is_lenient g) (mapped MessageStatement.an_extend (extend_reader g n nested))
+message_statement_line g n nested in_message.Extensions = dropped g MessageStatement.nothing_said (extensions_reader g n)
 
-unfoldable pub message_statement_reader : Grammar → ℕ → Option (Reader DeclaredMessage) → Reader MessageStatement
-message_statement_reader g n inner = by_kind message_kind (message_statement_line g n inner)
+-- a statement that the rule on nests does not forbid by its first word
+unfoldable pub allowed_statement_reader : Grammar → ℕ → Nested → Reader MessageStatement
+allowed_statement_reader g n nested = by_kind message_kind (message_statement_line g n nested)
 
--- "message" word "{" { statement } "}", by the reader of the statements
-unfoldable pub message_line_reader : ℕ → Reader MessageStatement → Reader DeclaredMessage
-message_line_reader n statement = mapped (λ x. message_of x.0 x.1) (behind (keyword_reader (codes "message")) (both name_reader (braced n statement)))
+-- Where a message may nest beyond the rule alone, the rule forbids the word that begins one.
+abbrev pub message_statement_reader : Grammar → ℕ → Nested → Reader MessageStatement
+message_statement_reader g n Nested.none = allowed_statement_reader g n Nested.none
+message_statement_reader g n (Nested.beyond body) =
+    guarded nests_bounded (is_keyword (codes "message")) (mapped MessageStatement.a_message (message_line_reader body))
+    (allowed_statement_reader g n (Nested.beyond body))
+message_statement_reader g n (Nested.inside body) = allowed_statement_reader g n (Nested.inside body)
 
--- In a message that is the last of its nest, the rule on nests forbids what begins one more.
-unfoldable pub last_statement_reader : Grammar → ℕ → Reader MessageStatement
-last_statement_reader g n =
-    guarded nests_bounded (is_keyword (codes "message")) (mapped MessageStatement.a_message (message_line_reader n (message_statement_reader g n None)))
-    (message_statement_reader g n None)
+-- { statement } "}"
+abbrev pub body_reader : ℕ → Reader MessageStatement → Reader (List MessageStatement)
+body_reader n statement = until n is_closing statement (mark_reader (codes "}")) []
 
--- a statement of a message with room for so many nested ones, each in the one before
-unfoldable pub room_statement_reader : Grammar → ℕ → ℕ → Reader MessageStatement
-room_statement_reader g n zero = last_statement_reader g n
-room_statement_reader g n (suc room) = message_statement_reader g n (Some (message_line_reader n (room_statement_reader g n room)))
+-- what nests in a message, where so many messages may nest in it, each in the one before
+unfoldable pub nested_in : Grammar → ℕ → ℕ → Nested
+nested_in g n zero = Nested.beyond (body_reader n (message_statement_reader g n Nested.none))
+nested_in g n (suc room) = Nested.inside (body_reader n (message_statement_reader g n (nested_in g n room)))
+
+-- a statement of a message with that room
+abbrev pub room_statement_reader : Grammar → ℕ → ℕ → Reader MessageStatement
+room_statement_reader g n room = message_statement_reader g n (nested_in g n room)
+
+abbrev pub room_body_reader : Grammar → ℕ → ℕ → Reader (List MessageStatement)
+room_body_reader g n room = body_reader n (room_statement_reader g n room)
 
 -- a message with that room
 abbrev pub message_reader : Grammar → ℕ → ℕ → Reader DeclaredMessage
-message_reader g n room = message_line_reader n (room_statement_reader g n room)
+message_reader g n room = message_line_reader (room_body_reader g n room)
 
 -- ---- services
 
@@ -338,7 +436,7 @@ file_line g n false in_file.Package = Some (mapped FileStatement.a_package (pack
 file_line g n said in_file.Message = Some (mapped FileStatement.a_message (message_reader g n 63))
 file_line g n said in_file.Enum = Some (mapped FileStatement.an_enum (enum_reader g n))
 file_line g n said in_file.Service = Some (mapped FileStatement.a_service (service_reader g n))
-file_line g n said in_file.Extend = dropped g FileStatement.nothing_said (extend_reader g n)
+file_line g n said in_file.Extend = taken (is_lenient g) (mapped FileStatement.an_extend (extend_reader g n (nested_in g n 64)))
 
 unfoldable pub file_statement_reader : Grammar → ℕ → Bool → Reader FileStatement
 file_statement_reader g n said = by_kind file_kind (file_line g n said)
@@ -386,6 +484,7 @@ is_package FileStatement.nothing_said = false
 is_package (FileStatement.an_import is_public f) = false
 is_package (FileStatement.a_package p) = true
 is_package (FileStatement.a_message m) = false
+is_package (FileStatement.an_extend ms) = false
 is_package (FileStatement.an_enum e) = false
 is_package (FileStatement.a_service s) = false
 

@@ -1,19 +1,19 @@
 //! What statements come to.
 
-ghost use Rattle.std.specs.Prelude.{◌≡◌, ◌≤◌, ◌<◌, ◌++◌, ◌∷◌, [], ℕ, List, Bool, Option, None, Some, codes, map, length, string_bytes, pos, IfOk, OnOk};
+ghost use Rattle.std.specs.Prelude.{◌≡◌, ◌≤◌, ◌<◌, ◌++◌, ◌∷◌, [], ℕ, List, Bool, Option, None, Some, codes, map, length, string_bytes, option_map, option_to_list, pos, IfOk, OnOk};
 ghost use Rattle.pb_schema.specs.Names.{entry_name};
 ghost use Rattle.pb_decl.specs.View.{field_view, message_view};
 ghost use Rattle.pb_decl.specs.declared.decl.TypeCode.{TypeCode};
 ghost use Rattle.pb_tokens.specs.Said.{a_scalar};
 ghost use Rattle.pb_tokens.specs.PhraseView.{type_view};
 ghost use Rattle.pb_source.specs.Meaning.{MessageStatement, FileStatement, entry_field, entry_of, map_field};
-ghost use Rattle.pb_source.specs.Meaning.{in_oneof, with_own_oneofs, own_oneofs, message_of, public_from};
-ghost use Rattle.pb_source.specs.StatementView.{map_view, message_statement_view, file_statement_view};
+ghost use Rattle.pb_source.specs.Meaning.{fields_in, groups_in, in_oneof, with_own_oneofs, own_oneofs, message_of, public_from};
+ghost use Rattle.pb_source.specs.StatementView.{map_view, member_view, message_statement_view, file_statement_view};
 ghost use Rattle.pb_source.specs.PartsView.{with_own_oneof, IsCounted, OnePackage, HoldsSaid, FileHolds};
 
 use crate::kind::Label;
 use crate::parsing::fields::field_of;
-use crate::parsing::statement::{FileSaid, MapSaid, MessageSaid};
+use crate::parsing::statement::{FileSaid, MapSaid, MemberSaid, MessageSaid};
 use pb_decl::{EnumDecl, FieldDecl, MessageDecl, ServiceDecl, TypeCode};
 use pb_schema::entry_name;
 use pb_tokens::parsing::types::TypeSaid;
@@ -159,17 +159,43 @@ fn index_of(count: usize) -> Result<i32, AllocError>
     }
 }
 
-/// Puts the fields of a oneof, before which so many others stand, behind other fields.
+/// Puts the message of a group after others, if there is one.
+fn add_group(messages: &mut Vec<MessageDecl>, group: Option<MessageDecl>) -> Result<(), AllocError>
+    ensures { OnOk result (map message_view messages.new.items ≡ map message_view messages.old.items ++ option_to_list (option_map message_view group)) }
+{
+    if let Some(message) = group {
+        messages.push(message)?;
+    }
+    Ok(())
+}
+
+/// Puts a field and the message of a group into a message.
+fn add_member(message: &mut MessageParts, member: MemberSaid) -> Result<(), AllocError>
+    ensures { OnOk result ((ss : List MessageStatement) → HoldsSaid message.old ss
+        → HoldsSaid message.new (ss ++ MessageStatement.a_field (member_view member) ∷ [])) }
+{
+    let MemberSaid { field, group } = member;
+    add_group(&mut message.messages, group)?;
+    message.fields.push(field)?;
+    Ok(())
+}
+
+/// Puts the fields of a oneof, before which so many others stand, behind other fields, and the messages of its groups behind other messages.
 fn add_members(
     fields: &mut Vec<FieldDecl>,
+    messages: &mut Vec<MessageDecl>,
     count: usize,
-    members: Vec<FieldDecl>,
+    members: Vec<MemberSaid>,
 ) -> Result<(), AllocError>
-    ensures { OnOk result (map field_view fields.new.items ≡ map field_view fields.old.items ++ map (in_oneof count) (map field_view members.items)) }
+    ensures fields { OnOk result (map field_view fields.new.items
+        ≡ map field_view fields.old.items ++ map (in_oneof count) (fields_in (map member_view members.items))) }
+    ensures messages { OnOk result (map message_view messages.new.items ≡ map message_view messages.old.items ++ groups_in (map member_view members.items)) }
 {
     let index = index_of(count)?;
-    for mut field in members {
+    for member in members {
+        let MemberSaid { mut field, group } = member;
         field.oneof = Some(index);
+        add_group(messages, group)?;
         fields.push(field)?;
     }
     Ok(())
@@ -179,12 +205,17 @@ fn add_members(
 fn add_oneof(
     message: &mut MessageParts,
     name: String,
-    members: Vec<FieldDecl>,
+    members: Vec<MemberSaid>,
 ) -> Result<(), AllocError>
     ensures { OnOk result ((ss : List MessageStatement) → HoldsSaid message.old ss
-        → HoldsSaid message.new (ss ++ MessageStatement.a_oneof (string_bytes name) (map field_view members.items) ∷ [])) }
+        → HoldsSaid message.new (ss ++ MessageStatement.a_oneof (string_bytes name) (map member_view members.items) ∷ [])) }
 {
-    add_members(&mut message.fields, message.oneofs.len(), members)?;
+    add_members(
+        &mut message.fields,
+        &mut message.messages,
+        message.oneofs.len(),
+        members,
+    )?;
     message.oneofs.push(name)?;
     Ok(())
 }
@@ -200,8 +231,8 @@ pub(crate) fn add_statement(
 {
     match statement {
         MessageSaid::Nothing => Ok(()),
-        MessageSaid::Field(field) => {
-            message.fields.push(field)?;
+        MessageSaid::Field(member) => {
+            add_member(message, member)?;
             Ok(())
         }
         MessageSaid::Map(map) => {
@@ -214,6 +245,10 @@ pub(crate) fn add_statement(
         }
         MessageSaid::Message(inner) => {
             message.messages.push(inner)?;
+            Ok(())
+        }
+        MessageSaid::Extend(mut groups) => {
+            message.messages.append(&mut groups)?;
             Ok(())
         }
         MessageSaid::Enum(inner) => {
@@ -365,6 +400,10 @@ pub(crate) fn add_file_statement(
         }
         FileSaid::Message(message) => {
             file.messages.push(message)?;
+            Ok(())
+        }
+        FileSaid::Extend(mut groups) => {
+            file.messages.append(&mut groups)?;
             Ok(())
         }
         FileSaid::Enum(decl) => {

@@ -1,39 +1,37 @@
-//! Fields, oneofs and maps.
+//! Fields and maps.
 
-ghost use Rattle.std.specs.Prelude.{◌≡◌, ◌≤◌, ◌<◌, ◌++◌, [], length, map, codes, string_bytes, option_map, option_to_list, IfOk, OnOk};
+ghost use Rattle.std.specs.Prelude.{◌≡◌, ◌≤◌, ◌<◌, length, string_bytes, IfOk};
 ghost use Rattle.pb_decl.specs.View.{field_view};
-ghost use Rattle.pb_tokens.specs.Readers.Forms.{behind, mapped, until, keyword_reader, mark_reader};
 ghost use Rattle.pb_tokens.specs.PhraseView.{type_view};
 ghost use Rattle.pb_tokens.specs.Readers.Given.{ReadsInSteps};
-ghost use Rattle.pb_source.specs.Meaning.{is_repeated_label, is_optional_label, field_of, those_said};
-ghost use Rattle.pb_source.specs.Readers.Lines.{is_closing, field_tail_reader, field_reader, map_tail_reader, map_reader, oneof_statement_reader, oneof_reader};
+ghost use Rattle.pb_source.specs.Meaning.{is_repeated_label, is_optional_label, field_of};
+ghost use Rattle.pb_source.specs.Readers.Lines.{field_tail_reader, field_reader, map_tail_reader, map_reader};
 ghost use Rattle.pb_source.specs.StatementView.{map_view, message_statement_view};
 ghost use Rattle.pb_source.specs.PartsView.{IsCounted};
 
-use crate::kind::{Label, OneofKind};
-use crate::parsing::kinds::oneof_kind;
-use crate::parsing::statement::{MapSaid, MessageSaid};
+use crate::kind::Label;
+use crate::parsing::statement::{MapSaid, MemberSaid, MessageSaid};
 use crate::parsing::syntaxes::is_proto2;
 use pb_decl::FieldDecl;
 use pb_tokens::grammar::Grammar;
 use pb_tokens::parsing::numbers::counted;
-use pb_tokens::parsing::options::{field_end, option};
-use pb_tokens::parsing::single::{begins_with_mark, keyword, mark, name, symbol_at};
+use pb_tokens::parsing::options::field_end;
+use pb_tokens::parsing::single::{begins_with_mark, keyword, mark, name};
 use pb_tokens::parsing::types::{TypeSaid, code_of, key_type, name_of, typed};
 use pb_tokens::refusal::Refusal;
 use pb_tokens::symbol::Placed;
-use std::alloc::{AllocError, Global};
+use std::alloc::Global;
 
-/// What stands behind a field's type.
+/// What stands behind a field's type, or the word `group`.
 #[derive(Drop)]
-struct FieldTail<'a> {
+pub(crate) struct FieldTail<'a> {
     pub name: &'a str,
     pub number: u32,
     pub packed: Option<bool>,
 }
 
 /// Whether the label says that a field is repeated.
-fn is_repeated(label: Label) -> bool
+pub(crate) fn is_repeated(label: Label) -> bool
     ensures { result ≡ is_repeated_label label }
 {
     match label {
@@ -44,7 +42,7 @@ fn is_repeated(label: Label) -> bool
 }
 
 /// Whether the label says that a field is optional.
-fn is_optional(label: Label) -> bool
+pub(crate) fn is_optional(label: Label) -> bool
     ensures { result ≡ is_optional_label label }
 {
     match label {
@@ -121,23 +119,6 @@ pub(crate) fn field(
     Ok((field, after))
 }
 
-/// Reads a field behind the word of its label.
-pub(crate) fn labelled_field(
-    alloc: Global,
-    grammar: Grammar,
-    word: &str,
-    label: Label,
-    symbols: &[Placed],
-    at: usize,
-) -> Result<(FieldDecl, usize), Refusal>
-    ensures within { IfOk result (λ x. (at < x.1) × (x.1 ≤ length symbols.now)) }
-    ensures read { ReadsInSteps symbols.now at (λ x. (field_view x.0, x.1)) result (λ n. behind (keyword_reader word.now) (field_reader grammar n label)) }
-{
-    let after = keyword(word, symbols, at)?;
-    let (field, after) = field(alloc, grammar, label, symbols, after)?;
-    Ok((field, after))
-}
-
 /// Reads a map behind its word.
 #[tactic(auto, unfolding(crate::specs::Readers::Lines::map_tail_reader))]
 fn map_tail(
@@ -189,88 +170,6 @@ pub(crate) fn map_or_field(
         return Ok((MessageSaid::Map(map), after));
     }
     let (field, after) = field(alloc, grammar, Label::Unlabelled, symbols, at)?;
-    Ok((MessageSaid::Field(field), after))
-}
-
-/// Reads a statement of a oneof: a field, or what says nothing.
-#[tactic(auto, unfolding(crate::specs::Readers::Lines::oneof_statement_reader))]
-fn oneof_statement(
-    alloc: Global,
-    grammar: Grammar,
-    symbols: &[Placed],
-    at: usize,
-) -> Result<(Option<FieldDecl>, usize), Refusal>
-    ensures within { IfOk result (λ x. (at < x.1) × (x.1 ≤ length symbols.now)) }
-    ensures read { ReadsInSteps symbols.now at (λ x. (option_map field_view x.0, x.1)) result (oneof_statement_reader grammar) }
-{
-    let Some(first) = symbol_at(symbols, at) else {
-        return Err(Refusal::At { at, rule: None });
-    };
-    match oneof_kind(&first.symbol) {
-        Some(OneofKind::Empty) => {
-            let after = mark(";", symbols, at)?;
-            Ok((None, after))
-        }
-        Some(OneofKind::Option) => {
-            let after = option(alloc, grammar, symbols, at)?;
-            Ok((None, after))
-        }
-        Some(OneofKind::Field) => {
-            let (field, after) = field(alloc, grammar, Label::Unlabelled, symbols, at)?;
-            Ok((Some(field), after))
-        }
-        None => Err(Refusal::At { at, rule: None }),
-    }
-}
-
-/// Puts a field behind others, if there is one.
-fn push_said(fields: &mut Vec<FieldDecl>, said: Option<FieldDecl>) -> Result<(), AllocError>
-    ensures { OnOk result (fields.new.items ≡ fields.old.items ++ option_to_list said) }
-{
-    if let Some(field) = said {
-        fields.push(field)?;
-    }
-    Ok(())
-}
-
-/// Reads the statements of a oneof, and the closing brace.
-fn oneof_body(
-    alloc: Global,
-    grammar: Grammar,
-    symbols: &[Placed],
-    at: usize,
-) -> Result<(Vec<FieldDecl>, usize), Refusal>
-    requires { at ≤ length symbols.now }
-    ensures within { IfOk result (λ x. (at < x.1) × (x.1 ≤ length symbols.now)) }
-    ensures read { ReadsInSteps symbols.now at (λ x. (map field_view x.0.items, x.1)) result
-        (λ n. mapped those_said (until n is_closing (oneof_statement_reader grammar n) (mark_reader (codes "}")) [])) }
-{
-    let mut fields = Vec::new(alloc);
-    let mut here = at;
-    while !begins_with_mark("}", symbols, here) {
-        let (said, after) = oneof_statement(alloc, grammar, symbols, here)?;
-        push_said(&mut fields, said)?;
-        here = after;
-    }
-    let after = mark("}", symbols, here)?;
-    Ok((fields, after))
-}
-
-/// Reads a oneof: its name and its fields.
-#[tactic(auto, unfolding(crate::specs::Readers::Lines::oneof_reader))]
-pub(crate) fn oneof(
-    alloc: Global,
-    grammar: Grammar,
-    symbols: &[Placed],
-    at: usize,
-) -> Result<((String, Vec<FieldDecl>), usize), Refusal>
-    ensures within { IfOk result (λ x. (at < x.1) × (x.1 ≤ length symbols.now)) }
-    ensures read { ReadsInSteps symbols.now at (λ x. ((string_bytes x.0.0, map field_view x.0.1.items), x.1)) result (oneof_reader grammar) }
-{
-    let after = keyword("oneof", symbols, at)?;
-    let (name, after) = name(symbols, after)?;
-    let after = mark("{", symbols, after)?;
-    let (fields, after) = oneof_body(alloc, grammar, symbols, after)?;
-    let name = String::from_str(alloc, name)?;
-    Ok(((name, fields), after))
+    let member = MemberSaid { field, group: None };
+    Ok((MessageSaid::Field(member), after))
 }

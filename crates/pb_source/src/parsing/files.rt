@@ -6,23 +6,24 @@ ghost use Rattle.pb_decl.specs.View.{file_view};
 ghost use Rattle.pb_tokens.specs.Language.{all_rules};
 ghost use Rattle.pb_tokens.specs.declared.rule.Rule.TheVariants.{SyntaxFirst};
 ghost use Rattle.pb_tokens.specs.declared.grammar.Grammar.{Grammar};
-ghost use Rattle.pb_tokens.specs.Readers.Forms.{symbol, judged, if_some, to_end};
+ghost use Rattle.pb_tokens.specs.Readers.Forms.{symbol, judged, if_some, mapped, to_end};
 ghost use Rattle.pb_tokens.specs.Readers.Given.{symbols_from, Fails, Reads, ReadsInSteps};
 ghost use Rattle.pb_source.specs.Meaning.{FileStatement, file_of};
-ghost use Rattle.pb_source.specs.Readers.Lines.{dropped, extend_reader, access_reader, import_reader, package_reader, file_statement_reader, file_reader};
+ghost use Rattle.pb_source.specs.Readers.Lines.{taken, nested_in, extend_reader, access_reader, import_reader, package_reader, file_statement_reader, file_reader};
 ghost use Rattle.pb_source.specs.Readers.Lines.{is_package, syntax_reader, strict_syntax_reader, lenient_syntax_reader};
 ghost use Rattle.pb_source.specs.Readers.Lines.{syntax_word_in, syntax_text_in, named_syntax, named_syntax_in};
+ghost use Rattle.pb_source.specs.Syntaxes.{is_lenient};
 ghost use Rattle.pb_source.specs.StatementView.{file_statement_view};
 
 use crate::kind::FileKind;
 use crate::parsing::declared::{FileParts, add_file_statement};
 use crate::parsing::enums::enum_line;
-use crate::parsing::extensions::extend;
 use crate::parsing::kinds::file_kind;
-use crate::parsing::messages::message;
+use crate::parsing::messages::{extend, message};
 use crate::parsing::scopes::file_of;
 use crate::parsing::services::service;
 use crate::parsing::statement::FileSaid;
+use crate::parsing::syntaxes::is_lenient;
 use crate::reading::Reading;
 use pb_decl::FileDecl;
 use pb_tokens::grammar::{Grammar, Syntax};
@@ -34,8 +35,8 @@ use pb_tokens::rule::Rule;
 use pb_tokens::symbol::{Placed, Symbol, is_keyword};
 use std::alloc::Global;
 
-/// How many messages may nest in one of a file.
-const ROOM: u8 = 63;
+/// How many messages of a file may nest, each in the one before.
+const ROOM: u8 = 64;
 
 /// Reads the word `syntax`.
 fn syntax_word(symbols: &[Placed], at: usize) -> Result<usize, Refusal>
@@ -204,7 +205,7 @@ fn package(alloc: Global, symbols: &[Placed], at: usize) -> Result<(String, usiz
     Ok((name, after))
 }
 
-/// Reads a block of `extend`, of which nothing is kept. The strict grammar has none.
+/// Reads a block of `extend`, of which the messages of its groups are kept. The strict grammar has none.
 fn extend_statement(
     alloc: Global,
     grammar: Grammar,
@@ -213,15 +214,13 @@ fn extend_statement(
 ) -> Result<(FileSaid, usize), Refusal>
     ensures within { IfOk result (λ x. (at < x.1) × (x.1 ≤ length symbols.now)) }
     ensures read { ReadsInSteps symbols.now at (λ x. (file_statement_view x.0, x.1)) result
-        (λ n. if_some (dropped grammar FileStatement.nothing_said (extend_reader grammar n))) }
+        (λ n. if_some (taken (is_lenient grammar) (mapped FileStatement.an_extend (extend_reader grammar n (nested_in grammar n 64))))) }
 {
-    match grammar {
-        Grammar::Strict => Err(Refusal::At { at, rule: None }),
-        Grammar::Lenient(_) => {
-            let after = extend(alloc, grammar, symbols, at)?;
-            Ok((FileSaid::Nothing, after))
-        }
+    if !is_lenient(grammar) {
+        return Err(Refusal::At { at, rule: None });
     }
+    let (groups, after) = extend(alloc, grammar, ROOM, symbols, at)?;
+    Ok((FileSaid::Extend(groups), after))
 }
 
 /// Reads a statement of a file: no package, where one has been said.
@@ -260,7 +259,7 @@ fn file_statement(
             Ok((FileSaid::Package(package), after))
         }
         Some(FileKind::Message) => {
-            let (message, after) = message(alloc, grammar, ROOM, symbols, at)?;
+            let (message, after) = message(alloc, grammar, ROOM - 1, symbols, at)?;
             Ok((FileSaid::Message(message), after))
         }
         Some(FileKind::Enum) => {
@@ -272,8 +271,8 @@ fn file_statement(
             Ok((FileSaid::Service(service), after))
         }
         Some(FileKind::Extend) => {
-            let (nothing, after) = extend_statement(alloc, grammar, symbols, at)?;
-            Ok((nothing, after))
+            let (groups, after) = extend_statement(alloc, grammar, symbols, at)?;
+            Ok((groups, after))
         }
         None => Err(Refusal::At { at, rule: None }),
     }
@@ -288,6 +287,7 @@ fn is_package(statement: &FileSaid) -> bool
         FileSaid::Nothing
         | FileSaid::Import(_, _)
         | FileSaid::Message(_)
+        | FileSaid::Extend(_)
         | FileSaid::Enum(_)
         | FileSaid::Service(_) => false,
     }

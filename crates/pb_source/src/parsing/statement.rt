@@ -13,15 +13,24 @@ pub(crate) struct MapSaid {
     pub packed: Option<bool>,
 }
 
+/// A field, and where it is a group, its message.
+#[derive(Drop)]
+pub(crate) struct MemberSaid {
+    pub field: FieldDecl,
+    pub group: Option<MessageDecl>,
+}
+
 /// A statement of a message.
 #[derive(Drop)]
 pub(crate) enum MessageSaid {
     /// An option, or `;` alone.
     Nothing,
-    Field(FieldDecl),
+    Field(MemberSaid),
     Map(MapSaid),
-    Oneof(String, Vec<FieldDecl>),
+    Oneof(String, Vec<MemberSaid>),
     Message(MessageDecl),
+    /// The messages of the groups in a block of `extend`.
+    Extend(Vec<MessageDecl>),
     Enum(EnumDecl),
     Ranges(Vec<(i32, i32)>),
     Names(Vec<String>),
@@ -48,6 +57,8 @@ pub(crate) enum FileSaid {
     Import(bool, String),
     Package(String),
     Message(MessageDecl),
+    /// The messages of the groups in a block of `extend`.
+    Extend(Vec<MessageDecl>),
     Enum(EnumDecl),
     Service(ServiceDecl),
 }

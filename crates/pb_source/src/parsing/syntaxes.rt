@@ -1,10 +1,20 @@
 //! What sets the grammars apart.
 
 ghost use Rattle.std.specs.Prelude.{◌≡◌};
-ghost use Rattle.pb_source.specs.Syntaxes.{is_proto2, optional_label};
+ghost use Rattle.pb_source.specs.Syntaxes.{is_lenient, is_proto2, optional_label};
 
 use crate::kind::Label;
 use pb_tokens::grammar::{Grammar, Syntax};
+
+/// Whether the grammar is lenient.
+pub(crate) fn is_lenient(grammar: Grammar) -> bool
+    ensures { result ≡ is_lenient grammar }
+{
+    match grammar {
+        Grammar::Strict => false,
+        Grammar::Lenient(_) => true,
+    }
+}
 
 /// Whether the grammar is that of proto2.
 pub(crate) fn is_proto2(grammar: Grammar) -> bool

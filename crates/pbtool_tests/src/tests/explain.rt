@@ -6,7 +6,7 @@ use std::alloc::Global;
 use std::test::Fail;
 
 /// message M { int32 a = 1; string b = 2; M c = 3; map<string, M> d = 4; repeated fixed32 e = 5; }
-const SOURCE: &str =
+pub(super) const SOURCE: &str =
     "syntax = \"proto3\"; message M { int32 a = 1; string b = 2; M c = 3; map<string, M> d = 4; repeated fixed32 e = 5; }";
 
 /// Sources that are refused, each by another rule.
@@ -36,6 +36,7 @@ const FILES: &[(&str, &str)] = &[
     ),
     ("frames", "\x02\x08\x01\x00\x04\x08\x01\x12\x05"),
     ("none", "\x0a"),
+    ("several", "\x02\x08\x01\x02\x12\x05\x00\x02\x08"),
     ("json", "{\n \"a\": 1,\n \"b\": 2\n}"),
 ];
 
@@ -51,7 +52,8 @@ check --explain s M packed|byte 6 path 5[0] cause PastEnd|  at byte 6 of packed|
 raw --explain zeros|byte 0 path - cause NumberZero|  at byte 0 of zeros|  expected: a field number above 0|  00 00 00 00 00 00 00 00 00 00 00 00 00 00 00 00 00|  ^^
 frames --explain s M frames|frame 2 byte 4 path 2[0] cause PastEnd|  at byte 8 of frames: byte 4 of frame 2, which begins at byte 4|  2[0] b, string: bytes 7 to 13|  expected: a record that ends no later than its parent|  04 08 01 12 05|              ^^
 check --explain none M cut|set byte 1 path 1[0] cause Truncated|  at byte 1 of none|  1[0] file, google.protobuf.FileDescriptorProto: from byte 0 on|  expected: more bytes: the input ends inside a record|  0a|     ^^ the end
-compile --explain ROOT x bad.proto|source bad.proto byte 40 cause BadToken|  line 3 column 10|    string ü = 1;|           ^
+frames --keep-going --explain s M several|frame 1 byte 2 path 2[0] cause PastEnd|frame 3 byte 2 path 1[0] cause Truncated|frames refused 2 of 4|  at byte 5 of several: byte 2 of frame 1, which begins at byte 3|  2[0] b, string: bytes 4 to 10|  expected: a record that ends no later than its parent|  02 12 05 00 02 08|        ^^|  at byte 9 of several: byte 2 of frame 3, which begins at byte 7|  1[0] a, int32: from byte 8 on|  expected: more bytes: the input ends inside a record|  02 08|        ^^ the end
+compile --explain ROOT x bad.proto|source bad.proto byte 40 cause BadToken|  line 3 column 10|    string ü = 1;|           ^|  expected: a word, a number, a string, a sign or a comment
 compile --explain ROOT x alone.proto|link alone.proto at - cause MissingImport|  the import gone.proto is under no folder that was given
 compile --explain ROOT x lost.proto|link lost.proto at p.M.N.g cause NotFound|  looked for the type Gone
 compile --explain ROOT x twice.proto|link twice.proto at M.c cause NumberTaken|  the number is that of b
@@ -61,7 +63,7 @@ from-json --explain s M json x|json byte 17 cause BadValue|  line 3 column 7|   
 "#;
 
 /// The files, and the set of the first source.
-fn files_in(
+pub(super) fn files_in(
     alloc: Global,
     listed: &'static [(&'static str, &'static str)],
     failures: Failures,
@@ -74,7 +76,7 @@ fn files_in(
 }
 
 /// Runs words, with a blank between each two.
-fn run_separate(
+pub(super) fn run_separate(
     alloc: Global,
     words: &str,
     files: &mut MemFiles<'_>,
@@ -97,7 +99,7 @@ fn run_line(alloc: Global, words: &str, failures: Failures) -> Result<Run, Fail>
 }
 
 /// The lines after bars, each with its end.
-fn lines_of(alloc: Global, lines: &str) -> Result<String, Fail> {
+pub(super) fn lines_of(alloc: Global, lines: &str) -> Result<String, Fail> {
     let mut text = String::new(alloc);
     for line in lines.split('|') {
         text.push_str(line)?;
@@ -106,7 +108,7 @@ fn lines_of(alloc: Global, lines: &str) -> Result<String, Fail> {
     Ok(text)
 }
 
-/// Whether nothing is printed, these lines are reported, and without the flag the first of them with the same status.
+/// Whether these lines are reported, which begin with those without the flag, and all else is as without it.
 fn is_explained(alloc: Global, row: &str) -> Result<bool, Fail> {
     let (words, lines) = row.split_once('|').ok_or("no lines")?;
     let reported = lines_of(alloc, lines)?;
@@ -116,7 +118,7 @@ fn is_explained(alloc: Global, row: &str) -> Result<bool, Fail> {
         run.status == plain.status
             && run.err.bytes() == reported.as_bytes()
             && run.out.bytes() == plain.out.bytes()
-            && first_line(run.err.bytes()) == plain.err.bytes(),
+            && reported.as_bytes().starts_with(plain.err.bytes()),
     )
 }
 
@@ -126,14 +128,6 @@ fn without_flag(alloc: Global, words: &str) -> Result<String, Fail> {
     let mut plain = String::from_str(alloc, before)?;
     plain.push_str(after)?;
     Ok(plain)
-}
-
-/// The bytes up to the first line feed, and it.
-fn first_line(bytes: &[u8]) -> &[u8] {
-    match bytes.iter().position(|byte| *byte == b'\n') {
-        Some(end) => &bytes[..end + 1],
-        None => bytes,
-    }
 }
 
 #[test]

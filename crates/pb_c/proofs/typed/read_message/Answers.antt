@@ -2,7 +2,7 @@
 use Rattle.std.proofs.Common.{◌≡◌, subst, sym}
 use Rattle.pb_value.specs.Derives.{Text}
 use Rattle.pb_decode.specs.Push.{IsFaultOf}
-use Rattle.pb_c.specs.Told.{Tells}
+use Rattle.pb_c.specs.Reporting.{Tells}
 use Rattle.pb_c.proofs.Refusals.{of_bytes, the_fault_of}
 use Rattle.pb_c.proofs.typed.read_message.Goals as goal
 

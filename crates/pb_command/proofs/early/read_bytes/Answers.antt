@@ -1,7 +1,8 @@
 use Rattle.std.proofs.Common.{◌+◌, ℕ, arith}
 use Rattle.std.proofs.KnownBytes.{Consumes-nil}
 use Rattle.std.proofs.lemmas.Result.{err_from_is_err_and}
-use Rattle.pb_command.proofs.EarlySteps.{all_read, early_judges}
+use Rattle.pb_files.proofs.FirstPieces.{all_read}
+use Rattle.pb_command.proofs.EarlySteps.{early_judges}
 use Rattle.pb_command.proofs.early.read_bytes.Goals as goal
 
 pub returns-then-len-first-clause-read : goal.returns-then-len-first-clause-read

@@ -3,16 +3,15 @@ use Rattle.pb_command.proofs.form.write_json_line.Goals as goal
 
 pub returns-in-Err : goal.returns-in-Err
 returns-in-Err g c =
-    unwritten g.O.Output.written g.O.Output.failures c.args.out.now c.args.layout c.args.message.now c.write_json.new.out c.in-Err.error
-    (rw c.view.ensures at c.in-Err.ensures.failed)
+    let failed = c.in-Err.ensures.failed in
+    unwritten g.O.Output.written g.O.Output.failures c.args.out.now c.args.layout c.args.message.now c.put_json_line.new.out c.in-Err.error failed.0 failed.1
 
 pub returns-in-Ok : goal.returns-in-Ok
 returns-in-Ok g c =
-    line_sent g.O.Output.written g.O.Output.failures c.args.out.now c.args.layout c.args.message.now c.write_json.new.out c.write_all.new.output
-    (rw c.view.ensures at c.in_default.ensures.judged) (rw c.view.ensures at c.in_default.ensures.written) (c.in-Ok.ensures.kept, c.in-Ok.ensures.ok)
+    line_sent g.O.Output.written g.O.Output.failures c.args.out.now c.args.layout c.args.message.now c.put_json_line.new.out c.finish.new.out c.new-sink.ensures
+    c.in_default.ensures.put c.in-Ok.ensures
 
-pub returns-in-Err-write_all : goal.returns-in-Err-write_all
-returns-in-Err-write_all g c =
-    line_cut g.O.Output.written g.O.Output.failures c.args.out.now c.args.layout c.args.message.now c.write_json.new.out c.write_all.new.output
-    (rw c.view.ensures at c.in_default.ensures.judged) (rw c.view.ensures at c.in_default.ensures.written)
-    (c.in-Err-write_all.ensures.failed, (c.in-Err-write_all.field-0.written, c.in-Err-write_all.ensures.part.1))
+pub returns-in-Err-finish : goal.returns-in-Err-finish
+returns-in-Err-finish g c =
+    line_cut g.O.Output.written g.O.Output.failures c.args.out.now c.args.layout c.args.message.now c.put_json_line.new.out c.finish.new.out c.new-sink.ensures
+    c.in_default.ensures.put c.in-Err-finish.field-0 c.in-Err-finish.ensures

@@ -1,9 +1,5 @@
-use Rattle.std.proofs.Common.{◌≡◌, ◌++◌, append_assoc, codes, decimal, refl}
-use Rattle.pb_output.proofs.SinkLemmas.{puts_held, puts_then}
+use Rattle.pb_output.proofs.SinkLemmas.{puts_then}
 use Rattle.pb_files.proofs.report.put_frame_fault.Goals as goal
 
 pub returns : goal.returns
-returns g c =
-    let held : c.push-2.new.self ≡ c.make_room.new.self.held ++ (codes "frame " ++ decimal c.args.index ++ codes " ") =
-    rw (c.push-2.ensures.after, c.push_decimal.ensures.after, c.push.ensures.after) (simp append_assoc) in
-    puts_then (puts_then c.make_room.ensures.kept (puts_held refl refl held)) c.put_fault.ensures
+returns g c = puts_then c.put_frame_index.ensures c.put_fault.ensures

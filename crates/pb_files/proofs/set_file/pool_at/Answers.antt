@@ -1,21 +1,15 @@
-use Rattle.std.proofs.Common.{◌≡◌, ◌+◌, ℕ, List, Option, None, Some, refl}
+use Rattle.std.proofs.Common.{◌+◌, ℕ, List, Option, Some}
 use Rattle.std.proofs.lemmas.Result.{err_from_is_err_and}
 use Rattle.pb_wire.specs.Limits.{full}
-use Rattle.pb_files.specs.Answer.{device_failed}
 use Rattle.pb_files.specs.Known.{IsReadOf}
-use Rattle.pb_files.specs.SetFile.{NoPool, no_file}
+use Rattle.pb_files.specs.SetFile.{NoPool}
 use Rattle.pb_files.proofs.RefusalLemmas.{refuses_map}
 use Rattle.pb_files.proofs.set_file.pool_at.Goals as goal
 
 pub returns-in_err-set-clause-refused : goal.returns-in_err-set-clause-refused
 returns-in_err-set-clause-refused g c =
     let p = err_from_is_err_and c.from_residual.result c.from_residual.ensures.1 in
-    let path = c.args.path.now in
-    let IsRead : Option (List ℕ) → Type 0 = IsReadOf g.F.Files.contents g.F.Files.is_steady c.args.files.now (full.bytes + 1) path in
-    rw (p.1, p.2)
-    (refuses_map (λ a. IsRead None × (a ≡ device_failed path))
-    (λ a. (content : Option (List ℕ)) × IsRead content × NoPool c.args.reading path content a) c.in_err-set.field-0.0
-    (λ a h. (None, h.0, no_file refl h.1)) c.in_err-set.ensures.refused)
+    rw (p.1, p.2) (c.in_err-set.ensures.refused c.args.reading)
 
 pub returns-in_err-linked-clause-refused : goal.returns-in_err-linked-clause-refused
 returns-in_err-linked-clause-refused g c =

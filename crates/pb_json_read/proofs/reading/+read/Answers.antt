@@ -14,7 +14,7 @@ use Rattle.pb_value.proofs.Views.{content_view-One, content_view-List, content_v
 use Rattle.pb_json_read.specs.Answers.{Changes, named, parts_view}
 use Rattle.pb_json_read.specs.Steps.{Made, Parts, with_number, with_oneof, with_entry, with_held, is_absent, ReadsScalar, ReadsHeld}
 use Rattle.pb_json_read.specs.Reads.{ReadsMemberUnder, ReadsMemberEntry, ReadsElements, ReadsEntries, ReadsMembers, ReadsMember, ReadsMemberHeld, ReadsContent, ReadsValue, ReadsMessage}
-use Rattle.pb_json.specs.declared.well_known.WellKnown.TheVariants.{Other, Wrapper, Struct, ListValue, Value, Timestamp, Duration, FieldMask, Unsupported}
+use Rattle.pb_json.specs.declared.well_known.WellKnown.TheVariants.{Other, Wrapper, Struct, ListValue, Value, Timestamp, Duration, FieldMask, Any}
 use Rattle.pb_json_read.specs.Answers.{Answers}
 use Rattle.pb_json_read.specs.Steps.{ReadsOf, nothing}
 use Rattle.pb_json_read.specs.Forms.{ReadsAlone, Where}
@@ -140,9 +140,9 @@ pub read_message-returns-in-FieldMask : goal.read_message-returns-in-FieldMask
 read_message-returns-in-FieldMask t c =
     form_answers c.args.context.now.pool.now c.args.context.now.rules c.args.id.0 c.args.value.now.at (form_view c.args.value.now.form) FieldMask (sym c.well_known.ensures ∙ c.in-FieldMask.is) _ c.read_field_mask.ensures
 
-pub read_message-returns-in-Unsupported : goal.read_message-returns-in-Unsupported
-read_message-returns-in-Unsupported t c =
-    form_answers c.args.context.now.pool.now c.args.context.now.rules c.args.id.0 c.args.value.now.at (form_view c.args.value.now.form) Unsupported (sym c.well_known.ensures ∙ c.in-Unsupported.is) (Err c.bad_value.result)
+pub read_message-returns-in-Any : goal.read_message-returns-in-Any
+read_message-returns-in-Any t c =
+    form_answers c.args.context.now.pool.now c.args.context.now.rules c.args.id.0 c.args.value.now.at (form_view c.args.value.now.form) Any (sym c.well_known.ensures ∙ c.in-Any.is) (Err c.bad_value.result)
     (none_answers body_view c.args.value.now.at _ c.bad_value.ensures)
 
 pub read_list-returns-in-Array : goal.read_list-returns-in-Array

@@ -1,6 +1,6 @@
 -- What the bytes make of the message is what was decoded onto it, and their fault is the one that is reported, or memory ran out.
 use Rattle.std.proofs.Common.{◌≡◌, inl, inr, refl}
-use Rattle.pb_c.specs.Told.{Tells}
+use Rattle.pb_c.specs.Reporting.{Tells}
 use Rattle.pb_c.proofs.Making.{the_message}
 use Rattle.pb_c.proofs.Refusals.{of_bytes, the_fault_of}
 use Rattle.pb_c.proofs.message.merge.onto_copy.Goals as goal

@@ -2,7 +2,7 @@
 use Rattle.std.proofs.Common.{◌≡◌, List, ℕ, subst, sym}
 use Rattle.pb_listing.specs.ListingAs.{IsListing}
 use Rattle.pb_listing.specs.declared.form.FloatForm.TheVariants.{Decimal}
-use Rattle.pb_c.specs.Told.{IsLaid}
+use Rattle.pb_c.specs.Reporting.{IsLaid}
 use Rattle.pb_c.proofs.message.show_decimal.write_decimal.Goals as goal
 
 pub returns-in-Ok-clause-written : goal.returns-in-Ok-clause-written

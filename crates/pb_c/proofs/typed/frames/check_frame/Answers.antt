@@ -21,8 +21,8 @@ returns-in-Some-find_frame-clause-refused c within f none =
     (no_fault c.args.pool.now c.in-Some.message_type.0 c.args.limits c.args.bytes.now c.in-Some-find_frame.found c.in-Some-find_frame.ensures.framed f
     (subst (λ m. IsNoFrame c.args.pool.now m c.args.limits c.args.bytes.now f) (sym c.in-Some.ensures.found.0) none))
 
-pub tell_no_frame-requires-clause-no_frame : goal.tell_no_frame-requires-clause-no_frame
-tell_no_frame-requires-clause-no_frame c r framed = let some = c.find_frame.ensures.found r framed in absurd cc
+pub tell_no_frame-answer-requires-clause-no_frame : goal.tell_no_frame-answer-requires-clause-no_frame
+tell_no_frame-answer-requires-clause-no_frame c r framed = let some = c.find_frame.ensures.found r framed in absurd cc
 
 pub returns-clause-accepted : goal.returns-clause-accepted
 returns-clause-accepted c within r framed =
@@ -31,8 +31,8 @@ returns-clause-accepted c within r framed =
 
 pub returns-clause-parted : goal.returns-clause-parted
 returns-clause-parted c within part =
-    c.tell_no_frame.ensures.parted (subst (λ m. IsPart c.args.pool.now m c.args.limits c.args.bytes.now) (sym c.in-Some.ensures.found.0) part)
+    c.tell_no_frame-answer.ensures.parted (subst (λ m. IsPart c.args.pool.now m c.args.limits c.args.bytes.now) (sym c.in-Some.ensures.found.0) part)
 
 pub returns-clause-refused : goal.returns-clause-refused
 returns-clause-refused c within f none =
-    c.tell_no_frame.ensures.refused f (subst (λ m. IsNoFrame c.args.pool.now m c.args.limits c.args.bytes.now f) (sym c.in-Some.ensures.found.0) none)
+    c.tell_no_frame-answer.ensures.refused f (subst (λ m. IsNoFrame c.args.pool.now m c.args.limits c.args.bytes.now f) (sym c.in-Some.ensures.found.0) none)

@@ -1,6 +1,6 @@
 use Rattle.std.proofs.Common.{inl, inr, subst}
 use Rattle.pb_listing.specs.Listing.{listing}
-use Rattle.pb_c.specs.Told.{IsLaid}
+use Rattle.pb_c.specs.Reporting.{IsLaid}
 use Rattle.pb_c.proofs.Making.{the_message}
 use Rattle.pb_c.proofs.typed.show.show_message.Goals as goal
 

@@ -16,51 +16,51 @@ use Rattle.pb_decode.proofs.reader.whole_payload.take_entry.Goals as goal
 pub read_records-requires-clause-can : goal.read_records-requires-clause-can
 read_records-requires-clause-can c =
     let is = ap length (slice_from c.in-Some.start c.args.bytes.now) ∙ length-drop c.in-Some.start c.args.bytes.now in
-    let small = c.requires.reading.small in
+    let small = c.requires.at_tag.reading.small in
     let s = state_view c.args.reader.now in
-    let has = subst (λ (z : ℕ). HasTag (here s c.args.bytes.now) c.args.tag.number z (passed (here s c.args.bytes.now) c.args.tag.size)) c.requires.bytes c.requires.tag in
-    let l = length_here s c.args.bytes.now c.args.tag.number c.args.tag.wire_type c.args.tag.size c.in-Some.start c.in-Some.size c.left.ensures c.in-Some.ensures.whole c.requires.tag in
+    let has = subst (λ (z : ℕ). HasTag (here s c.args.bytes.now) c.args.tag.number z (passed (here s c.args.bytes.now) c.args.tag.size)) c.requires.bytes c.requires.at_tag.there in
+    let l = length_here s c.args.bytes.now c.args.tag.number c.args.tag.wire_type c.args.tag.size c.in-Some.start c.in-Some.size c.left.ensures c.in-Some.ensures.whole c.requires.at_tag.there in
     let level = c.if-reader-eq0.false in
     record {
-      rules = c.requires.rules;
-      is_open = entry_in_reader s c.args.bytes.now c.args.tag.number c.args.tag.size c.in-Some.start c.in-Some.size c.args.key_kind c.args.value_kind c.requires.rules c.requires.reading c.requires.step has l c.requires.means (omega (arith, level));
+      rules = c.requires.at_tag.rules;
+      is_open = entry_in_reader s c.args.bytes.now c.args.tag.number c.args.tag.size c.in-Some.start c.in-Some.size c.args.key_kind c.args.value_kind c.requires.at_tag.rules c.requires.at_tag.reading c.requires.at_tag.step has l c.requires.means (omega (arith, level));
       small = omega (arith, is, small);
     }
 
 pub close_entry-requires-clause-key : goal.close_entry-requires-clause-key
 close_entry-requires-clause-key c =
     let s = state_view c.args.reader.now in
-    let has = subst (λ (z : ℕ). HasTag (here s c.args.bytes.now) c.args.tag.number z (passed (here s c.args.bytes.now) c.args.tag.size)) c.requires.bytes c.requires.tag in
-    let l = length_here s c.args.bytes.now c.args.tag.number c.args.tag.wire_type c.args.tag.size c.in-Some.start c.in-Some.size c.left.ensures c.in-Some.ensures.whole c.requires.tag in
+    let has = subst (λ (z : ℕ). HasTag (here s c.args.bytes.now) c.args.tag.number z (passed (here s c.args.bytes.now) c.args.tag.size)) c.requires.bytes c.requires.at_tag.there in
+    let l = length_here s c.args.bytes.now c.args.tag.number c.args.tag.wire_type c.args.tag.size c.in-Some.start c.in-Some.size c.left.ensures c.in-Some.ensures.whole c.requires.at_tag.there in
     let level = c.if-reader-eq0.false in
-    let read = entry_inside s.at (left_of s) c.args.bytes.now c.args.tag.number c.args.tag.size c.in-Some.start c.in-Some.size s.scope.room c.args.key_kind c.args.value_kind c.requires.rules (s.scope, tag_stands s c.args.bytes.now c.requires.reading.reads c.requires.step, refl) has l c.requires.means (omega (arith, level)) c.in-Ok.ensures (ap part_view c.in-Entry.is) in
-    can_hold c.requires.rules (entry_part c.in-Entry.key_kind c.in-Entry.value_kind (option_map key_view c.in-Entry.key) (option_map value_view c.in-Entry.value)) read.1
+    let read = entry_inside s.at (left_of s) c.args.bytes.now c.args.tag.number c.args.tag.size c.in-Some.start c.in-Some.size s.scope.room c.args.key_kind c.args.value_kind c.requires.at_tag.rules (s.scope, tag_stands s c.args.bytes.now c.requires.at_tag.reading.reads c.requires.at_tag.step, refl) has l c.requires.means (omega (arith, level)) c.in-Ok.ensures (ap part_view c.in-Entry.is) in
+    can_hold c.requires.at_tag.rules (entry_part c.in-Entry.key_kind c.in-Entry.value_kind (option_map key_view c.in-Entry.key) (option_map value_view c.in-Entry.value)) read.1
 
 pub close_entry-requires-clause-fits : goal.close_entry-requires-clause-fits
 close_entry-requires-clause-fits c =
     let s = state_view c.args.reader.now in
-    let has = subst (λ (z : ℕ). HasTag (here s c.args.bytes.now) c.args.tag.number z (passed (here s c.args.bytes.now) c.args.tag.size)) c.requires.bytes c.requires.tag in
-    let l = length_here s c.args.bytes.now c.args.tag.number c.args.tag.wire_type c.args.tag.size c.in-Some.start c.in-Some.size c.left.ensures c.in-Some.ensures.whole c.requires.tag in
+    let has = subst (λ (z : ℕ). HasTag (here s c.args.bytes.now) c.args.tag.number z (passed (here s c.args.bytes.now) c.args.tag.size)) c.requires.bytes c.requires.at_tag.there in
+    let l = length_here s c.args.bytes.now c.args.tag.number c.args.tag.wire_type c.args.tag.size c.in-Some.start c.in-Some.size c.left.ensures c.in-Some.ensures.whole c.requires.at_tag.there in
     let level = c.if-reader-eq0.false in
-    let read = entry_inside s.at (left_of s) c.args.bytes.now c.args.tag.number c.args.tag.size c.in-Some.start c.in-Some.size s.scope.room c.args.key_kind c.args.value_kind c.requires.rules (s.scope, tag_stands s c.args.bytes.now c.requires.reading.reads c.requires.step, refl) has l c.requires.means (omega (arith, level)) c.in-Ok.ensures (ap part_view c.in-Entry.is) in
-    entry_has_room c.requires.rules c.in-Entry.key_kind c.in-Entry.value_kind (option_map key_view c.in-Entry.key) (option_map value_view c.in-Entry.value) read.1
+    let read = entry_inside s.at (left_of s) c.args.bytes.now c.args.tag.number c.args.tag.size c.in-Some.start c.in-Some.size s.scope.room c.args.key_kind c.args.value_kind c.requires.at_tag.rules (s.scope, tag_stands s c.args.bytes.now c.requires.at_tag.reading.reads c.requires.at_tag.step, refl) has l c.requires.means (omega (arith, level)) c.in-Ok.ensures (ap part_view c.in-Entry.is) in
+    entry_has_room c.requires.at_tag.rules c.in-Entry.key_kind c.in-Entry.value_kind (option_map key_view c.in-Entry.key) (option_map value_view c.in-Entry.value) read.1
 
 pub close_entry-requires-clause-few : goal.close_entry-requires-clause-few
 close_entry-requires-clause-few c =
-    let few = tag_few (state_view c.args.reader.now) c.args.bytes.now c.args.tag.number c.requires.reading.reads c.requires.step in
-    let small = c.requires.reading.small in
+    let few = tag_few (state_view c.args.reader.now) c.args.bytes.now c.args.tag.number c.requires.at_tag.reading.reads c.requires.at_tag.step in
+    let small = c.requires.at_tag.reading.small in
     omega (arith, few, small)
 
 pub returns-in_ok-close_entry-in-Entry-clause-taken : goal.returns-in_ok-close_entry-in-Entry-clause-taken
 returns-in_ok-close_entry-in-Entry-clause-taken c =
     λ m depth levels base p0 begun.
     let s = state_view c.args.reader.now in
-    let has = subst (λ (z : ℕ). HasTag (here s c.args.bytes.now) c.args.tag.number z (passed (here s c.args.bytes.now) c.args.tag.size)) c.requires.bytes c.requires.tag in
-    let l = length_here s c.args.bytes.now c.args.tag.number c.args.tag.wire_type c.args.tag.size c.in-Some.start c.in-Some.size c.left.ensures c.in-Some.ensures.whole c.requires.tag in
+    let has = subst (λ (z : ℕ). HasTag (here s c.args.bytes.now) c.args.tag.number z (passed (here s c.args.bytes.now) c.args.tag.size)) c.requires.bytes c.requires.at_tag.there in
+    let l = length_here s c.args.bytes.now c.args.tag.number c.args.tag.wire_type c.args.tag.size c.in-Some.start c.in-Some.size c.left.ensures c.in-Some.ensures.whole c.requires.at_tag.there in
     let level = c.if-reader-eq0.false in
-    let read = entry_inside s.at (left_of s) c.args.bytes.now c.args.tag.number c.args.tag.size c.in-Some.start c.in-Some.size s.scope.room c.args.key_kind c.args.value_kind c.requires.rules (s.scope, tag_stands s c.args.bytes.now begun c.requires.step, refl) has l c.requires.means (omega (arith, level)) c.in-Ok.ensures (ap part_view c.in-Entry.is) in
+    let read = entry_inside s.at (left_of s) c.args.bytes.now c.args.tag.number c.args.tag.size c.in-Some.start c.in-Some.size s.scope.room c.args.key_kind c.args.value_kind c.requires.at_tag.rules (s.scope, tag_stands s c.args.bytes.now begun c.requires.at_tag.step, refl) has l c.requires.means (omega (arith, level)) c.in-Ok.ensures (ap part_view c.in-Entry.is) in
     let q = passed (given_at (c.args.reader.now.at + c.in-Some.start) (Some c.in-Some.size) (take (length c.args.bytes.now - c.in-Some.start) (drop c.in-Some.start c.args.bytes.now))) c.in-Some.size in
     inner_passed s
     (record { at = c.args.reader.now.at + (c.in-Some.start + c.in-Some.size); now = part_view c.close_entry.new.outer; scope = scope_view c.close_entry.new.scope; frames = frames_view c.args.reader.now.frames.items; next = c.args.reader.now.step })
-    c.args.bytes.now c.in-Some.start c.in-Some.size refl c.requires.step c.in_ok-close_entry-in-Entry.ensures.same_end
+    c.args.bytes.now c.in-Some.start c.in-Some.size refl c.requires.at_tag.step c.in_ok-close_entry-in-Entry.ensures.same_end
     (c.in_ok-close_entry-in-Entry.ensures.stands c.args.whole.now.pool.now m depth levels base p0 q (frames_view c.args.reader.now.frames.items) read.0 read.1 (none_left c.in-Some.size))

@@ -13,36 +13,36 @@ use Rattle.pb_decode.proofs.reader.whole_payload.take_message.Goals as goal
 pub read_records-requires-clause-can : goal.read_records-requires-clause-can
 read_records-requires-clause-can c =
     let is = ap length (slice_from c.in-Some.start c.args.bytes.now) ∙ length-drop c.in-Some.start c.args.bytes.now in
-    let small = c.requires.reading.small in
+    let small = c.requires.at_tag.reading.small in
     let s = state_view c.args.reader.now in
-    let has = subst (λ (z : ℕ). HasTag (here s c.args.bytes.now) c.args.tag.number z (passed (here s c.args.bytes.now) c.args.tag.size)) c.requires.bytes c.requires.tag in
-    let l = length_here s c.args.bytes.now c.args.tag.number c.args.tag.wire_type c.args.tag.size c.in-Some.start c.in-Some.size c.left.ensures c.in-Some.ensures.whole c.requires.tag in
+    let has = subst (λ (z : ℕ). HasTag (here s c.args.bytes.now) c.args.tag.number z (passed (here s c.args.bytes.now) c.args.tag.size)) c.requires.bytes c.requires.at_tag.there in
+    let l = length_here s c.args.bytes.now c.args.tag.number c.args.tag.wire_type c.args.tag.size c.in-Some.start c.in-Some.size c.left.ensures c.in-Some.ensures.whole c.requires.at_tag.there in
     let free = c.if-not-is_free.ensures refl in
     record {
-      rules = c.requires.rules;
-      is_open = message_in_reader s c.args.bytes.now c.args.tag.number c.args.tag.size c.in-Some.start c.in-Some.size c.room_in.result c.args.message_type c.args.slot s.now (body_view c.empty_body.result) c.requires.rules c.requires.reading c.room_in.ensures c.requires.step has l c.requires.means (c.if-not-has_room.ensures.room refl) (sym free.1) (c.empty_body.ensures ∙ sym free.0);
+      rules = c.requires.at_tag.rules;
+      is_open = message_in_reader s c.args.bytes.now c.args.tag.number c.args.tag.size c.in-Some.start c.in-Some.size c.room_in.result c.args.message_type c.args.slot s.now (body_view c.empty_body.result) c.requires.at_tag.rules c.requires.at_tag.reading c.room_in.ensures c.requires.at_tag.step has l c.requires.means (c.if-not-has_room.ensures.room refl) (sym free.1) (c.empty_body.ensures ∙ sym free.0);
       small = omega (arith, is, small);
     }
 
 pub close_message-requires-clause-can : goal.close_message-requires-clause-can
-close_message-requires-clause-can c = tag_can (state_view c.args.reader.now) c.args.bytes.now c.requires.rules c.requires.reading.reads c.requires.step
+close_message-requires-clause-can c = tag_can (state_view c.args.reader.now) c.args.bytes.now c.requires.at_tag.rules c.requires.at_tag.reading.reads c.requires.at_tag.step
 
 pub close_message-requires-clause-few : goal.close_message-requires-clause-few
 close_message-requires-clause-few c =
-    let few = tag_few (state_view c.args.reader.now) c.args.bytes.now c.args.tag.number c.requires.reading.reads c.requires.step in
-    let small = c.requires.reading.small in
+    let few = tag_few (state_view c.args.reader.now) c.args.bytes.now c.args.tag.number c.requires.at_tag.reading.reads c.requires.at_tag.step in
+    let small = c.requires.at_tag.reading.small in
     omega (arith, few, small)
 
 pub returns-in_ok-close_message-in-Message-clause-taken : goal.returns-in_ok-close_message-in-Message-clause-taken
 returns-in_ok-close_message-in-Message-clause-taken c =
     λ m depth levels base p0 begun.
     let s = state_view c.args.reader.now in
-    let has = subst (λ (z : ℕ). HasTag (here s c.args.bytes.now) c.args.tag.number z (passed (here s c.args.bytes.now) c.args.tag.size)) c.requires.bytes c.requires.tag in
-    let l = length_here s c.args.bytes.now c.args.tag.number c.args.tag.wire_type c.args.tag.size c.in-Some.start c.in-Some.size c.left.ensures c.in-Some.ensures.whole c.requires.tag in
+    let has = subst (λ (z : ℕ). HasTag (here s c.args.bytes.now) c.args.tag.number z (passed (here s c.args.bytes.now) c.args.tag.size)) c.requires.bytes c.requires.at_tag.there in
+    let l = length_here s c.args.bytes.now c.args.tag.number c.args.tag.wire_type c.args.tag.size c.in-Some.start c.in-Some.size c.left.ensures c.in-Some.ensures.whole c.requires.at_tag.there in
     let free = c.if-not-is_free.ensures refl in
-    let read = message_inside s.at (left_of s) c.args.bytes.now c.args.tag.number c.args.tag.size c.in-Some.start c.in-Some.size s.scope.room c.room_in.result c.args.message_type c.args.slot s.now (body_view c.empty_body.result) c.requires.rules (s.scope, tag_stands s c.args.bytes.now begun c.requires.step, refl) c.room_in.ensures has l c.requires.means (c.if-not-has_room.ensures.room refl) (sym free.1) (c.empty_body.ensures ∙ sym free.0) c.in-Ok.ensures (ap part_view c.in-Message.is) in
+    let read = message_inside s.at (left_of s) c.args.bytes.now c.args.tag.number c.args.tag.size c.in-Some.start c.in-Some.size s.scope.room c.room_in.result c.args.message_type c.args.slot s.now (body_view c.empty_body.result) c.requires.at_tag.rules (s.scope, tag_stands s c.args.bytes.now begun c.requires.at_tag.step, refl) c.room_in.ensures has l c.requires.means (c.if-not-has_room.ensures.room refl) (sym free.1) (c.empty_body.ensures ∙ sym free.0) c.in-Ok.ensures (ap part_view c.in-Message.is) in
     let q = passed (given_at (c.args.reader.now.at + c.in-Some.start) (Some c.in-Some.size) (take (length c.args.bytes.now - c.in-Some.start) (drop c.in-Some.start c.args.bytes.now))) c.in-Some.size in
     inner_passed s
     (record { at = c.args.reader.now.at + (c.in-Some.start + c.in-Some.size); now = part_view c.close_message.new.outer; scope = scope_view c.close_message.new.scope; frames = frames_view c.args.reader.now.frames.items; next = c.args.reader.now.step })
-    c.args.bytes.now c.in-Some.start c.in-Some.size refl c.requires.step c.in_ok-close_message-in-Message.ensures.same_end
+    c.args.bytes.now c.in-Some.start c.in-Some.size refl c.requires.at_tag.step c.in_ok-close_message-in-Message.ensures.same_end
     (c.in_ok-close_message-in-Message.ensures.stands m depth levels c.in-Message._kind.0 base p0 q (frames_view c.args.reader.now.frames.items) read.0 read.1 (none_left c.in-Some.size))

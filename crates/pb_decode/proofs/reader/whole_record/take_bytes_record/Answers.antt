@@ -12,27 +12,27 @@ use Rattle.pb_decode.proofs.WholeRecords.{tag_stands, tag_can, tag_few, length_h
 use Rattle.pb_decode.proofs.reader.whole_record.take_bytes_record.Goals as goal
 
 pub put_payload-requires-clause-can : goal.put_payload-requires-clause-can
-put_payload-requires-clause-can c = tag_can (state_view c.args.reader.now) c.args.bytes.now c.requires.rules c.requires.reading.reads c.requires.step
+put_payload-requires-clause-can c = tag_can (state_view c.args.reader.now) c.args.bytes.now c.requires.at_tag.rules c.requires.at_tag.reading.reads c.requires.at_tag.step
 
 pub count_one-requires : goal.count_one-requires
 count_one-requires c =
-    let few = tag_few (state_view c.args.reader.now) c.args.bytes.now c.args.tag.number c.requires.reading.reads c.requires.step in
-    let small = c.requires.reading.small in
+    let few = tag_few (state_view c.args.reader.now) c.args.bytes.now c.args.tag.number c.requires.at_tag.reading.reads c.requires.at_tag.step in
+    let small = c.requires.at_tag.reading.small in
     omega (arith, few, small)
 
 pub returns-in_ok-count_one-in-Ok-clause-taken : goal.returns-in_ok-count_one-in-Ok-clause-taken
 returns-in_ok-count_one-in-Ok-clause-taken c =
     λ m depth levels base p0 begun.
     let p = here (state_view c.args.reader.now) c.args.bytes.now in
-    let has = subst (λ (z : ℕ). HasTag (here (state_view c.args.reader.now) c.args.bytes.now) c.args.tag.number z (passed (here (state_view c.args.reader.now) c.args.bytes.now) c.args.tag.size)) c.requires.bytes c.requires.tag in
+    let has = subst (λ (z : ℕ). HasTag (here (state_view c.args.reader.now) c.args.bytes.now) c.args.tag.number z (passed (here (state_view c.args.reader.now) c.args.bytes.now) c.args.tag.size)) c.requires.bytes c.requires.at_tag.there in
     let l =
-    length_here (state_view c.args.reader.now) c.args.bytes.now c.args.tag.number c.args.tag.wire_type c.args.tag.size c.in-Some.start c.in-Some.size c.left.ensures c.in-Some.ensures.whole c.requires.tag in
+    length_here (state_view c.args.reader.now) c.args.bytes.now c.args.tag.number c.args.tag.wire_type c.args.tag.size c.in-Some.start c.in-Some.size c.left.ensures c.in-Some.ensures.whole c.requires.at_tag.there in
     let within = c.in-Some.ensures.within.1 in
-    let next = bytes_next c.args.tag.number c.in-Some.size c.args.purpose (tag_stands (state_view c.args.reader.now) c.args.bytes.now begun c.requires.step) has c.requires.means c.requires.purpose l in
+    let next = bytes_next c.args.tag.number c.in-Some.size c.args.purpose (tag_stands (state_view c.args.reader.now) c.args.bytes.now begun c.requires.at_tag.step) has c.requires.means c.requires.purpose l in
     let size = slice_size c.in-Some.start c.in-Some.size c.args.bytes.now within in
     stands_reads (state_view c.args.reader.now)
     (record { at = c.args.reader.now.at + (c.in-Some.start + c.in-Some.size); now = part_view c.put_payload.new.part; scope = scope_view c.count_one.new.scope; frames = frames_view c.args.reader.now.frames.items; next = c.args.reader.now.step })
-    (c.in-Some.start + c.in-Some.size) c.args.bytes.now refl c.in_ok-count_one-in-Ok.ensures.same_end c.requires.step
+    (c.in-Some.start + c.in-Some.size) c.args.bytes.now refl c.in_ok-count_one-in-Ok.ensures.same_end c.requires.at_tag.step
     (subst (λ (z : Scope). Stands c.args.pool.now m depth levels base p0 (frames_view c.args.reader.now.frames.items) (part_view c.put_payload.new.part) z (passed p (c.in-Some.start + c.in-Some.size))) (sym c.in_ok-count_one-in-Ok.ensures.more)
     (c.in-Ok.ensures.stands m depth levels c.in-Some.size base p0 (passed p c.in-Some.start) (passed p (c.in-Some.start + c.in-Some.size)) (frames_view c.args.reader.now.frames.items) (scope_view c.args.reader.now.scope) next size
     (payload_leads p c.in-Some.start c.in-Some.size (passed p c.args.tag.size) within l)))

@@ -17,4 +17,4 @@ returns-in_ok-leave_group-in-Ok-clause-taken c =
     let inner : innermost_group (frames_view c.args.reader.now.frames.items) ≡ Some c.args.tag.number =
     ap (λ (z : List Frame). innermost_group (frames_view z)) (sym c.deref.ensures.value) ∙ sym c.innermost.ensures ∙ ends in
     c.in_ok-leave_group-in-Ok.ensures.reads m depth levels c.args.tag.number base p0 c.args.bytes.now begun inner
-    (subst (λ (z : ℕ). HasTag (here (state_view c.args.reader.now) c.args.bytes.now) c.args.tag.number z (passed (here (state_view c.args.reader.now) c.args.bytes.now) c.args.tag.size)) c.requires.end c.requires.tag)
+    (subst (λ (z : ℕ). HasTag (here (state_view c.args.reader.now) c.args.bytes.now) c.args.tag.number z (passed (here (state_view c.args.reader.now) c.args.bytes.now) c.args.tag.size)) c.requires.end c.requires.at_tag.there)

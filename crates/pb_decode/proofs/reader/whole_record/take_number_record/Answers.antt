@@ -15,15 +15,15 @@ use Rattle.pb_decode.proofs.WholeRecords.{tag_stands, tag_can, tag_few}
 use Rattle.pb_decode.proofs.reader.whole_record.take_number_record.Goals as goal
 
 pub purpose_of-purpose-requires : goal.purpose_of-purpose-requires
-purpose_of-purpose-requires c = tag_can (state_view c.args.reader.now) c.args.bytes.now c.requires.rules c.requires.reading.reads c.requires.step
+purpose_of-purpose-requires c = tag_can (state_view c.args.reader.now) c.args.bytes.now c.requires.at_tag.rules c.requires.at_tag.reading.reads c.requires.at_tag.step
 
 pub put_number-requires-clause-can : goal.put_number-requires-clause-can
-put_number-requires-clause-can c = tag_can (state_view c.args.reader.now) c.args.bytes.now c.requires.rules c.requires.reading.reads c.requires.step
+put_number-requires-clause-can c = tag_can (state_view c.args.reader.now) c.args.bytes.now c.requires.at_tag.rules c.requires.at_tag.reading.reads c.requires.at_tag.step
 
 pub count_one-requires : goal.count_one-requires
 count_one-requires c =
-    let few = tag_few (state_view c.args.reader.now) c.args.bytes.now c.args.tag.number c.requires.reading.reads c.requires.step in
-    let small = c.requires.reading.small in
+    let few = tag_few (state_view c.args.reader.now) c.args.bytes.now c.args.tag.number c.requires.at_tag.reading.reads c.requires.at_tag.step in
+    let small = c.requires.at_tag.reading.small in
     omega (arith, few, small)
 
 pub returns-in_ok-count_one-in-Whole-clause-taken : goal.returns-in_ok-count_one-in-Whole-clause-taken
@@ -34,12 +34,12 @@ returns-in_ok-count_one-in-Whole-clause-taken c =
     let follows =
     there_behind (λ (p q : Place). Follows p (number_view c.in-Whole.value) q) c.args.reader.now.at (left_of (state_view c.args.reader.now)) c.left_behind-after.result c.args.bytes.now c.args.tag.size c.in-Whole.size behind told.2 in
     let next =
-    number_next c.args.tag.number c.args.tag.wire_type c.purpose_of-purpose.result c.requires.number (tag_stands (state_view c.args.reader.now) c.args.bytes.now begun c.requires.step) c.requires.tag c.purpose_of-purpose.ensures in
+    number_next c.args.tag.number c.args.tag.wire_type c.purpose_of-purpose.result c.requires.number (tag_stands (state_view c.args.reader.now) c.args.bytes.now begun c.requires.at_tag.step) c.requires.at_tag.there c.purpose_of-purpose.ensures in
     let u = passed (here (state_view c.args.reader.now) c.args.bytes.now) c.args.tag.size in
     let w = passed (here (state_view c.args.reader.now) c.args.bytes.now) (c.args.tag.size + c.in-Whole.size) in
     stands_reads (state_view c.args.reader.now)
     (record { at = c.args.reader.now.at + (c.args.tag.size + c.in-Whole.size); now = part_view c.put_number.new.part; scope = scope_view c.count_one.new.scope; frames = frames_view c.args.reader.now.frames.items; next = c.args.reader.now.step })
-    (c.args.tag.size + c.in-Whole.size) c.args.bytes.now refl c.in_ok-count_one-in-Whole.ensures.same_end c.requires.step
+    (c.args.tag.size + c.in-Whole.size) c.args.bytes.now refl c.in_ok-count_one-in-Whole.ensures.same_end c.requires.at_tag.step
     (subst (λ (z : Scope). Stands c.args.pool.now m depth levels base p0 (frames_view c.args.reader.now.frames.items) (part_view c.put_number.new.part) z w) (sym c.in_ok-count_one-in-Whole.ensures.more)
     (c.in_ok-put_number-in-Whole.ensures m depth levels base p0 u w (frames_view c.args.reader.now.frames.items) (scope_view c.args.reader.now.scope) next.0 next.2
     (next.1 ∙ ap (λ (z : ℕ). Some (tag c.args.tag.number z c.purpose_of-purpose.result)) (sym told.0)) follows))
@@ -48,30 +48,30 @@ pub overflow_add-used : goal.overflow_add-used
 overflow_add-used c =
     let is = ap length (slice_from c.args.tag.size c.args.bytes.now) ∙ length-drop c.args.tag.size c.args.bytes.now in
     let behind = (c.in-Whole.ensures 0).1 in
-    let within = c.requires.within in
-    let small = c.requires.reading.small in
+    let within = c.requires.at_tag.within in
+    let small = c.requires.at_tag.reading.small in
     omega (arith, is, behind, within, small)
 
 pub overflow_cast-reader : goal.overflow_cast-reader
 overflow_cast-reader c =
     let is = ap length (slice_from c.args.tag.size c.args.bytes.now) ∙ length-drop c.args.tag.size c.args.bytes.now in
     let behind = (c.in-Whole.ensures 0).1 in
-    let within = c.requires.within in
-    let small = c.requires.reading.small in
+    let within = c.requires.at_tag.within in
+    let small = c.requires.at_tag.reading.small in
     omega (arith, is, behind, within, small)
 
 pub overflow_add-reader : goal.overflow_add-reader
 overflow_add-reader c =
     let is = ap length (slice_from c.args.tag.size c.args.bytes.now) ∙ length-drop c.args.tag.size c.args.bytes.now in
     let behind = (c.in-Whole.ensures 0).1 in
-    let within = c.requires.within in
-    let small = c.requires.reading.small in
+    let within = c.requires.at_tag.within in
+    let small = c.requires.at_tag.reading.small in
     omega (arith, is, behind, within, small)
 
 pub returns-in_ok-count_one-in-Whole-clause-passes : goal.returns-in_ok-count_one-in-Whole-clause-passes
 returns-in_ok-count_one-in-Whole-clause-passes c =
     let is = ap length (slice_from c.args.tag.size c.args.bytes.now) ∙ length-drop c.args.tag.size c.args.bytes.now in
     let behind = (c.in-Whole.ensures 0).1 in
-    let within = c.requires.within in
-    let small = c.requires.reading.small in
+    let within = c.requires.at_tag.within in
+    let small = c.requires.at_tag.reading.small in
     (omega arith, omega (arith, is, behind, within, small), refl)

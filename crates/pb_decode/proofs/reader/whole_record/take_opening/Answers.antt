@@ -11,9 +11,9 @@ pub returns-clause-taken : goal.returns-clause-taken
 returns-clause-taken c =
     λ m depth levels base p0 begun.
     let p = here (state_view c.args.reader.now) c.args.bytes.now in
-    let has = subst (λ (z : ℕ). HasTag (here (state_view c.args.reader.now) c.args.bytes.now) c.args.tag.number z (passed (here (state_view c.args.reader.now) c.args.bytes.now) c.args.tag.size)) c.requires.bytes c.requires.tag in
+    let has = subst (λ (z : ℕ). HasTag (here (state_view c.args.reader.now) c.args.bytes.now) c.args.tag.number z (passed (here (state_view c.args.reader.now) c.args.bytes.now) c.args.tag.size)) c.requires.bytes c.requires.at_tag.there in
     let l =
-    length_here (state_view c.args.reader.now) c.args.bytes.now c.args.tag.number c.args.tag.wire_type c.args.tag.size c.in-Some.start c.in-Some.size c.left.ensures c.in-Some.ensures.whole c.requires.tag in
-    let next = opening_next c.args.tag.number c.args.purpose (tag_stands (state_view c.args.reader.now) c.args.bytes.now begun c.requires.step) has c.requires.means (c.if-not-has_room.ensures.room refl) in
-    c.in_ok-pass_length.ensures.reads c.args.pool.now m depth levels base p0 (passed p c.args.tag.size) (passed p c.in-Some.start) c.requires.rules
-    (tag_can (state_view c.args.reader.now) c.args.bytes.now c.requires.rules c.requires.reading.reads c.requires.step) next l refl
+    length_here (state_view c.args.reader.now) c.args.bytes.now c.args.tag.number c.args.tag.wire_type c.args.tag.size c.in-Some.start c.in-Some.size c.left.ensures c.in-Some.ensures.whole c.requires.at_tag.there in
+    let next = opening_next c.args.tag.number c.args.purpose (tag_stands (state_view c.args.reader.now) c.args.bytes.now begun c.requires.at_tag.step) has c.requires.means (c.if-not-has_room.ensures.room refl) in
+    c.in_ok-pass_length.ensures.reads c.args.pool.now m depth levels base p0 (passed p c.args.tag.size) (passed p c.in-Some.start) c.requires.at_tag.rules
+    (tag_can (state_view c.args.reader.now) c.args.bytes.now c.requires.at_tag.rules c.requires.at_tag.reading.reads c.requires.at_tag.step) next l refl

@@ -1,19 +1,69 @@
-use Rattle.std.proofs.Common.{◌+◌, ◌-◌, ◌*◌, List, length, codes}
+use Rattle.std.proofs.Common.{◌≡◌, ◌+◌, ◌-◌, ◌*◌, List, Option, length, codes, map}
+use Rattle.pb_decl.specs.Decls.{DeclaredMessage}
+use Rattle.pb_decl.specs.View.{message_view}
 use Rattle.pb_tokens.specs.Readers.Forms.{mark_reader}
 use Rattle.pb_tokens.proofs.UntilSteps.{HasRead}
-use Rattle.pb_source.specs.Meaning.{MessageStatement}
+use Rattle.pb_source.specs.Meaning.{Member, MessageStatement, those_said}
 use Rattle.pb_source.specs.PartsView.{HoldsSaid}
-use Rattle.pb_source.specs.Readers.Lines.{is_closing, room_statement_reader}
+use Rattle.pb_source.specs.StatementView.{member_view}
+use Rattle.pb_source.specs.Readers.Lines.{is_closing, nested_in, oneof_statement_reader, extension_reader, room_statement_reader}
 use Rattle.pb_source.proofs.parsing.messages.+message.Given as goal
 
-abbrev pub decreases-message : goal.decreases-message
-decreases-message l = 3 * l.room + 2
+-- ---- what each call leaves to be read, by the room and then by what calls what
 
-abbrev pub decreases-message_body : goal.decreases-message_body
-decreases-message_body l = 3 * l.room + 1
+abbrev pub decreases-member : goal.decreases-member
+decreases-member l = 16 * l.room
+
+abbrev pub decreases-labelled : goal.decreases-labelled
+decreases-labelled l = 16 * l.room + 1
+
+abbrev pub decreases-oneof_statement : goal.decreases-oneof_statement
+decreases-oneof_statement l = 16 * l.room + 1
+
+abbrev pub decreases-oneof_body : goal.decreases-oneof_body
+decreases-oneof_body l = 16 * l.room + 2
+
+abbrev pub decreases-oneof : goal.decreases-oneof
+decreases-oneof l = 16 * l.room + 3
+
+abbrev pub decreases-extension : goal.decreases-extension
+decreases-extension l = 16 * l.room + 2
+
+abbrev pub decreases-extend_body : goal.decreases-extend_body
+decreases-extend_body l = 16 * l.room + 3
+
+abbrev pub decreases-extend : goal.decreases-extend
+decreases-extend l = 16 * l.room + 4
+
+abbrev pub decreases-nesting_statement : goal.decreases-nesting_statement
+decreases-nesting_statement l = 16 * l.room + 5
 
 abbrev pub decreases-message_statement : goal.decreases-message_statement
-decreases-message_statement l = 3 * l.room
+decreases-message_statement l = 16 * l.room + 6
+
+abbrev pub decreases-message_body : goal.decreases-message_body
+decreases-message_body l = 16 * l.room + 7
+
+abbrev pub decreases-message : goal.decreases-message
+decreases-message l = 16 * l.room + 8
+
+-- ---- loops
+
+abbrev pub invariant-oneof_body-loop-alloc : goal.invariant-oneof_body-loop-alloc
+invariant-oneof_body-loop-alloc l =
+    (front : List (Option Member)) × (map member_view l.members.items ≡ those_said front)
+    × HasRead is_closing (λ n. oneof_statement_reader l.grammar n (nested_in l.grammar n l.room)) (mark_reader (codes "}")) l.symbols l.at front l.here
+
+abbrev pub decreases-oneof_body-loop-alloc : goal.decreases-oneof_body-loop-alloc
+decreases-oneof_body-loop-alloc l = length l.symbols - l.here
+
+abbrev pub invariant-extend_body-loop-alloc : goal.invariant-extend_body-loop-alloc
+invariant-extend_body-loop-alloc l =
+    (front : List (Option DeclaredMessage)) × (map message_view l.groups.items ≡ those_said front)
+    × HasRead is_closing (λ n. extension_reader l.grammar n (nested_in l.grammar n l.room)) (mark_reader (codes "}")) l.symbols l.at front l.here
+
+abbrev pub decreases-extend_body-loop-alloc : goal.decreases-extend_body-loop-alloc
+decreases-extend_body-loop-alloc l = length l.symbols - l.here
 
 abbrev pub invariant-message_body-loop-grammar : goal.invariant-message_body-loop-grammar
 invariant-message_body-loop-grammar l =

@@ -1,0 +1,15 @@
+use Rattle.std.proofs.Common.{inl, inr, subst}
+use Rattle.pb_c.specs.Message.Listed.{IsListedDecimal}
+use Rattle.pb_c.proofs.Making.{the_message}
+use Rattle.pb_c.proofs.typed.show_decimal.decimal_message.Goals as goal
+
+pub returns-in-Ok-clause-accepted : goal.returns-in-Ok-clause-accepted
+returns-in-Ok-clause-accepted c within v text =
+    let same = the_message c.in-Ok.message c.args.pool.now c.args.number v c.in-Ok.ensures.of_type.0 c.in-Ok.ensures.of_type.1 (c.in-Ok.ensures.accepted within v text) in
+    elim c.write_decimal.ensures.answers [
+      | inl is ↦ inl (is, subst (λ d. IsListedDecimal d c.args.out.now c.write_decimal.new.out c.write_decimal.new.size) same (c.write_decimal.ensures.written is))
+      | inr is ↦ inr is
+    ]
+
+pub returns-in-Err-clause-accepted : goal.returns-in-Err-clause-accepted
+returns-in-Err-clause-accepted c within v text = inr (c.in-Err.ensures.accepted within v text)

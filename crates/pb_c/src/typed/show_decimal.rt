@@ -1,0 +1,109 @@
+//! The listing of a message, with floats in decimal.
+
+ghost use Rattle.std.specs.Prelude.{◌≡◌, ◌≢◌, ◌+◌, ◌*◌, ◌<◌, ◌≤◌, ◌↔◌, ◌⊎◌, None, length};
+ghost use Rattle.pb_wire.specs.Fault.{Fault};
+ghost use Rattle.pb_schema.specs.Types.{Types};
+ghost use Rattle.pb_value.specs.Data.{Message};
+ghost use Rattle.pb_value.specs.Derives.{Text};
+ghost use Rattle.pb_decode.specs.Push.{IsFaultOf};
+ghost use Rattle.pb_c.specs.Held.{types_held};
+ghost use Rattle.pb_c.specs.Message.Listed.{IsListedDecimal};
+ghost use Rattle.pb_c.specs.Reporting.{AreLimits, Tells, bounds};
+ghost use Rattle.pb_c.specs.Typed.{HasType, LacksType, message_of};
+
+use crate::handle::{PoolHandle, put, take};
+use crate::message::show_decimal::write_decimal;
+use crate::reporting::{BAD_LIMITS, DONE, EMPTY, FAULT, FaultReport, MEMORY, NO_TYPE, Step};
+use crate::typed::read_message;
+use pb_schema::Pool;
+use pb_wire::Limits;
+use std::alloc::Global;
+
+/// Writes the listing of the message that the bytes are as `mb_show` does, but with each float as the shortest decimal that reads back to the same
+/// bits, or `nan`, `inf` or `-inf`, as `pbtool show --decimal` prints it.
+///
+/// Answers as `mb_show` does.
+#[unsafe(no_mangle)]
+pub extern "C" fn mb_show_decimal(
+    alloc: Global,
+    pool: &mut PoolHandle,
+    message_type: u32,
+    bytes: &[u8],
+    max_bytes: u32,
+    max_depth: u8,
+    out: &mut [u8],
+    size: &mut usize,
+    fault: &mut FaultReport,
+    path: &mut [Step],
+) -> u32
+    ensures text { result ≡ DONE → (ts : Types) × HasType (types_held pool.old) message_type ts
+        × ((v : Message) × Text ts message_type (bounds max_bytes max_depth) bytes.now v
+        × IsListedDecimal (message_of ts message_type v) out.old out.new size.new) }
+    ensures fault { result ≡ FAULT → (ts : Types) × HasType (types_held pool.old) message_type ts
+        × ((f : Fault) × IsFaultOf ts message_type (bounds max_bytes max_depth) bytes.now f × Tells f fault.new path.old path.new) }
+    ensures steps { result ≡ FAULT → fault.new.steps ≤ 2 * max_depth + 1 }
+    ensures unwritten { result ≢ DONE → (out.new ≡ out.old) × (size.new ≡ size.old) }
+    ensures untold { result ≢ FAULT → (fault.new ≡ fault.old) × (path.new ≡ path.old) }
+    ensures limits { result ≡ BAD_LIMITS ↔ ¬ AreLimits max_bytes max_depth }
+    ensures empty { result ≡ EMPTY ↔ AreLimits max_bytes max_depth × (types_held pool.old ≡ None) }
+    ensures no_type { result ≡ NO_TYPE ↔ AreLimits max_bytes max_depth × LacksType (types_held pool.old) message_type }
+    ensures answers { (result ≡ DONE) ⊎ (result ≡ BAD_LIMITS) ⊎ (result ≡ EMPTY) ⊎ (result ≡ NO_TYPE) ⊎ (result ≡ FAULT) ⊎ (result ≡ MEMORY) }
+    ensures same { pool.new.seal.pool ≡ pool.old.seal.pool }
+
+    // Each valid input is accepted and each fault is reported, unless memory runs out.
+    ensures accepted { AreLimits max_bytes max_depth → (ts : Types) → HasType (types_held pool.old) message_type ts → (v : Message)
+        → Text ts message_type (bounds max_bytes max_depth) bytes.now v
+        → ((result ≡ DONE) × IsListedDecimal (message_of ts message_type v) out.old out.new size.new) ⊎ (result ≡ MEMORY) }
+    ensures refused { AreLimits max_bytes max_depth → (ts : Types) → HasType (types_held pool.old) message_type ts → (f : Fault)
+        → IsFaultOf ts message_type (bounds max_bytes max_depth) bytes.now f → ((result ≡ FAULT) × Tells f fault.new path.old path.new) ⊎ (result ≡ MEMORY) }
+{
+    let Some(limits) = Limits::new(max_bytes, max_depth) else {
+        return BAD_LIMITS;
+    };
+    let Some(shared) = take(alloc, pool) else {
+        return EMPTY;
+    };
+    let answer = decimal_message(
+        alloc,
+        &shared.pool,
+        message_type,
+        bytes,
+        limits,
+        out,
+        size,
+        fault,
+        path,
+    );
+    put(pool, shared);
+    answer
+}
+
+/// Writes the listing of the message that the bytes are, with floats in decimal, by its type's number.
+fn decimal_message(
+    alloc: Global,
+    pool: &Pool,
+    number: u32,
+    bytes: &[u8],
+    limits: Limits,
+    out: &mut [u8],
+    size: &mut usize,
+    fault: &mut FaultReport,
+    path: &mut [Step],
+) -> u32
+    ensures text { result ≡ DONE → (v : Message) × Text pool.now number limits bytes.now v
+        × IsListedDecimal (message_of pool.now number v) out.old out.new size.new }
+    ensures fault { result ≡ FAULT → (f : Fault) × IsFaultOf pool.now number limits bytes.now f × Tells f fault.new path.old path.new }
+    ensures unwritten { result ≢ DONE → (out.new ≡ out.old) × (size.new ≡ size.old) }
+    ensures untold { result ≢ FAULT → (fault.new ≡ fault.old) × (path.new ≡ path.old) }
+    ensures no_type { result ≡ NO_TYPE ↔ length pool.now.messages ≤ number }
+    ensures answers { (result ≡ DONE) ⊎ (result ≡ NO_TYPE) ⊎ (result ≡ FAULT) ⊎ (result ≡ MEMORY) }
+    ensures accepted { number < length pool.now.messages → (v : Message) → Text pool.now number limits bytes.now v
+        → ((result ≡ DONE) × IsListedDecimal (message_of pool.now number v) out.old out.new size.new) ⊎ (result ≡ MEMORY) }
+    ensures refused { number < length pool.now.messages → (f : Fault) → IsFaultOf pool.now number limits bytes.now f
+        → ((result ≡ FAULT) × Tells f fault.new path.old path.new) ⊎ (result ≡ MEMORY) }
+{
+    match read_message(alloc, pool, number, bytes, limits, fault, path) {
+        Ok(message) => write_decimal(alloc, &message, out, size),
+        Err(answer) => answer,
+    }
+}
