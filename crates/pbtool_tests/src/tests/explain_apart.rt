@@ -50,30 +50,32 @@ fn first_of(line: &str) -> Result<First<'_>, Fail> {
     Ok(First { byte, path })
 }
 
-/// The lines after those of the steps of a path, if these lines begin with a line for each step, with its name and type.
-fn after_steps<'l>(
-    alloc: Global,
-    path: &str,
-    lines: &'l [&'l str],
-) -> Result<Option<&'l [&'l str]>, Fail> {
-    if path == "-" {
-        return Ok(Some(lines));
-    }
+/// Whether a line begins with a step and its name and type.
+fn is_line_of(alloc: Global, line: &str, step: &str, label: &str) -> Result<bool, Fail> {
+    let begin = format!(in alloc; "  {step}{label}")?;
+    Ok(line.starts_with(begin.as_str()))
+}
+
+/// How many steps a path has, if these lines begin with a line for each step, with its name and type.
+fn steps_shown(alloc: Global, path: &str, lines: &[&str]) -> Result<Option<usize>, Fail> {
     let mut inside = Inside::Message;
-    let mut left = lines;
+    let mut count: usize = 0;
+    if path == "-" {
+        return Ok(Some(0));
+    }
     for step in path.split('.') {
         let (number, _) = step.split_once('[').ok_or("no step")?;
         let (label, next) = label_of(inside, number);
-        let Some((line, others)) = left.split_first() else {
+        let Some(line) = lines.get(count) else {
             return Ok(None);
         };
-        if !line.starts_with(format!(in alloc; "  {step}{label}")?.as_str()) {
+        if !is_line_of(alloc, line, step, label)? {
             return Ok(None);
         }
         inside = next;
-        left = others;
+        count = count.saturating_add(1);
     }
-    Ok(Some(left))
+    Ok(Some(count))
 }
 
 /// Whether the mark is under the byte of a file, or after the last.
@@ -96,11 +98,11 @@ fn agrees(alloc: Global, file: &[u8], text: &str) -> Result<bool, Fail> {
     let (line, others) = lines.split_first().ok_or("no line")?;
     let (site, others) = others.split_first().ok_or("no site")?;
     let first = first_of(line)?;
-    let Some(left) = after_steps(alloc, first.path, others)? else {
+    let Some(steps) = steps_shown(alloc, first.path, others)? else {
         return Ok(false);
     };
     let at: usize = first.byte.parse().map_err(|_| "no number")?;
-    let [expected, shown, mark] = left else {
+    let Some([expected, shown, mark]) = others.get(steps..) else {
         return Ok(false);
     };
     Ok(
