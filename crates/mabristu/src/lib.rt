@@ -15,7 +15,7 @@ pub use pb_descr::{
     DeclCause, DescrError, EnumDecl, FieldDecl, FileDecl, LenientSet, MessageDecl, Omitted,
     OmittedPart, WriteSetError, read_set, read_set_lenient, write_set,
 };
-pub use pb_link::{LinkCause, LinkError, link, resolve, to_decls};
+pub use pb_link::{LinkCause, LinkError, link, resolve, to_decls, without_enum_maps};
 pub use pb_schema::{
     EnumId, EnumType, Field, FileInfo, Kind, MessageId, MessageType, Pool, PoolError, Shape,
 };

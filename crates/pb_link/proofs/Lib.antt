@@ -57,6 +57,8 @@ pub mod ReadLemmas
 pub mod ResolvedLemmas
 -- for messages that are resolved: they stand in each other as deep as before
 pub mod ResolvedNestLemmas
+-- for maps of enums in files that are read leniently, which become lists of their entries
+pub mod EnumMapLemmas
 -- for the loops that resolve declarations
 pub mod ResolvingLemmas
 -- for the law that resolved files have their type numbers and full type names

@@ -16,7 +16,7 @@ mutual
   all_resolved_nest w file scope (more_messages m ms) =
       ap (λ a. max a (all_nest (resolved_messages w file scope ms))) (resolved_nests w file scope m) ∙ ap (max (nests m)) (all_resolved_nest w file scope ms)
 
-each_resolved : (w : World) (k i : ℕ) (fs : List DeclaredFile) → AllByRecursion (λ f. all_nest f.messages ≤ k) fs → AllByRecursion (λ f. all_nest f.messages ≤ k) (map (λ e. resolved_file w e.0 e.1) (enumerate_from i fs))
+pub each_resolved : (w : World) (k i : ℕ) (fs : List DeclaredFile) → AllByRecursion (λ f. all_nest f.messages ≤ k) fs → AllByRecursion (λ f. all_nest f.messages ≤ k) (map (λ e. resolved_file w e.0 e.1) (enumerate_from i fs))
 each_resolved w k i [] h = tt
 each_resolved w k i (f ∷ fs) h = (subst (λ n. n ≤ k) (sym (all_resolved_nest w i f.package_name f.messages)) h.0, each_resolved w k (i + 1) fs h.1)
 

@@ -8,3 +8,4 @@ pub mod Law
 pub mod Parts
 pub mod Resolved
 pub mod Resolving
+pub mod EnumMaps

@@ -1,5 +1,6 @@
 //! Declarations with their types resolved.
 
+pub(crate) mod enum_maps;
 mod enums;
 mod fields;
 mod files;

@@ -6,6 +6,8 @@ mod chains;
 #[cfg(test)]
 mod declarations;
 #[cfg(test)]
+mod enum_maps;
+#[cfg(test)]
 mod first_call;
 #[cfg(test)]
 mod hostile;

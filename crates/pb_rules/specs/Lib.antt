@@ -5,6 +5,7 @@ pub mod Faults
 pub mod Judging
 pub mod Tables
 pub mod Judged
+pub mod Named
 pub mod ErrorNumber
 pub mod Flags
 pub mod Uses

@@ -9,6 +9,7 @@ mod error;
 mod flags;
 mod judge;
 pub mod judged;
+pub mod named;
 pub mod names;
 mod naming;
 pub mod rules;

@@ -151,6 +151,24 @@ fn scene_of<'a>(
     })
 }
 
+/// What the type names of all declarations come to, by place.
+pub(crate) fn found_names(
+    alloc: Global,
+    files: &[FileDecl],
+    row: &[Declaration],
+    imports: &Imports,
+) -> Result<Vec<TypeNames>, AllocError>
+    requires row { map declaration_view row.now ≡ declarations (map file_view files.now) }
+    requires exact { AreImports (map file_view files.now) imports.now }
+    requires lead { LeadToFiles imports.now }
+    ensures { IfOk result (λ v. (w : World) → IsWorldOf (map file_view files.now) w
+        → map type_names_view v.items ≡ map (lookups w) (map declaration_view row.now)) }
+{
+    let mut scene = scene_of(alloc, files, row, imports)?;
+    let found = type_names(&mut scene, alloc, files, row, imports)?;
+    Ok(found)
+}
+
 /// What the rules of files come to, by place: whether its name is the first, whether its imports are there, and the first cycle.
 fn file_tables(
     alloc: Global,
