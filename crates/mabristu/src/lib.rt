@@ -24,7 +24,7 @@ pub use pb_source::{SourceCause, SourceFault, parse, parse_lenient};
 // What a change of a schema does to old messages.
 pub use pb_compat::{
     ComparedTypes, Difference, Report, Severity, Step, breaks_reading, compare, compare_all,
-    namesake, witness,
+    namesake, nested_witness, witness,
 };
 
 // Messages: what they hold, changes, what is at a place of one, and changes there.

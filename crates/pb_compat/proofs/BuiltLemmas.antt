@@ -1,4 +1,4 @@
--- The messages that the call builds are well formed, and show the break where the change is covered.
+-- The messages that the call builds are well formed, and show the break.
 use Rattle.std.proofs.Common.{◌≡◌, ◌≢◌, ℕ, ◌≤◌, [], Bool, true, false, not, ◌&&◌, ◌||◌, Option, Some, None, Result, Ok, Err, IfOk, IfSome, IsSomeAnd, refl, sym, ◌∙◌, ap, subst, arith, inl, inr}
 use Rattle.std.specs.Prelude.{IsTrue, ◌==◌, ◌⊎◌, is_some}
 use Rattle.pb_schema.specs.declared.types.Kind.{Kind}
@@ -18,7 +18,7 @@ use Rattle.pb_value.proofs.Options.{at_some, some_of}
 use Rattle.pb_compat.specs.Fields.{keeps_kind, keeps_shape, is_map, is_list, is_map_keeping}
 use Rattle.pb_compat.specs.Oneofs.{share_oneof}
 use Rattle.pb_compat.specs.Samples.{IsValue, IsLostValue}
-use Rattle.pb_compat.specs.Witness.{alone, IsContentOf, AreFieldsAt, is_one_by_one, may_be_beside, partner_of, IsSettable, IsMadeOf, IsKeyOf, HoldsValue, HoldsLost, HoldsLostKey, IsLost, by_shape, by_key, by_values, IsPairOf, IsBuilt, of_one, of_two, is_covered, IsWitness, IsShown}
+use Rattle.pb_compat.specs.Witness.{alone, IsContentOf, AreFieldsAt, is_one_by_one, may_be_beside, partner_of, IsSettable, IsMadeOf, IsKeyOf, HoldsValue, HoldsLost, HoldsLostKey, IsLost, by_shape, by_key, by_values, IsPairOf, IsBuilt, of_one, of_two, IsWitness}
 use Rattle.pb_compat.proofs.MapLemmas.{map_can, map_is_misread}
 use Rattle.pb_compat.proofs.NeverLemmas.{implicit_default}
 use Rattle.pb_compat.proofs.PackedLemmas.{packed_is_misread}
@@ -26,7 +26,7 @@ use Rattle.pb_compat.proofs.PairLemmas.{IsPairMisread, pair_is_misread}
 use Rattle.pb_compat.proofs.PartnerLemmas.{partner_is}
 use Rattle.pb_compat.proofs.ShownLemmas.{can_hold, one_is_misread, shape_is_misread}
 use Rattle.pb_compat.proofs.WholeLemmas.{key_kinds, may_be_value}
-use Rattle.pb_compat.proofs.WitnessLemmas.{CanHold, IsMisread, misread_shows, alone_well}
+use Rattle.pb_compat.proofs.WitnessLemmas.{CanHold, IsMisread, misread_shows}
 
 -- FIELDS THAT ARE SET
 
@@ -64,21 +64,6 @@ module _ (old new : Types) (rules_old : IsPool old) (rules_new : IsPool new) (m 
   value_proto3 : (pool : Types) (i : ℕ) (x : FieldView) (key : Kind) → IsPool pool → field_numbered k (message_fields pool i) ≡ Some x → x.shape ≡ shape.Map key → is_of_proto2 x.kind ≡ false
   value_proto3 pool i x key rules found maps = subst (λ (s : Shape). MayBeValue s x.kind) maps (may_be_value pool i k x rules found)
 
-  -- where the wire type stays, or the enum is open
-  wire_stays : f.shape ≡ shape.List true → is_covered f g ≡ true → (closed_enum f.kind ≡ None) ⊎ (wire_type_of f.kind ≡ wire_type_of g.kind)
-  wire_stays packed covered =
-      by (closed_enum f.kind) refl (wire_type_of f.kind == wire_type_of g.kind) refl
-      (ap (λ (s : Shape). not (is_packed s && is_some (closed_enum f.kind)) || (wire_type_of f.kind == wire_type_of g.kind)) (sym packed) ∙ covered)
-    where
-      by : (o : Option ℕ) → closed_enum f.kind ≡ o → (b : Bool) → (wire_type_of f.kind == wire_type_of g.kind) ≡ b → (not (true && is_some (closed_enum f.kind)) || (wire_type_of f.kind == wire_type_of g.kind)) ≡ true
-          → (closed_enum f.kind ≡ None) ⊎ (wire_type_of f.kind ≡ wire_type_of g.kind)
-      by None e b w c = inl e
-      by (Some i) e true w c = inr (number_is (wire_type_of f.kind) (wire_type_of g.kind) w)
-      by (Some i) e false w c = absurd (clash (ap (λ (o : Option ℕ). not (true && is_some o) || (wire_type_of f.kind == wire_type_of g.kind)) e ∙ w) c)
-        where
-          clash : {b : Bool} → b ≡ false → b ≡ true → ⊥
-          clash p q = cc
-
   scalar_packed : (x : Datum) → is_packable f.kind ≡ true → IsDatum old f.kind x → (y : Scalar) × (x ≡ scalar y)
   scalar_packed (scalar y) packs w = (y, refl)
   scalar_packed (message v) packs w = absurd (by f.kind packs w)
@@ -97,34 +82,34 @@ module _ (old new : Types) (rules_old : IsPool old) (rules_new : IsPool new) (m 
   map_stays (shape.List p) t c e keeps = absurd (cc)
 
   -- values that are not kept, in each shape
-  values_misread : (s : Shape) → f.shape ≡ s → (h : Holding) → keeps_shape old new f.shape g.shape ≡ true → (c : HoldsLost old new f g h) → is_covered f g ≡ true → IsMisread old new m n (alone k h)
-  values_misread (shape.List true) e (list ds) keeps c covered =
+  values_misread : (s : Shape) → f.shape ≡ s → (h : Holding) → keeps_shape old new f.shape g.shape ≡ true → (c : HoldsLost old new f g h) → IsMisread old new m n (alone k h)
+  values_misread (shape.List true) e (list ds) keeps c =
       let packs : is_packable f.kind ≡ true = subst (λ (s : Shape). MayBePacked s f.kind) e (can_pack old m rules_old k f at.old_field) in
       let x = scalar_packed c.value packs c.lost.value.value in
       let lost : IsLostValue old new f.kind g.kind (scalar x.0) = subst (IsLostValue old new f.kind g.kind) x.1 c.lost in
       let listed : is_list g.shape ≡ true = subst (λ (s : Shape). keeps_shape old new s g.shape ≡ true) e keeps in
       subst (λ (es : Datums). IsMisread old new m n (alone k (list es))) (sym (c.made ∙ ap (λ (d : Datum). datum d no_datums) x.1))
-      (packed_is_misread old new rules_old rules_new m n k f g x.0 at e listed lost.value (lost.in_packed packs (wire_stays e covered)))
-  values_misread (shape.Map key) e (map_of es) keeps c covered =
+      (packed_is_misread old new rules_old rules_new m n k f g x.0 at e listed lost.value (lost.in_packed packs))
+  values_misread (shape.Map key) e (map_of es) keeps c =
       let stays = map_stays f.shape g.shape key e keeps in
       let under = some_of (key_of f.shape) (λ l. IsValue old l (scalar c.made.0)) c.made.1 in
       let keyed : IsValue old key (scalar c.made.0) = subst (λ (s : Shape). IsSomeAnd (key_of s) (λ l. IsValue old l (scalar c.made.0))) e c.made.1 in
       subst (λ es. IsMisread old new m n (alone k (map_of es))) (sym c.made.2)
       (map_is_misread old new rules_old rules_new m n k f g key stays.0 c.made.0 c.value at e stays.1 keyed c.lost.value
       (inr (c.lost.in_entry (value_proto3 old m f key rules_old at.old_field e) (value_proto3 new n g stays.0 rules_new at.new_field stays.1))))
-  values_misread (shape.List true) e (one d) keeps c covered = absurd (subst (λ (s : Shape). IsOfShape s (one d)) e c.shaped)
-  values_misread (shape.List true) e (map_of es) keeps c covered = absurd (subst (λ (s : Shape). IsOfShape s (map_of es)) e c.shaped)
-  values_misread (shape.Map key) e (one d) keeps c covered = absurd (subst (λ (s : Shape). IsOfShape s (one d)) e c.shaped)
-  values_misread (shape.Map key) e (list ds) keeps c covered = absurd (subst (λ (s : Shape). IsOfShape s (list ds)) e c.shaped)
-  values_misread shape.Implicit e h keeps c covered = one_is_misread old new rules_old rules_new m n k f g c.value h at (ap is_one_by_one e) keeps c.made c.shaped c.lost.value c.lost.unlike
-  values_misread shape.Explicit e h keeps c covered = one_is_misread old new rules_old rules_new m n k f g c.value h at (ap is_one_by_one e) keeps c.made c.shaped c.lost.value c.lost.unlike
-  values_misread (shape.OneofMember o) e h keeps c covered = one_is_misread old new rules_old rules_new m n k f g c.value h at (ap is_one_by_one e) keeps c.made c.shaped c.lost.value c.lost.unlike
-  values_misread (shape.List false) e h keeps c covered = one_is_misread old new rules_old rules_new m n k f g c.value h at (ap is_one_by_one e) keeps c.made c.shaped c.lost.value c.lost.unlike
+  values_misread (shape.List true) e (one d) keeps c = absurd (subst (λ (s : Shape). IsOfShape s (one d)) e c.shaped)
+  values_misread (shape.List true) e (map_of es) keeps c = absurd (subst (λ (s : Shape). IsOfShape s (map_of es)) e c.shaped)
+  values_misread (shape.Map key) e (one d) keeps c = absurd (subst (λ (s : Shape). IsOfShape s (one d)) e c.shaped)
+  values_misread (shape.Map key) e (list ds) keeps c = absurd (subst (λ (s : Shape). IsOfShape s (list ds)) e c.shaped)
+  values_misread shape.Implicit e h keeps c = one_is_misread old new rules_old rules_new m n k f g c.value h at (ap is_one_by_one e) keeps c.made c.shaped c.lost.value c.lost.unlike
+  values_misread shape.Explicit e h keeps c = one_is_misread old new rules_old rules_new m n k f g c.value h at (ap is_one_by_one e) keeps c.made c.shaped c.lost.value c.lost.unlike
+  values_misread (shape.OneofMember o) e h keeps c = one_is_misread old new rules_old rules_new m n k f g c.value h at (ap is_one_by_one e) keeps c.made c.shaped c.lost.value c.lost.unlike
+  values_misread (shape.List false) e h keeps c = one_is_misread old new rules_old rules_new m n k f g c.value h at (ap is_one_by_one e) keeps c.made c.shaped c.lost.value c.lost.unlike
 
-  pub lost_misread : (h : Holding) → IsLost old new f g h → is_covered f g ≡ true → IsMisread old new m n (alone k h)
-  lost_misread h (by_shape loses maps c) covered = shape_is_misread old new rules_old rules_new m n k f g c.value h at loses maps c.made c.shaped c.valued
-  lost_misread h (by_values keeps c) covered = values_misread f.shape refl h keeps c covered
-  lost_misread h (by_key c) covered =
+  pub lost_misread : (h : Holding) → IsLost old new f g h → IsMisread old new m n (alone k h)
+  lost_misread h (by_shape loses maps c) = shape_is_misread old new rules_old rules_new m n k f g c.value h at loses maps c.made c.shaped c.valued
+  lost_misread h (by_values keeps c) = values_misread f.shape refl h keeps c
+  lost_misread h (by_key c) =
       subst (λ (x : Holding). IsMisread old new m n (alone k x)) (sym c.made)
       (map_is_misread old new rules_old rules_new m n k f g c.key c.new_key c.under c.value at c.of_map c.to_map c.lost.value c.valued
       (inl (c.lost.in_entry (key_proto3 old m f c.key rules_old at.old_field c.of_map) (key_proto3 new n g c.new_key rules_new at.new_field c.to_map))))
@@ -173,33 +158,23 @@ module _ (old new : Types) (rules_old : IsPool old) (rules_new : IsPool new) (m 
 
   -- WHAT IS BUILT
 
-  -- these are the only fields of the number
-  only : (P : FieldView → FieldView → Type 0) → P f g → (x y : FieldView) → AreFieldsAt old new m n k x y → P x y
-  only P h x y a =
-      let one = a.old_field in
-      let two = a.new_field in
-      let three = at.old_field in
-      let four = at.new_field in
-      let first : f ≡ x = cc in
-      let second : g ≡ y = cc in
-      subst (λ (z : FieldView). P z y) first (subst (λ (z : FieldView). P f z) second h)
+  -- what is built is misread, and nests at most one level
+  pub record IsBuiltMisread (v : Message) : Type 0 where
+    pub misread : IsMisread old new m n v
+    pub depth : message_depth v ≤ 1
 
-  pub built_is_shown : (v : Message) → IsBuilt old new m n f g v → IsShown old new m n k v
-  built_is_shown v (of_one h lost same) =
+  pub built_misread : (v : Message) → IsBuilt old new m n f g v → IsBuiltMisread v
+  built_misread v (of_one h lost same) =
       let number : f.number ≡ k = found_number k (message_fields old m) f at.old_field in
-      let can = lost_can h lost in
-      subst (IsShown old new m n k) (sym (same ∙ ap (λ (i : ℕ). alone i h) number)) record {
-        well_formed = alone_well old m k f at.old_field h can;
-        known = (refl, (can.known, tt));
-        witness = only (λ x y. is_covered x y ≡ true → IsWitness old new m n (alone k h))
-            (λ covered. misread_shows old new rules_old rules_new m n (alone k h) (lost_misread h lost covered) (alone_well old m k f at.old_field h can).depth);
-      }
-  built_is_shown v (of_two p found pair) =
-      let both = pair_misread p v found pair in
-      let deep = both.depth in
-      let level : message_depth v ≤ 100 = omega (arith, deep) in
-      let shown = misread_shows old new rules_old rules_new m n v both.misread level in
-      record { well_formed = shown.well_formed; known = shown.known; witness = λ x y a c. shown }
+      let deep = (lost_can h lost).depth in
+      subst IsBuiltMisread (sym (same ∙ ap (λ (i : ℕ). alone i h) number)) record { misread = lost_misread h lost; depth = omega (arith, deep) }
+  built_misread v (of_two p found pair) = let both = pair_misread p v found pair in record { misread = both.misread; depth = both.depth }
+
+  pub built_shows : (v : Message) → IsBuilt old new m n f g v → IsWitness old new m n v
+  built_shows v built =
+      let b = built_misread v built in
+      let deep = b.depth in
+      misread_shows old new rules_old rules_new m n v b.misread (omega (arith, deep))
 
 -- what is weaker holds of what is returned, if anything is
 pub if_ok_some : {A E : Type 0} (r : Result (Option A) E) (P Q : A → Type 0) → ((a : A) → P a → Q a) → IfOk r (λ o. IfSome o P) → IfOk r (λ o. IfSome o Q)

@@ -77,7 +77,7 @@ zero_varint = varint (groups_value (0 ∷ []) % 2 ^ 64)
 
 -- the elements of a list of a kind that is packed
 module _ (b : Kind) (packs : is_packable b ≡ true) (y : Scalar) where
-  as_numbers : (s : List ℕ) (w : ℕ) → wire_type_of b ≡ w → elements b (len s) ≡ y ∷ [] → filter_map (read b) (numbers_of w s) ≡ y ∷ []
+  pub as_numbers : (s : List ℕ) (w : ℕ) → wire_type_of b ≡ w → elements b (len s) ≡ y ∷ [] → filter_map (read b) (numbers_of w s) ≡ y ∷ []
   as_numbers s w e h = ap (λ (v : ℕ). filter_map (read b) (numbers_of v s)) (sym e) ∙ sym (elements-packed b s packs) ∙ h
 
   -- one byte is no whole element of a wire type of four or eight bytes
@@ -108,7 +108,7 @@ pub data IsPackedWire (w : ℕ) : Type 0 where
   of_eights : w ≡ 1 → IsPackedWire w
   of_fours : w ≡ 5 → IsPackedWire w
 
-packed_wire : (b : Kind) → is_packable b ≡ true → IsPackedWire (wire_type_of b)
+pub packed_wire : (b : Kind) → is_packable b ≡ true → IsPackedWire (wire_type_of b)
 packed_wire kind.Text packs = absurd (cc)
 packed_wire kind.Bytes packs = absurd (cc)
 packed_wire (kind.Message m) packs = absurd (cc)

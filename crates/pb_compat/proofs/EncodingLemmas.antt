@@ -1,5 +1,5 @@
 -- The canonical records of an old message are sound for the new type.
-use Rattle.std.proofs.Common.{◌≡◌, ℕ, zero, suc, ◌≤◌, List, [], ◌∷◌, ◌++◌, Bool, true, false, not, ◌&&◌, ◌||◌, Option, Some, None, refl, sym, ◌∙◌, ap, subst, arith, append-nil}
+use Rattle.std.proofs.Common.{◌≡◌, ℕ, zero, suc, ◌+◌, ◌≤◌, List, [], ◌∷◌, ◌++◌, Bool, true, false, not, ◌&&◌, ◌||◌, Option, Some, None, refl, sym, ◌∙◌, ap, subst, arith, append-nil}
 use Rattle.std.specs.Prelude.{◌==◌, if◌then◌else◌}
 use Rattle.pb_wire.specs.Record.{Payload, varint, fixed64, len, group, fixed32, Group, no_more, more, Record, group_of, records_in, depth, group_depth, records_depth, wire_type}
 use Rattle.pb_wire.specs.Spell.{AreRecords, shortest_records}
@@ -37,7 +37,7 @@ use Rattle.pb_value.proofs.Options.{some_of}
 use Rattle.pb_compat.specs.Scalars.{keeps_scalars}
 use Rattle.pb_compat.specs.Fields.{keeps_kind, keeps_others, keeps_shape, is_map, is_list}
 use Rattle.pb_compat.specs.Agrees.{HasNoUnknown, ValueHasNoUnknown, ValuesHaveNoUnknown, EntriesHaveNoUnknown, HoldsNoUnknown, FieldsHaveNoUnknown, ReadsEncodings}
-use Rattle.pb_compat.specs.Pairs.{Reached, begun}
+use Rattle.pb_compat.specs.Pairs.{ReachedIn, begun_in}
 use Rattle.pb_compat.specs.Agrees.{NoneBreaks}
 use Rattle.pb_compat.proofs.BreaksLemmas.{IsKept, kept_unbroken}
 use Rattle.pb_compat.proofs.WholeLemmas.{key_kinds, may_be_value, Pair, lead, messages_read}
@@ -174,28 +174,28 @@ reads_bytes c (shape.OneofMember o) e = refl
 reads_bytes c (shape.List p) e = refl
 reads_bytes c (shape.Map k) e = absurd (cc)
 
-reads_message : (c : Context) (s : Shape) (m : MessageId) → key_of s ≡ None → read_shaped c s (kind.Message m) ≡ message_in c m.0
+pub reads_message : (c : Context) (s : Shape) (m : MessageId) → key_of s ≡ None → read_shaped c s (kind.Message m) ≡ message_in c m.0
 reads_message c shape.Implicit m e = refl
 reads_message c shape.Explicit m e = refl
 reads_message c (shape.OneofMember o) m e = refl
 reads_message c (shape.List p) m e = refl
 reads_message c (shape.Map key) m e = absurd (cc)
 
-grouped : (s : Shape) (m : MessageId) → key_of s ≡ None → group_shaped s (kind.Group m) ≡ a_message m.0
+pub grouped : (s : Shape) (m : MessageId) → key_of s ≡ None → group_shaped s (kind.Group m) ≡ a_message m.0
 grouped shape.Implicit m e = refl
 grouped shape.Explicit m e = refl
 grouped (shape.OneofMember o) m e = refl
 grouped (shape.List p) m e = refl
 grouped (shape.Map k) m e = absurd (cc)
 
-reads_packed : (c : Context) (k : Kind) → is_packable k ≡ true → read_listed c k ≡ wire.packed (element_of k)
+pub reads_packed : (c : Context) (k : Kind) → is_packable k ≡ true → read_listed c k ≡ wire.packed (element_of k)
 reads_packed c kind.Text can = absurd (cc)
 reads_packed c kind.Bytes can = absurd (cc)
 reads_packed c (kind.Message m) can = absurd (cc)
 reads_packed c (kind.Group m) can = absurd (cc)
 reads_packed c k can = refl
 
-no_key : (t : Shape) → not (is_map t) ≡ true → key_of t ≡ None
+pub no_key : (t : Shape) → not (is_map t) ≡ true → key_of t ≡ None
 no_key (shape.Map key) e = absurd (cc)
 no_key shape.Implicit e = refl
 no_key shape.Explicit e = refl
@@ -411,8 +411,8 @@ module _ (old new : Types) (Pair : ℕ → ℕ → Type 0) (room : ℕ) (inside 
 
 -- ONE LEVEL
 
-module _ (old new : Types) (rules_old : IsPool old) (rules_new : IsPool new) (start : ℕ × ℕ) (unbroken : (p : ℕ × ℕ) → Reached old new start p → NoneBreaks old new p.0 p.1) where
-  module _ (room : ℕ) (inside : SoundBelow old new (Pair old new rules_old rules_new start unbroken) room) (m n : ℕ) (pair : Pair old new rules_old rules_new start unbroken m n) where
+module _ (old new : Types) (rules_old : IsPool old) (rules_new : IsPool new) (start : ℕ × ℕ) (unbroken : (fields : ℕ) (p : ℕ × ℕ) → fields ≤ 100 → ReachedIn old new start fields p → NoneBreaks old new p.0 p.1) where
+  module _ (room fields : ℕ) (few : fields ≤ 100) (inside : SoundBelow old new (Pair old new rules_old rules_new start unbroken (suc fields)) room) (m n : ℕ) (pair : Pair old new rules_old rules_new start unbroken fields m n) where
     sound_at : (k : ℕ) (f : FieldView) (h : Holding) → field_numbered k (message_fields old m) ≡ Some f → IsOfShape f.shape h → IsHeld old f.shape f.kind h → holds_declared old f.kind h ≡ true → HoldsNoUnknown h → holding_depth h ≤ room
         → AreWritable (canon_holding old f h) → AllSound (schema_of new) (a_message n) room (canon_holding old f h)
     sound_at k f h found shaped w declared known l short = by (field_numbered k (message_fields new n)) refl
@@ -420,19 +420,19 @@ module _ (old new : Types) (rules_old : IsPool old) (rules_new : IsPool new) (st
         by_kept : (g : FieldView) → IsKept old new m n f g → field_numbered f.number (message_fields new n) ≡ Some g → field_numbered k (message_fields new n) ≡ Some g → (b : Bool) → keeps_kind old new f.kind g.kind ≡ b
             → AllSound (schema_of new) (a_message n) room (canon_holding old f h)
         by_kept g kept there e true keeps =
-            sound_holding old new (Pair old new rules_old rules_new start unbroken) room inside (canon-good old rules_old) n f.kind g.kind keeps (lead old new rules_old rules_new start unbroken m n k f g pair found e) f.name f.number f.shape g.shape h
+            sound_holding old new (Pair old new rules_old rules_new start unbroken (suc fields)) room inside (canon-good old rules_old) n f.kind g.kind keeps (lead old new rules_old rules_new start unbroken fields m n k f g pair found e) f.name f.number f.shape g.shape h
             (ap (read_field (a_message n)) there) (ap group_of_field there) (can_pack old m rules_old k f found) (may_be_value old m k f rules_old found) (key_kinds old m k f rules_old found) kept.shape shaped w declared known l short
         by_kept g kept there e false loses =
             let others = and_both (is_implicit f.shape) (keeps_others new f.kind g.kind) (ap (λ (b : Bool). b || (is_implicit f.shape && keeps_others new f.kind g.kind)) (sym loses) ∙ kept.kind) in
-            sound_others old new (Pair old new rules_old rules_new start unbroken) room inside (canon-good old rules_old) n f.number f.kind g.kind h f.shape others.0 others.1 shaped w f.name
+            sound_others old new (Pair old new rules_old rules_new start unbroken (suc fields)) room inside (canon-good old rules_old) n f.number f.kind g.kind h f.shape others.0 others.1 shaped w f.name
 
         by : (o : Option FieldView) → field_numbered k (message_fields new n) ≡ o → AllSound (schema_of new) (a_message n) room (canon_holding old f h)
         by None e =
             let deep = depth_holding old f h in
-            sound_lost_all old new (Pair old new rules_old rules_new start unbroken) room inside (canon-good old rules_old) n k (canon_holding old f h) e (numbered_at old (message_fields old m) (can_pack old m rules_old) k h f found) (omega (arith, deep, l))
+            sound_lost_all old new (Pair old new rules_old rules_new start unbroken (suc fields)) room inside (canon-good old rules_old) n k (canon_holding old f h) e (numbered_at old (message_fields old m) (can_pack old m rules_old) k h f found) (omega (arith, deep, l))
         by (Some g) e =
             let number : f.number ≡ k = found_number k (message_fields old m) f found in
-            by_kept g (kept_unbroken old new m n k f g (unbroken (m, n) pair) found e) (ap (λ (i : ℕ). field_numbered i (message_fields new n)) number ∙ e) e (keeps_kind old new f.kind g.kind) refl
+            by_kept g (kept_unbroken old new m n k f g (unbroken fields (m, n) few pair) found e) (ap (λ (i : ℕ). field_numbered i (message_fields new n)) number ∙ e) e (keeps_kind old new f.kind g.kind) refl
 
     sound_fields : (fs : Fields) → AreFields old (message_fields old m) fs → FieldsHaveNoUnknown fs → fields_depth fs ≤ room → AreWritable (canon_fields old (message_fields old m) fs) → AllSound (schema_of new) (a_message n) room (canon_fields old (message_fields old m) fs)
     sound_fields no_fields w known l short = AllSound.none
@@ -454,10 +454,10 @@ module _ (old new : Types) (rules_old : IsPool old) (rules_new : IsPool new) (st
 
   -- ALL LEVELS
 
-  sound_within : (room m n : ℕ) (v : Message) → Pair old new rules_old rules_new start unbroken m n → IsBody old m v → HasNoUnknown v → message_depth v ≤ room → AreWritable (canon old m v) → AllSound (schema_of new) (a_message n) room (canon old m v)
-  sound_within zero m n v pair w known l short = sound_body zero (λ i j x p b d k s. absurd (omega (arith, k))) m n pair v w known l short
-  sound_within (suc room) m n v pair w known l short =
-      sound_body (suc room) (λ i j x p b d k s. (room, refl, sound_within room i j x p b d (omega (arith, k)) s)) m n pair v w known l short
+  sound_within : (room fields m n : ℕ) (v : Message) → Pair old new rules_old rules_new start unbroken fields m n → fields + room ≤ 100 → IsBody old m v → HasNoUnknown v → message_depth v ≤ room → AreWritable (canon old m v) → AllSound (schema_of new) (a_message n) room (canon old m v)
+  sound_within zero fields m n v pair few w known l short = sound_body zero fields (omega (arith, few)) (λ i j x p b d k s. absurd (omega (arith, k))) m n pair v w known l short
+  sound_within (suc room) fields m n v pair few w known l short =
+      sound_body (suc room) fields (omega (arith, few)) (λ i j x p b d k s. (room, refl, sound_within room (suc fields) i j x p (omega (arith, few)) b d (omega (arith, k)) s)) m n pair v w known l short
 
 pub encodings_read : (old new : Types) → IsPool old → IsPool new → ReadsEncodings old new
 encodings_read old new rules_old rules_new m n unbroken v well known small =
@@ -468,7 +468,7 @@ encodings_read old new rules_old rules_new m n unbroken v well known small =
         derives = record {
           records = canon old m v;
           spelled = canon-spelled old m v rules_old well.parts small;
-          sound = sound_within old new rules_old rules_new (m, n) unbroken 100 m n v begun well.parts known well.depth (writable_records (canon old m v) g.numbered small);
+          sound = sound_within old new rules_old rules_new (m, n) unbroken 100 0 m n v begun_in (omega arith) well.parts known well.depth (writable_records (canon old m v) g.numbered small);
           valued = refl;
         };
       },

@@ -54,6 +54,8 @@ pub mod ReadingLemmas
 pub mod SampleLemmas
 -- packed lists of one element that another kind reads
 pub mod ElementLemmas
+-- packed lists of one number of a closed enum, as lists of a kind of another wire type
+pub mod ClosedLemmas
 -- values that the new kind does not read as the same, wherever they are
 pub mod LostValueLemmas
 -- values that the new kind reads otherwise, or whose records do not fit
@@ -78,3 +80,9 @@ pub mod FillLemmas
 pub mod BodyLemmas
 -- the messages that the call builds
 pub mod BuiltLemmas
+-- messages of one field that hold a message which is misread
+pub mod NestedLemmas
+-- what is built round a message that is misread, for a field that leads to its type
+pub mod RoundLemmas
+-- from types of a comparison back to those with which it began
+pub mod ClimbLemmas

@@ -25,6 +25,7 @@ use Rattle.pb_value.proofs.Numbers.{number_is, not_equal, differ_by, self_equal}
 use Rattle.pb_compat.specs.Scalars.{Meaning, integer, single, double_bits, octets, meaning, holds_number, declares_others}
 use Rattle.pb_compat.specs.Fields.{keeps_kind, keeps_others}
 use Rattle.pb_compat.specs.Samples.{sample, edge, IsValue, IsUnlike, never, otherwise, apart, IsUnfit, IsUnlikeEntry, never_entry, otherwise_entry, missing_entry, IsUnlikeElement, never_element, otherwise_element, IsNoDefault, IsLostValue}
+use Rattle.pb_compat.proofs.ClosedLemmas.{closed_element}
 use Rattle.pb_compat.proofs.ElementLemmas.{packed_of_read, byte_one, byte_two, IsOneIn, as_varint, as_four, as_eight, one_apart}
 use Rattle.pb_compat.proofs.SampleLemmas.{sample_value, edge_value, number_value, form_of, never_scalar, never_message, never_undeclared, is_searched, unlike_same_wire, unlike_number, sample_typed, open_unlike}
 
@@ -202,7 +203,7 @@ open_lost old new a b d unclosed keeps looked same other = by (wire_type_of a ==
           unlike = u;
           other = λ c k. edge_other a;
           in_entry = λ p q. entry_of_unlike old new a b (edge a) wires u;
-          in_packed = λ packs c. element_of_unlike old new a b (edge a) v packs wires u;
+          in_packed = λ packs. element_of_unlike old new a b (edge a) v packs wires u;
         }
     by false e =
         let r = sample_apart old new a b unclosed e in
@@ -211,7 +212,7 @@ open_lost old new a b d unclosed keeps looked same other = by (wire_type_of a ==
           unlike = open_unlike old new a b (sample a) unclosed keeps looked (λ w. absurd (clash (sym e ∙ (ap (λ (x : ℕ). x == wire_type_of b) w ∙ self_equal (wire_type_of b))))) (λ w. refl);
           other = λ c k. sample_other a;
           in_entry = r.in_entry;
-          in_packed = λ packs c. r.in_packed packs;
+          in_packed = r.in_packed;
         }
       where
         clash : false ≡ true → ⊥
@@ -227,20 +228,20 @@ number_lost old new i b z fits there lost =
       unlike = u;
       other = λ c k. absurd (cc);
       in_entry = λ p q. absurd (cc);
-      in_packed = λ packs c. by_wires v u packs c;
+      in_packed = λ packs. by_wires v u packs (equal_or_not (wire_type_of (kind.ClosedEnum i)) (wire_type_of b));
     }
   where
-    by_wires : IsValue old (kind.ClosedEnum i) (scalar (enum z)) → IsUnlike old new (kind.ClosedEnum i) b (scalar (enum z)) → is_packable (kind.ClosedEnum i) ≡ true → (closed_enum (kind.ClosedEnum i) ≡ None) ⊎ (wire_type_of (kind.ClosedEnum i) ≡ wire_type_of b)
-        → IsUnlikeElement old new (kind.ClosedEnum i) b (scalar (enum z))
-    by_wires v u packs (inl c) = absurd (cc)
-    by_wires v u packs (inr wires) = element_of_unlike old new (kind.ClosedEnum i) b (scalar (enum z)) v packs wires u
+    by_wires : IsValue old (kind.ClosedEnum i) (scalar (enum z)) → IsUnlike old new (kind.ClosedEnum i) b (scalar (enum z)) → is_packable (kind.ClosedEnum i) ≡ true
+        → (wire_type_of (kind.ClosedEnum i) ≡ wire_type_of b) ⊎ (wire_type_of (kind.ClosedEnum i) ≢ wire_type_of b) → IsUnlikeElement old new (kind.ClosedEnum i) b (scalar (enum z))
+    by_wires v u packs (inl wires) = element_of_unlike old new (kind.ClosedEnum i) b (scalar (enum z)) v packs wires u
+    by_wires v u packs (inr other) = closed_element old new i b z fits (λ e. other (sym e))
 
 -- a value whose number the new closed enum does not declare
 pub undeclared_lost : (old new : Types) (a : Kind) (i : EnumId) (x : Scalar) (z : ℤ) → IsValue old a (scalar x) → meaning x ≡ integer z → declares new i.0 z ≡ false → (keeps_others new a (kind.ClosedEnum i) ≡ false → is_default x ≡ false)
     → IsLostValue old new a (kind.ClosedEnum i) (scalar x)
 undeclared_lost old new a i x z v means none other =
     let n = never_undeclared old new a i x z means none in
-    record { value = v; unlike = never n; other = λ c k. other k; in_entry = λ p q. absurd (cc); in_packed = λ packs c. never_element n }
+    record { value = v; unlike = never n; other = λ c k. other k; in_entry = λ p q. absurd (cc); in_packed = λ packs. never_element n }
 
 -- a number of 32 bits
 number_default : (z : ℤ) → z ≢ pos 0 → is_default (int32 z) ≡ false

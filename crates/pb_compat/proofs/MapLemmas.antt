@@ -28,11 +28,11 @@ use Rattle.pb_compat.specs.Witness.{alone, AreFieldsAt, MapIsShown}
 use Rattle.pb_compat.proofs.FieldLemmas.{read_wire}
 use Rattle.pb_compat.proofs.HoldingLemmas.{open_declared, key_open}
 use Rattle.pb_compat.proofs.NeverLemmas.{MayHold, never_key, never_map}
-use Rattle.pb_compat.proofs.OtherwiseLemmas.{got, gives, gives_one, none_unknown}
+use Rattle.pb_compat.proofs.OtherwiseLemmas.{got, gives, gives_one}
 use Rattle.pb_compat.proofs.ReadingLemmas.{AreAt, read_whole}
 use Rattle.pb_compat.proofs.ShownLemmas.{can_hold}
 use Rattle.pb_compat.proofs.WholeLemmas.{key_kinds, may_be_value}
-use Rattle.pb_compat.proofs.WitnessLemmas.{CanHold, IsMisread, alone_shows, same_alone, witness_alone, witness_read}
+use Rattle.pb_compat.proofs.WitnessLemmas.{CanHold, IsMisread, alone_shows, same_alone, none_unknown, witness_alone, witness_read}
 
 module _ (old new : Types) (inner : ℕ → List Record → Message) (key l a b : Kind) (x : Scalar) (d : Datum) where
   -- KEYS
@@ -56,7 +56,7 @@ module _ (old new : Types) (inner : ℕ → List Record → Message) (key l a b 
 
   -- VALUES
 
-  value_by : (t : Bool) → (wire_type (payload_of old a d) == wire_type_of b) ≡ t
+  pub value_by : (t : Bool) → (wire_type (payload_of old a d) == wire_type_of b) ≡ t
       → entry_value inner b (entry_records old key a x d) ≡ unwrap_or (one_value inner b (cond t (record_of 2 (payload_of old a d) ∷ []) [])) (missing inner b)
   value_by t e = ap (λ (c : Bool). unwrap_or (one_value inner b (cond c (record_of 2 (payload_of old a d) ∷ []) [])) (missing inner b)) e
 
@@ -114,13 +114,13 @@ module _ (old new : Types) (rules_old : IsPool old) (rules_new : IsPool new) (m 
       witness_read old new rules_old rules_new m n k f g at.old_field at.new_field h can
       (λ levels w e a.
       let inner : ℕ → List Record → Message = value_within new levels in
-      let whole = read_whole new rules_new n k g at.new_field levels (canon_holding old f h) w (subst (AreAt k) (sym map_record) (number, tt)) e (none_unknown old new rules_old rules_new m n k f g at.old_field at.new_field h can w a) in
+      let whole = read_whole new rules_new n k g at.new_field levels (canon_holding old f h) w (subst (AreAt k) (sym map_record) (number, tt)) e (none_unknown old new m n k f g at.old_field at.new_field h w a) in
       let read : get_field k (fields_of w) ≡ Some (map_of (entry (entry_key inner l (entry_records old key f.kind x d)) (entry_value inner g.kind (entry_records old key f.kind x d)) no_entries)) =
       whole.holds ∙ ap (held_as inner g.shape g.kind) whole_record ∙ ap (λ (s : Shape). held_as inner s g.kind (entry_record ∷ [])) stays
       ∙ ap (λ (rs : List Record). unless_no_entries ((entry_key inner l rs, entry_value inner g.kind rs) ∷ [])) (records_spelled-shortest (entry_records old key f.kind x d) good.in_range good.numbered) in
       other inner
       (subst (λ (s : Shape). HoldsSame old new f.kind g.kind s h (Some (map_of (entry (entry_key inner l (entry_records old key f.kind x d)) (entry_value inner g.kind (entry_records old key f.kind x d)) no_entries)))) stays
-      (subst (HoldsSame old new f.kind g.kind g.shape h) read (same_alone old new rules_old rules_new m n k f g at.old_field at.new_field h can w a))))
+      (subst (HoldsSame old new f.kind g.kind g.shape h) read (same_alone old new m n k f g at.old_field at.new_field h w a))))
 
 -- KEYS OR VALUES
 

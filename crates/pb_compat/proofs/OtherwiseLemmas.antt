@@ -31,7 +31,7 @@ use Rattle.pb_compat.specs.Witness.{alone}
 use Rattle.pb_compat.proofs.ContentLemmas.{IsCounted}
 use Rattle.pb_compat.proofs.FieldLemmas.{read_wire, read_scalar, packable_wire, elements_read}
 use Rattle.pb_compat.proofs.ReadingLemmas.{AreAt, read_whole}
-use Rattle.pb_compat.proofs.WitnessLemmas.{CanHold, IsMisread, same_alone, witness_read}
+use Rattle.pb_compat.proofs.WitnessLemmas.{CanHold, IsMisread, same_alone, none_unknown, witness_read}
 
 -- A SCALAR THAT IS READ OTHERWISE
 
@@ -82,7 +82,7 @@ uncut_open (len s) true None n = tt
 uncut_open (len s) true (Some e) n = absurd (cc)
 uncut_open (len s) false e n = tt
 
-open_shaped : (t : Shape) (b : Kind) → closed_enum b ≡ None → closed_shaped t b ≡ None
+pub open_shaped : (t : Shape) (b : Kind) → closed_enum b ≡ None → closed_shaped t b ≡ None
 open_shaped (shape.Map key) b e = refl
 open_shaped (shape.List p) b e = e
 open_shaped shape.Implicit b e = e
@@ -118,11 +118,6 @@ module _ (old new : Types) (rules_old : IsPool old) (rules_new : IsPool new) (m 
   abbrev gs : List FieldView
   gs = message_fields new n
 
-  -- the new type declares the field, so a message that agrees has no unknown records
-  pub none_unknown : (w : Message) → Agrees old new m n (alone k h) w → unknown_of w ≡ []
-  none_unknown w a =
-      a.2 ∙ ap (λ (o : Option FieldView). canon_fields old (message_fields old m) (if not (is_some o) then field k h no_fields else no_fields)) found_g
-
   module _ (d : Datum) (single : canon_holding old f h ≡ record_of f.number (payload_of old f.kind d) ∷ []) (typed : IsDatum old f.kind d) (plain : is_map g.shape ≡ false) where
     abbrev record_written : Record
     record_written = record_of f.number (payload_of old f.kind d)
@@ -144,7 +139,7 @@ module _ (old new : Types) (rules_old : IsPool old) (rules_new : IsPool new) (m 
         let no : fits_shape g.shape g.kind (wire_type (payload_of old f.kind d)) ≡ false = ap (fits_shape g.shape g.kind) (wire_type-payload_of old f.kind d typed) ∙ unfit g.shape plain in
         witness_read old new rules_old rules_new m n k f g found_f found_g h can
         (λ levels w e a.
-        let whole = read_whole new rules_new n k g found_g levels (canon_holding old f h) w at e (none_unknown w a) in
+        let whole = read_whole new rules_new n k g found_g levels (canon_holding old f h) w at e (none_unknown old new m n k f g found_f found_g h w a) in
         let counted = subst (AllByRecursion (IsCounted new k g.shape g.kind)) (alone_settled (uncut_unfit g.shape g.kind (payload_of old f.kind d) no)) whole.counted in
         clash (sym no ∙ counted.0.1))
       where
@@ -157,7 +152,7 @@ module _ (old new : Types) (rules_old : IsPool old) (rules_new : IsPool new) (m 
     witness_otherwise u other =
         witness_read old new rules_old rules_new m n k f g found_f found_g h can
         (λ levels w e a.
-        let whole = read_whole new rules_new n k g found_g levels (canon_holding old f h) w at e (none_unknown w a) in
+        let whole = read_whole new rules_new n k g found_g levels (canon_holding old f h) w at e (none_unknown old new m n k f g found_f found_g h w a) in
         other (value_within new levels)
         (subst (HoldsSame old new f.kind g.kind g.shape h) (whole.holds ∙ ap (held_as (value_within new levels) g.shape g.kind) (alone_settled u))
-        (same_alone old new rules_old rules_new m n k f g found_f found_g h can w a)))
+        (same_alone old new m n k f g found_f found_g h w a)))

@@ -4,17 +4,21 @@ use Rattle.std.specs.Prelude.{if◌then◌else◌}
 use Rattle.std.specs.Int.{cast_signed, w32}
 use Rattle.std.specs.List.{filter_map}
 use Rattle.pb_wire.specs.Record.{varint, len, Record}
+use Rattle.pb_wire.specs.Schema as wire
+use Rattle.pb_wire.specs.Sound.{AllSound, AreElements}
 use Rattle.pb_wire.specs.Varint.{groups_value}
+use Rattle.pb_wire.proofs.Fronts.{sound_list}
 use Rattle.pb_schema.specs.declared.types.Kind.{Kind}
 use Rattle.pb_schema.specs.declared.types.Kind.TheVariants as kind
 use Rattle.pb_schema.specs.declared.types.Shape.{Shape}
 use Rattle.pb_schema.specs.declared.types.Shape.TheVariants as shape
 use Rattle.pb_schema.specs.Types.{FieldView, Types, message_fields, field_numbered}
 use Rattle.pb_schema.specs.Scalar.{Scalar, enum}
-use Rattle.pb_schema.specs.Kinds.{message_of_kind, closed_enum, read}
+use Rattle.pb_schema.specs.Kinds.{is_packable, message_of_kind, closed_enum, read}
 use Rattle.pb_schema.specs.Packed.{varints_of, elements, element_bytes, numbers_of}
 use Rattle.pb_schema.specs.Closed.{closed_of, closed_shaped, is_list_field, numbered, cut_as, cut_at, settled}
 use Rattle.pb_schema.specs.Closed as closed
+use Rattle.pb_schema.specs.Context.{a_message, element_of, read_field, read_shaped, schema_of}
 use Rattle.pb_schema.specs.Rules.{IsPool}
 use Rattle.pb_value.specs.Data.{Datum, scalar, no_datums, datum, Holding, list, Message}
 use Rattle.pb_value.specs.Value.{all_elements, unless_no_elements, list_values, held_as, value_within}
@@ -25,13 +29,14 @@ use Rattle.pb_value.proofs.Numbers.{found_number}
 use Rattle.pb_value.proofs.ShapeSteps.{list_values-scalar}
 use Rattle.pb_compat.specs.Fields.{is_list}
 use Rattle.pb_compat.specs.Agrees.{HoldsSame}
-use Rattle.pb_compat.specs.Samples.{IsValue, IsReadOtherwisePacked, IsUnlikeElement, never_element, otherwise_element}
+use Rattle.pb_compat.specs.Samples.{IsValue, IsReadOtherwisePacked, IsUnlikeElement, never_element, unsound_element, otherwise_element}
 use Rattle.pb_compat.specs.Witness.{alone, AreFieldsAt, PackedIsShown}
+use Rattle.pb_compat.proofs.EncodingLemmas.{reads_packed}
 use Rattle.pb_compat.proofs.NeverLemmas.{never_list}
-use Rattle.pb_compat.proofs.OtherwiseLemmas.{none_unknown, uncut_open}
+use Rattle.pb_compat.proofs.OtherwiseLemmas.{uncut_open}
 use Rattle.pb_compat.proofs.ReadingLemmas.{AreAt, read_whole}
 use Rattle.pb_compat.proofs.ShownLemmas.{can_hold}
-use Rattle.pb_compat.proofs.WitnessLemmas.{CanHold, IsMisread, alone_shows, same_alone, witness_alone, witness_read}
+use Rattle.pb_compat.proofs.WitnessLemmas.{CanHold, IsMisread, alone_shows, same_alone, none_unknown, witness_alone, witness_read, witness_sound, first_sound}
 
 -- lists for what is cut
 cut_lists : (t : Shape) → is_list t ≡ true → closed.is_list t ≡ true
@@ -85,10 +90,10 @@ module _ (old new : Types) (rules_old : IsPool old) (rules_new : IsPool new) (m 
       witness_read old new rules_old rules_new m n k f g at.old_field at.new_field element can
       (λ levels w e a.
       let numbered_so = subst (AreAt k) (sym alone_record) (found_number k (message_fields old m) f at.old_field, tt) in
-      let whole = read_whole new rules_new n k g at.new_field levels (canon_holding old f element) w numbered_so e (none_unknown old new rules_old rules_new m n k f g at.old_field at.new_field element can w a) in
+      let whole = read_whole new rules_new n k g at.new_field levels (canon_holding old f element) w numbered_so e (none_unknown old new m n k f g at.old_field at.new_field element w a) in
       other (value_within new levels)
       (subst (HoldsSame old new f.kind g.kind g.shape element) (whole.holds ∙ ap (held_as (value_within new levels) g.shape g.kind) settles)
-      (same_alone old new rules_old rules_new m n k f g at.old_field at.new_field element can w a)))
+      (same_alone old new m n k f g at.old_field at.new_field element w a)))
 
   -- what the new kind reads of the list
   one_element : (ys : List Scalar) → elements g.kind (len (element_bytes f.kind x)) ≡ ys → IsReadOtherwisePacked f.kind g.kind (scalar x) → (t : Shape)
@@ -150,12 +155,32 @@ module _ (old new : Types) (rules_old : IsPool old) (rules_new : IsPool new) (m 
       by None e = open_list o e
       by (Some i) e = closed_list o i e
 
+module _ (old new : Types) (rules_old : IsPool old) (rules_new : IsPool new) (m n k : ℕ) (f g : FieldView) (at : AreFieldsAt old new m n k f g) (packed : f.shape ≡ shape.List true)
+    (listed : is_list g.shape ≡ true) (x : Scalar) (v : IsValue old f.kind (scalar x)) where
+  reads_list : (t : Shape) → is_list t ≡ true → is_packable g.kind ≡ true → read_shaped (a_message n) t g.kind ≡ wire.packed (element_of g.kind)
+  reads_list (shape.List p) e packs = reads_packed (a_message n) g.kind packs
+  reads_list shape.Implicit e packs = absurd (cc)
+  reads_list shape.Explicit e packs = absurd (cc)
+  reads_list (shape.OneofMember o) e packs = absurd (cc)
+  reads_list (shape.Map key) e packs = absurd (cc)
+
+  -- the bytes are no whole elements, so the record is not sound
+  pub packed_unsound : is_packable g.kind ≡ true → (AreElements (element_of g.kind) (element_bytes f.kind x) → ⊥) → IsMisread old new m n (alone k (list (datum (scalar x) no_datums)))
+  packed_unsound packs never =
+      witness_sound old new rules_old rules_new m n k f g at.old_field at.new_field (list (datum (scalar x) no_datums)) (can old new rules_old rules_new m n k f g at packed listed x v)
+      (λ levels sound.
+      let bytes = packed_bytes f.kind (datum (scalar x) no_datums) in
+      let first = first_sound (subst (AllSound (schema_of new) (a_message n) levels) (alone_record old new rules_old rules_new m n k f g at packed listed x v) sound) in
+      let reading = ap (read_field (a_message n)) (there old new rules_old rules_new m n k f g at packed listed x v) ∙ reads_list g.shape listed packs in
+      never (subst (AreElements (element_of g.kind)) (append-nil (element_bytes f.kind x)) (sound_list bytes (element_of g.kind) first refl reading)))
+
 pub packed_is_misread : (old new : Types) → IsPool old → IsPool new → (m n k : ℕ) (f g : FieldView) (x : Scalar) → AreFieldsAt old new m n k f g → f.shape ≡ shape.List true → is_list g.shape ≡ true
     → IsValue old f.kind (scalar x) → IsUnlikeElement old new f.kind g.kind (scalar x) → IsMisread old new m n (alone k (list (datum (scalar x) no_datums)))
 packed_is_misread old new rules_old rules_new m n k f g x at packed listed v (never_element nv) =
     witness_alone old new rules_old rules_new m n k f g at.old_field at.new_field (list (datum (scalar x) no_datums))
     (can old new rules_old rules_new m n k f g at packed listed x v)
     (λ o may same. never_list old new g.shape f.kind g.kind (scalar x) no_datums o nv may same)
+packed_is_misread old new rules_old rules_new m n k f g x at packed listed v (unsound_element packs u) = packed_unsound old new rules_old rules_new m n k f g at packed listed x v packs u
 packed_is_misread old new rules_old rules_new m n k f g x at packed listed v (otherwise_element o) = packed_otherwise old new rules_old rules_new m n k f g at packed listed x v o
 
 pub packed_is_shown : (old new : Types) → IsPool old → IsPool new → PackedIsShown old new

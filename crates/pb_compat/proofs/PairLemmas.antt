@@ -137,10 +137,12 @@ module _ (old new : Types) (rules_old : IsPool old) (rules_new : IsPool new) (m 
 
   pub pair_misread : k < j → IsMisread old new m n (pair k h j i)
   pair_misread less = record {
-    parts = (pair_well less).parts;
-    known = (refl, (can.known, (can_too.known, tt)));
-    short = let small = pair_small in omega (arith, small);
-    unread = λ levels w deep b e a.
+    plain = record {
+      parts = (pair_well less).parts;
+      known = (refl, (can.known, (can_too.known, tt)));
+      short = let small = pair_small in omega (arith, small);
+    };
+    unread = λ levels w deep sound b e a.
         unread_by w b (λ e. omega (arith, less, e))
         (at_some (field_numbered k (message_fields new n)) (λ x. HoldsSame old new f.kind x.kind x.shape h (get_field k (fields_of w))) g
         (at_some (field_numbered k (message_fields old m)) (λ y. IfSome (field_numbered k (message_fields new n)) (λ x. HoldsSame old new y.kind x.kind x.shape h (get_field k (fields_of w)))) f a.0.0 at.old_field) at.new_field)

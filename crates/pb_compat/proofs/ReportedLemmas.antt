@@ -1,5 +1,5 @@
 -- Where a comparison reports no difference that breaks reading, there is none between types that are reached.
-use Rattle.std.proofs.Common.{◌≡◌, ◌≢◌, ⊎_elim, ℕ, List, [], ◌∷◌, map, Bool, true, false, ◌||◌, Option, Some, None, refl, sym, ◌∙◌, ap, subst, Contains}
+use Rattle.std.proofs.Common.{◌≡◌, ◌≢◌, ⊎_elim, ℕ, zero, suc, List, [], ◌∷◌, map, Bool, true, false, ◌||◌, Option, Some, None, refl, sym, ◌∙◌, ap, subst, Contains}
 use Rattle.std.specs.Prelude.{flat_map}
 use Rattle.std.specs.List.{AllByRecursion, list_any}
 use Rattle.std.proofs.lemmas.List.Elements.{Contains-append_left, Contains-append_right}
@@ -13,7 +13,7 @@ use Rattle.pb_compat.specs.declared.difference.Severity.{Severity}
 use Rattle.pb_compat.specs.declared.difference.Severity.TheVariants.{BreaksReading}
 use Rattle.pb_compat.specs.Oneofs.{is_crowded}
 use Rattle.pb_compat.specs.Fields.{severities_at, differences_of, differences_at}
-use Rattle.pb_compat.specs.Pairs.{AreDifferences, IsComparison, IsComparisonFrom, Reached, ReachedFrom, begun, further, given, onward, types_of}
+use Rattle.pb_compat.specs.Pairs.{AreDifferences, IsComparison, IsComparisonFrom, Reached, ReachedIn, ReachedFrom, begun, further, begun_in, further_in, given, onward, types_of}
 use Rattle.pb_compat.specs.Agrees.{NothingBreaks, IsReadAs, is_break, break_among, break_in}
 use Rattle.pb_compat.proofs.NumberLemmas.{found_number}
 use Rattle.pb_compat.proofs.EncodingLemmas.{encodings_read}
@@ -57,10 +57,15 @@ differences_listed old new m n ds k d are h = by (field_numbered k (message_fiel
 no_break : (s : Severity) → is_break s ≡ false → s ≢ BreaksReading
 no_break s e same = let z : is_break BreaksReading ≡ false = subst (λ (t : Severity). is_break t ≡ false) same e in absurd (cc)
 
+-- what is reached by some fields is reached
+reached_by_fields : (old new : Types) (start p : ℕ × ℕ) (fields : ℕ) → ReachedIn old new start fields p → Reached old new start p
+reached_by_fields old new start p zero begun_in = begun
+reached_by_fields old new start q (suc fields) (further_in {p = p} k r to) = further k (reached_by_fields old new start p fields r) to
+
 nothing_breaks : (old new : Types) (m n : ℕ) (cs : List ComparedTypes) → ((p : ℕ × ℕ) → Reached old new (m, n) p → Contains (map types_of cs) p)
     → AllByRecursion (λ c. AreDifferences old new c.old.0 c.new.0 c.differences.items) cs → break_in cs ≡ false → NothingBreaks old new m n
-nothing_breaks old new m n cs has are none p reached k d h =
-    let c = mapped_from types_of cs p (has p reached) (λ c. AreDifferences old new c.old.0 c.new.0 c.differences.items) are (λ c. break_among c.differences.items) none in
+nothing_breaks old new m n cs has are none fields p few reached k d h =
+    let c = mapped_from types_of cs p (has p (reached_by_fields old new (m, n) p fields reached)) (λ c. AreDifferences old new c.old.0 c.new.0 c.differences.items) are (λ c. break_among c.differences.items) none in
     let compared : AreDifferences old new p.0 p.1 c.0.differences.items = subst (λ (q : ℕ × ℕ). AreDifferences old new q.0 q.1 c.0.differences.items) c.1 c.2 in
     no_break d.severity (none_passes (λ x. is_break x.severity) c.0.differences.items d c.3 (differences_listed old new p.0 p.1 c.0.differences.items k d compared h))
 

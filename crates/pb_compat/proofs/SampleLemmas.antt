@@ -616,16 +616,16 @@ unz_neg m n total sum small width = by (m % 2 == 0) refl
 low_pos : (n : ℕ) → FitsSigned w32 (pos n) → cast_unsigned w64 (pos n) % 2 ^ 32 ≡ n
 low_pos n h = grind (arith, ints)
 
-long_pos : (n : ℕ) → FitsSigned w32 (pos n) → cast_unsigned w64 (pos n) ≡ n
+pub long_pos : (n : ℕ) → FitsSigned w32 (pos n) → cast_unsigned w64 (pos n) ≡ n
 long_pos n h = grind (arith, ints)
 
 low_neg : (n : ℕ) → FitsSigned w32 (negsuc n) → cast_unsigned w64 (negsuc n) % 2 ^ 32 + n + 1 ≡ 2 ^ 32
 low_neg n h = grind (arith, ints)
 
-long_neg : (n : ℕ) → FitsSigned w32 (negsuc n) → cast_unsigned w64 (negsuc n) + n + 1 ≡ 2 ^ 64
+pub long_neg : (n : ℕ) → FitsSigned w32 (negsuc n) → cast_unsigned w64 (negsuc n) + n + 1 ≡ 2 ^ 64
 long_neg n h = grind (arith, ints)
 
-small_neg : (n : ℕ) → FitsSigned w32 (negsuc n) → n < 2 ^ 31
+pub small_neg : (n : ℕ) → FitsSigned w32 (negsuc n) → n < 2 ^ 31
 small_neg n h = grind (arith, ints)
 
 no_zero : (n : ℕ) → (n == 0) ≡ false → integer (pos 0) ≢ integer (pos n)

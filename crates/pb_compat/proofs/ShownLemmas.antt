@@ -33,7 +33,7 @@ use Rattle.pb_compat.proofs.WitnessLemmas.{CanHold, IsMisread, alone_shows, witn
 
 -- WHAT A FIELD CAN HOLD
 
-field_number : (pool : Types) (m n : ℕ) (f : FieldView) → IsPool pool → field_numbered n (message_fields pool m) ≡ Some f → IsFieldNumber f.number
+pub field_number : (pool : Types) (m n : ℕ) (f : FieldView) → IsPool pool → field_numbered n (message_fields pool m) ≡ Some f → IsFieldNumber f.number
 field_number pool m n f rules e =
     (found_in (λ (g : FieldView). (t : MessageView) × IsFieldNumber g.number) n (message_fields pool m) f (fields_all (λ t g. IsFieldNumber g.number) pool pool.messages m rules.fields.shapes.numbers) e).1
 

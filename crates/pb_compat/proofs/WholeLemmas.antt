@@ -1,5 +1,5 @@
 -- What the new type reads of the canonical records of a message of any depth.
-use Rattle.std.proofs.Common.{◌≡◌, ℕ, zero, suc, ◌<◌, ◌≤◌, List, [], ◌∷◌, ◌++◌, Bool, true, false, ◌&&◌, ◌||◌, Option, Some, None, refl, sym, ◌∙◌, ap, subst, arith, append-nil}
+use Rattle.std.proofs.Common.{◌≡◌, ℕ, zero, suc, ◌+◌, ◌<◌, ◌≤◌, List, [], ◌∷◌, ◌++◌, Bool, true, false, ◌&&◌, ◌||◌, Option, Some, None, refl, sym, ◌∙◌, ap, subst, arith, append-nil}
 use Rattle.std.specs.Prelude.{option_and_then}
 use Rattle.std.specs.List.{AllByRecursion}
 use Rattle.pb_wire.specs.Record.{Record, wire_type}
@@ -26,7 +26,7 @@ use Rattle.pb_value.proofs.OpenedLemmas.{opened_shape}
 use Rattle.pb_value.proofs.Options.{some_of}
 use Rattle.pb_compat.specs.Oneofs.{is_crowded}
 use Rattle.pb_compat.specs.Fields.{keeps_kind, keeps_others, keeps_shape, is_in_crowd}
-use Rattle.pb_compat.specs.Pairs.{pair_of, message_at, Reached, begun, further}
+use Rattle.pb_compat.specs.Pairs.{pair_of, message_at, ReachedIn, begun_in, further_in}
 use Rattle.pb_compat.specs.Agrees.{NoneBreaks}
 use Rattle.pb_compat.specs.Agrees.{Agrees, HasNoUnknown, FieldsHaveNoUnknown, HoldsNoUnknown, ReadsMessages}
 use Rattle.pb_compat.proofs.BreaksLemmas.{IsKept, kept_unbroken}
@@ -85,20 +85,20 @@ held_carries pool k (map es) p w = w
 
 -- ONE LEVEL
 
-module _ (old new : Types) (rules_old : IsPool old) (rules_new : IsPool new) (start : ℕ × ℕ) (unbroken : (p : ℕ × ℕ) → Reached old new start p → NoneBreaks old new p.0 p.1) where
-  abbrev pub Pair : ℕ → ℕ → Type 0
-  Pair m n = Reached old new start (m, n)
+module _ (old new : Types) (rules_old : IsPool old) (rules_new : IsPool new) (start : ℕ × ℕ) (unbroken : (fields : ℕ) (p : ℕ × ℕ) → fields ≤ 100 → ReachedIn old new start fields p → NoneBreaks old new p.0 p.1) where
+  abbrev pub Pair : ℕ → ℕ → ℕ → Type 0
+  Pair fields m n = ReachedIn old new start fields (m, n)
 
   -- where the fields of a number lead
-  pub lead : (m n k : ℕ) (f g : FieldView) → Pair m n → field_numbered k (message_fields old m) ≡ Some f → field_numbered k (message_fields new n) ≡ Some g
-      → (i j : ℕ) → message_of_kind f.kind ≡ Some i → message_of_kind g.kind ≡ Some j → Pair i j
-  lead m n k f g pair found_f found_g i j from to =
-      further k pair
+  pub lead : (fields m n k : ℕ) (f g : FieldView) → Pair fields m n → field_numbered k (message_fields old m) ≡ Some f → field_numbered k (message_fields new n) ≡ Some g
+      → (i j : ℕ) → message_of_kind f.kind ≡ Some i → message_of_kind g.kind ≡ Some j → Pair (suc fields) i j
+  lead fields m n k f g pair found_f found_g i j from to =
+      further_in k pair
       (ap (λ (o : Option ℕ). pair_of o (message_at new n k)) (ap (option_and_then (λ (x : FieldView). message_of_kind x.kind)) found_f ∙ from)
       ∙ ap (pair_of (Some i)) (ap (option_and_then (λ (x : FieldView). message_of_kind x.kind)) found_g ∙ to))
 
-  module _ (m n levels : ℕ) (inner : ℕ → List Record → Message) (pair : Pair m n)
-      (inside : (i j : ℕ) (v : Message) → Pair i j → IsBody old i v → HasNoUnknown v → message_depth v < levels → Agrees old new i j v (inner j (canon old i v))) where
+  module _ (fields m n levels : ℕ) (inner : ℕ → List Record → Message) (few : fields ≤ 100) (pair : Pair fields m n)
+      (inside : (i j : ℕ) (v : Message) → Pair (suc fields) i j → IsBody old i v → HasNoUnknown v → message_depth v < levels → Agrees old new i j v (inner j (canon old i v))) where
     abbrev all : List FieldView
     all = message_fields old m
 
@@ -137,7 +137,7 @@ module _ (old new : Types) (rules_old : IsPool old) (rules_new : IsPool new) (st
         → IsOfShape f.shape h → IsHeld old f.shape f.kind h → holds_declared old f.kind h ≡ true → HoldsNoUnknown h → holding_depth h ≤ levels → FieldRead old new gs inner k f g h
     kept_read_at k f g h found_f found_g keeps fit shaped w declared none l =
         let can = can_pack old m rules_old k f found_f in
-        let content = content_read old new inner Pair levels inside (canon-good old rules_old) f.kind g.kind keeps (lead m n k f g pair found_f found_g) f.shape h (may_be_value old m k f rules_old found_f) w declared none l in
+        let content = content_read old new inner (Pair (suc fields)) levels inside (canon-good old rules_old) f.kind g.kind keeps (lead fields m n k f g pair found_f found_g) f.shape h (may_be_value old m k f rules_old found_f) w declared none l in
         let number : f.number ≡ k = found_number k all f found_f in
         let there : field_numbered f.number gs ≡ Some g = ap (λ (i : ℕ). field_numbered i gs) number ∙ found_g in
         let can_still : MayBePacked (opened_for g.shape g.kind f.shape) f.kind = opened_carries (λ s. MayBePacked s f.kind) (λ p x. tt) g.shape g.kind f.shape can in
@@ -157,7 +157,7 @@ module _ (old new : Types) (rules_old : IsPool old) (rules_new : IsPool new) (st
     field_read k f g h found_f found_g shaped w declared none l = by (keeps_kind old new f.kind g.kind) refl
       where
         kept : IsKept old new m n f g
-        kept = kept_unbroken old new m n k f g (unbroken (m, n) pair) found_f found_g
+        kept = kept_unbroken old new m n k f g (unbroken fields (m, n) few pair) found_f found_g
 
         by : (b : Bool) → keeps_kind old new f.kind g.kind ≡ b → FieldRead old new gs inner k f g h
         by true e = kept_read_at k f g h found_f found_g e kept.shape shaped w declared none l
@@ -183,21 +183,21 @@ module _ (old new : Types) (rules_old : IsPool old) (rules_new : IsPool new) (st
         let read = read_fields fs w.0 none.1 l in
         let differ = numbers_differ new n rules_new in
         let calm : (k : ℕ) (f g : FieldView) → field_numbered k all ≡ Some f → field_numbered k gs ≡ Some g → is_in_crowd (is_crowded all gs) g.shape ≡ false =
-        λ k f g found_f found_g. (kept_unbroken old new m n k f g (unbroken (m, n) pair) found_f found_g).calm in
+        λ k f g found_f found_g. (kept_unbroken old new m n k f g (unbroken fields (m, n) few pair) found_f found_g).calm in
         let same : canon old m (body fs us) ≡ canon_fields old all fs = ap (λ (rs : List Record). canon_fields old all fs ++ rs) none.0 ∙ append-nil (canon_fields old all fs) in
         subst (λ (rs : List Record). Agrees old new m n (body fs us) (body (fields_held inner gs gs (known new gs rs)) (unknown new gs rs))) (sym same)
         (fields_agree old new all gs inner differ fs w.1 w.0 w.2 read calm, nothing_more old new all gs inner differ fs w.1 w.0 w.2 read calm, unknown_fields old new all gs inner fs read)
 
   -- ALL LEVELS
 
-  within_agrees : (levels m n : ℕ) (v : Message) → Pair m n → IsBody old m v → HasNoUnknown v → message_depth v < levels → Agrees old new m n v (value_within new levels n (canon old m v))
+  within_agrees : (levels fields m n : ℕ) (v : Message) → Pair fields m n → fields + levels ≤ 101 → IsBody old m v → HasNoUnknown v → message_depth v < levels → Agrees old new m n v (value_within new levels n (canon old m v))
   unfolding value_within
-  within_agrees zero m n v pair w none l = absurd (omega (arith, l))
-  within_agrees (suc levels) m n (body fs us) pair w none l =
-      body_agrees m n levels (value_within new levels) pair (λ i j v p b x d. within_agrees levels i j v p b x d) fs us w none (omega (arith, l))
+  within_agrees zero fields m n v pair few w none l = absurd (omega (arith, l))
+  within_agrees (suc levels) fields m n (body fs us) pair few w none l =
+      body_agrees fields m n levels (value_within new levels) (omega (arith, few)) pair (λ i j v p b x d. within_agrees levels (suc fields) i j v p (omega (arith, few)) b x d) fs us w none (omega (arith, l))
 
 pub messages_read : (old new : Types) → IsPool old → IsPool new → ReadsMessages old new
 unfolding value
 messages_read old new rules_old rules_new m n unbroken v w none =
     let deep = w.depth in
-    within_agrees old new rules_old rules_new (m, n) unbroken 101 m n v begun w.parts none (omega (arith, deep))
+    within_agrees old new rules_old rules_new (m, n) unbroken 101 0 m n v begun_in (omega arith) w.parts none (omega (arith, deep))

@@ -1,5 +1,5 @@
 -- When a message of the new type holds what a message of the old type held, at every level.
-use Rattle.std.specs.Prelude.{◌≡◌, ◌≢◌, ◌<◌, ◌^◌, length, ℕ, Bool, true, false, not, List, [], Option, Some, None, IfSome, is_some, Contains, if◌then◌else◌}
+use Rattle.std.specs.Prelude.{◌≡◌, ◌≢◌, ◌<◌, ◌≤◌, ◌^◌, length, ℕ, Bool, true, false, not, List, [], Option, Some, None, IfSome, is_some, Contains, if◌then◌else◌}
 use Rattle.std.specs.List.{list_any}
 use Rattle.pb_wire.specs.Limits.{full}
 use Rattle.pb_schema.specs.declared.types.Kind.{Kind}
@@ -19,7 +19,7 @@ use Rattle.pb_compat.specs.declared.difference.Difference.{Difference}
 use Rattle.pb_compat.specs.declared.difference.Severity.{Severity}
 use Rattle.pb_compat.specs.declared.difference.Severity.TheVariants.{BreaksReading, Loses, ChangesPresence, Converts, Renames}
 use Rattle.pb_compat.specs.Scalars.{meaning}
-use Rattle.pb_compat.specs.Pairs.{Reached}
+use Rattle.pb_compat.specs.Pairs.{ReachedIn}
 use Rattle.pb_compat.specs.Fields.{differences_at}
 
 -- the fields of the numbers that a test lets through
@@ -117,9 +117,9 @@ abbrev mutual
 abbrev pub NoneBreaks : Types → Types → ℕ → ℕ → Type 0
 NoneBreaks old new m n = (k : ℕ) (d : Difference) → Contains (differences_at old new m n k) d → d.severity ≢ BreaksReading
 
--- no difference breaks reading between any two types that are reached
+-- No difference breaks reading between any two types that are reached by at most 100 fields, one in another. A message nests no deeper.
 abbrev pub NothingBreaks : Types → Types → ℕ → ℕ → Type 0
-NothingBreaks old new m n = (p : ℕ × ℕ) → Reached old new (m, n) p → NoneBreaks old new p.0 p.1
+NothingBreaks old new m n = (fields : ℕ) (p : ℕ × ℕ) → fields ≤ 100 → ReachedIn old new (m, n) fields p → NoneBreaks old new p.0 p.1
 
 -- What the new type n reads of the canonical records of a well-formed message of the old type m without unknown records agrees with the message.
 abbrev pub AreRecordsRead : Types → Types → ℕ → ℕ → Type 0

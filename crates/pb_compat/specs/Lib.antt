@@ -9,3 +9,4 @@ pub mod Namesakes
 pub mod Lines
 pub mod Witness
 pub mod Samples
+pub mod Nested

@@ -1,5 +1,5 @@
 -- Which types are compared, and what their comparison reports.
-use Rattle.std.specs.Prelude.{◌≡◌, ◌↔◌, ◌<◌, ℕ, List, length, map, flat_map, Option, Some, None, option_and_then, slice_get, Contains, IsSomeAnd}
+use Rattle.std.specs.Prelude.{◌≡◌, ◌↔◌, ◌<◌, ℕ, suc, List, length, map, flat_map, Option, Some, None, option_and_then, slice_get, Contains, IsSomeAnd}
 use Rattle.std.specs.List.{AllByRecursion}
 use Rattle.std.specs.List.Sorted.{IsPermutation, IsNonDecreasing}
 use Rattle.pb_schema.specs.Types.{FieldView, Types, message_fields, field_numbered}
@@ -30,6 +30,11 @@ leads old new p k = pair_of (message_at old p.0 k) (message_at new p.1 k)
 pub data Reached (old new : Types) (start : ℕ × ℕ) : (ℕ × ℕ) → Type 0 where
   begun : Reached old new start start
   further : {p q : ℕ × ℕ} (k : ℕ) → Reached old new start p → leads old new p k ≡ Some q → Reached old new start q
+
+-- the same by this many fields, one in another
+pub data ReachedIn (old new : Types) (start : ℕ × ℕ) : ℕ → (ℕ × ℕ) → Type 0 where
+  begun_in : ReachedIn old new start 0 start
+  further_in : {fields : ℕ} {p q : ℕ × ℕ} (k : ℕ) → ReachedIn old new start fields p → leads old new p k ≡ Some q → ReachedIn old new start (suc fields) q
 
 -- the same from several: these, and where the fields of a reached pair lead
 pub data ReachedFrom (old new : Types) (starts : List (ℕ × ℕ)) : (ℕ × ℕ) → Type 0 where

@@ -1,6 +1,7 @@
 -- The values of messages that show a break.
-use Rattle.std.specs.Prelude.{◌≡◌, ◌≢◌, ◌≤◌, ◌⊎◌, ℕ, ℤ, pos, negsuc, length, List, [], ◌∷◌, Bool, true, false, Option, Some, None, IsSomeAnd}
+use Rattle.std.specs.Prelude.{◌≡◌, ◌≢◌, ◌≤◌, ℕ, ℤ, pos, negsuc, length, List, [], ◌∷◌, Bool, true, false, Option, Some, None, IsSomeAnd}
 use Rattle.pb_wire.specs.Record.{len}
+use Rattle.pb_wire.specs.Sound.{AreElements}
 use Rattle.pb_schema.specs.declared.types.Kind.{Kind}
 use Rattle.pb_schema.specs.declared.types.Kind.TheVariants as kind
 use Rattle.pb_schema.specs.Types.{Types}
@@ -8,6 +9,7 @@ use Rattle.pb_schema.specs.Scalar.{Scalar, int32, int64, uint32, uint64, boolean
 use Rattle.pb_schema.specs.declared.types.Shape.{Shape}
 use Rattle.pb_schema.specs.Fits.{fits_shape}
 use Rattle.pb_schema.specs.Kinds.{wire_type_of, is_packable, is_of_proto2, message_of_kind, closed_enum, default_of, read, written}
+use Rattle.pb_schema.specs.Context.{element_of}
 use Rattle.pb_schema.specs.Packed.{elements, element_bytes}
 use Rattle.pb_value.specs.Data.{Datum, scalar, message, empty}
 use Rattle.pb_value.specs.Judge.Forms.{is_default_datum}
@@ -121,9 +123,15 @@ abbrev pub IsReadOtherwisePacked : Kind → Kind → Datum → Type 0
 IsReadOtherwisePacked a b (scalar x) = (y : Scalar) → elements b (len (element_bytes a x)) ≡ y ∷ [] → meaning y ≢ meaning x
 IsReadOtherwisePacked a b (message v) = ⊥
 
+-- the bytes of a packed list of the scalar alone are no whole elements of the new kind
+abbrev pub IsUnsoundPacked : Kind → Kind → Datum → Type 0
+IsUnsoundPacked a b (scalar x) = AreElements (element_of b) (element_bytes a x) → ⊥
+IsUnsoundPacked a b (message v) = ⊥
+
 -- the same of the one element of a packed list
 pub data IsUnlikeElement (old new : Types) (a b : Kind) (d : Datum) : Type 0 where
   never_element : IsNeverSame old new a b d → IsUnlikeElement old new a b d
+  unsound_element : is_packable b ≡ true → IsUnsoundPacked a b d → IsUnlikeElement old new a b d
   otherwise_element : IsReadOtherwisePacked a b d → IsUnlikeElement old new a b d
 
 -- VALUES THAT ARE BUILT
@@ -148,11 +156,10 @@ is_key_value (scalar (bytes s)) = false
 is_key_value (message v) = false
 
 -- A value of the old kind that is unlike what the new kind reads of it, alone, in a list, and in a map, of which no value is a group or of a
--- closed enum. It is no default, unless that is the one value that is not kept. Of packed lists of a closed enum this is said where the wire
--- type stays.
+-- closed enum. It is no default, unless that is the one value that is not kept.
 pub record IsLostValue (old new : Types) (a b : Kind) (d : Datum) : Type 0 where
   pub value : IsValue old a d
   pub unlike : IsUnlike old new a b d
   pub other : closed_enum a ≡ None → keeps_others new a b ≡ false → is_default_datum d ≡ false
   pub in_entry : is_of_proto2 a ≡ false → is_of_proto2 b ≡ false → IsUnlikeEntry old new a b d
-  pub in_packed : is_packable a ≡ true → (closed_enum a ≡ None) ⊎ (wire_type_of a ≡ wire_type_of b) → IsUnlikeElement old new a b d
+  pub in_packed : is_packable a ≡ true → IsUnlikeElement old new a b d

@@ -5,14 +5,14 @@ use Rattle.pb_wire.specs.Limits.{full}
 use Rattle.pb_schema.specs.declared.types.Kind.{Kind}
 use Rattle.pb_schema.specs.declared.types.Shape.{Shape}
 use Rattle.pb_schema.specs.declared.types.Shape.TheVariants as shape
-use Rattle.pb_schema.specs.Kinds.{closed_enum, wire_type_of}
+use Rattle.pb_schema.specs.Kinds.{closed_enum}
 use Rattle.pb_schema.specs.Oneofs.{member_numbers}
 use Rattle.pb_schema.specs.Rules.{NamesType, HasKeyKind}
 use Rattle.pb_schema.specs.Scalar.{Scalar}
 use Rattle.pb_schema.specs.Types.{FieldView, Types, message_fields, field_numbered}
 use Rattle.pb_value.specs.Data.{Datum, scalar, Message, Holding, one, list, map, no_datums, datum, no_entries, entry, no_fields, field, put_field, body}
 use Rattle.pb_value.specs.Judge.Forms.{is_default_datum, is_implicit}
-use Rattle.pb_value.specs.Canon.{canon_bytes, is_packed}
+use Rattle.pb_value.specs.Canon.{canon_bytes}
 use Rattle.pb_value.specs.Derives.{Text}
 use Rattle.pb_value.specs.WellFormed.{IsOfShape, IsWellFormed, key_of}
 use Rattle.pb_compat.specs.Fields.{keeps_values, keeps_shape, is_map, is_list}
@@ -182,13 +182,3 @@ pub data IsBuilt (old new : Types) (m n : ℕ) (f g : FieldView) (v : Message) :
 abbrev pub has_witness : Types → Types → ℕ → ℕ → FieldView → FieldView → Bool
 has_witness old new m n f g =
     not (keeps_values old new f g && keeps_shape old new f.shape g.shape) || is_some (partner_of (message_fields old m) (message_fields new n) f g.shape)
-
--- All changes are covered by the theorem but one: of a packed list of a closed enum whose numbers the new kind has in records of another wire type.
-abbrev pub is_covered : FieldView → FieldView → Bool
-is_covered f g = not (is_packed f.shape && is_some (closed_enum f.kind)) || (wire_type_of f.kind == wire_type_of g.kind)
-
--- A well-formed message of the old type without unknown records. It is a witness where the change of the field of this number is covered.
-pub record IsShown (old new : Types) (m n k : ℕ) (v : Message) : Type 0 where
-  pub well_formed : IsWellFormed old m v
-  pub known : HasNoUnknown v
-  pub witness : (f g : FieldView) → AreFieldsAt old new m n k f g → is_covered f g ≡ true → IsWitness old new m n v

@@ -1,8 +1,9 @@
 //! The comparison of two types, and of all types that their fields lead to.
 
-ghost use Rattle.std.specs.Prelude.{◌≡◌, ◌<◌, Some, length, slice_get, IfOk, OnOk};
+ghost use Rattle.std.specs.Prelude.{◌≡◌, ◌<◌, ℕ, Some, length, slice_get, IfOk, OnOk};
 ghost use Rattle.std.specs.List.{AllByRecursion};
 ghost use Rattle.pb_compat.specs.Namesakes.{namesakes as namesakes_of};
+ghost use Rattle.pb_compat.specs.Nested.{AreLinked, IsReachedFrom};
 ghost use Rattle.pb_compat.specs.Pairs.{types_of, AreDifferences, IsComparison, IsComparisonFrom};
 ghost use Rattle.pb_compat.specs.Walk.{pairs_of, steps_of, FollowsAll, IsWithin};
 ghost use Rattle.pb_compat.specs.Pairs.{AreRising};
@@ -61,7 +62,8 @@ fn compare_pairs(
     starts: &[(usize, usize)],
 ) -> Result<Vec<ComparedTypes>, AllocError>
     requires { AllByRecursion (IsWithin old.now new.now) starts.now }
-    ensures { IfOk result (λ v. IsComparisonFrom old.now new.now starts.now v.items) }
+    ensures compared { IfOk result (λ v. IsComparisonFrom old.now new.now starts.now v.items) }
+    ensures linked { IfOk result (λ v. AreLinked old.now new.now v.items) }
 {
     let mut pairs = Pairs::begin(alloc, starts)?;
     let mut compared = Vec::new(alloc);
@@ -96,7 +98,9 @@ pub fn compare(
 ) -> Result<Vec<ComparedTypes>, AllocError>
     requires old { old_type.0 < length old.now.messages }
     requires new { new_type.0 < length new.now.messages }
-    ensures { IfOk result (λ v. IsComparison old.now new.now (old_type.0, new_type.0) v.items) }
+    ensures compared { IfOk result (λ v. IsComparison old.now new.now (old_type.0, new_type.0) v.items) }
+    ensures linked { IfOk result (λ v. AreLinked old.now new.now v.items) }
+    ensures began { IfOk result (λ v. (start : ℕ × ℕ) (n i : ℕ) → IsReachedFrom v.items start n i → start ≡ (old_type.0, new_type.0)) }
 {
     compare_pairs(alloc, old, new, &[(old_type.0, new_type.0)])
 }
@@ -105,7 +109,8 @@ pub fn compare(
 /// number lead to if both hold messages, as `compare` does. The types of the same names come first, in the order of the old pool. A type that
 /// the new pool lacks is in no pair by its name: `namesake` finds none.
 pub fn compare_all(alloc: Global, old: &Pool, new: &Pool) -> Result<Vec<ComparedTypes>, AllocError>
-    ensures { IfOk result (λ v. IsComparisonFrom old.now new.now (namesakes_of old.now new.now) v.items) }
+    ensures compared { IfOk result (λ v. IsComparisonFrom old.now new.now (namesakes_of old.now new.now) v.items) }
+    ensures linked { IfOk result (λ v. AreLinked old.now new.now v.items) }
 {
     let starts = namesakes(alloc, old, new)?;
     compare_pairs(alloc, old, new, &starts)

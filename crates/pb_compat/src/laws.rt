@@ -14,7 +14,7 @@ pub fn scalars_kept()
     ensures { (old new : Types) (a b : Kind) → IsTrue (keeps_scalars old new a b) → KeepsScalars old new a b }
 {}
 
-/// Where no difference breaks reading, between any two types that the comparison reaches, the new type reads of the canonical records of a
+/// Where no difference breaks reading, between any two types that at most 100 fields lead to, the new type reads of the canonical records of a
 /// well-formed message without unknown records what agrees with it: at every level each field that both types declare holds the same, and the
 /// unknown records are those of the fields that the new type does not declare.
 pub fn messages_read()
@@ -31,7 +31,8 @@ pub fn scalars_lost()
 /// Messages that show that a change breaks reading: each message of the new type that their canonical bytes encode disagrees with them. A message
 /// with one value does so that is unlike what the new kind reads, alone or in a list that is not packed (`value`); one with any value, where the
 /// shape is not kept (`shape`); one with two fields that become members of one oneof (`pair`); and one with a map of one entry, whose key or value
-/// is unlike (`map`); and one with a packed list of one element, which has no like in the new kind or is read as another one (`packed`).
+/// is unlike (`map`); and one with a packed list of one element, which has no like in the new kind, is read as another one, or whose bytes are no
+/// whole elements of the new kind (`packed`).
 pub fn witnessed()
     ensures value { (old new : Types) → IsPool old → IsPool new → OneIsShown old new }
     ensures shape { (old new : Types) → IsPool old → IsPool new → ShapeIsShown old new }

@@ -1,7 +1,7 @@
 //! Messages that show that a difference breaks reading.
 
 ghost use Rattle.std.specs.Prelude.{◌≡◌, ◌<◌, ◌&&◌, true, false, not, length, option_map, is_some, find, IfOk, IfSome};
-ghost use Rattle.pb_schema.specs.Rules.{HasKeyKind};
+ghost use Rattle.pb_schema.specs.Rules.{HasKeyKind, IsPool};
 ghost use Rattle.pb_schema.specs.Scalar.{Scalar};
 ghost use Rattle.pb_schema.specs.Types.{message_fields};
 ghost use Rattle.pb_schema.specs.View.{field_view};
@@ -13,7 +13,8 @@ ghost use Rattle.pb_compat.specs.Agrees.{break_among};
 ghost use Rattle.pb_compat.specs.Fields.{keeps_kind as keeps_value, keeps_values as keeps_all, keeps_shape as keeps_form, differences_at};
 ghost use Rattle.pb_compat.specs.Samples.{IsValue, IsLostValue};
 ghost use Rattle.pb_compat.specs.Witness.{alone, may_fill, IsMadeOf, IsKeyOf, IsSettable, HoldsValue, HoldsLost, IsLost};
-ghost use Rattle.pb_compat.specs.Witness.{fields_at, may_be_beside as are_beside, partner_of, IsPairOf, IsBuilt, has_witness, IsShown};
+ghost use Rattle.pb_compat.specs.Nested.{IsBuiltAt};
+ghost use Rattle.pb_compat.specs.Witness.{fields_at, may_be_beside as are_beside, partner_of, IsPairOf, IsBuilt, IsWitness, has_witness};
 
 use crate::fields::{keeps_shape, keeps_values};
 use crate::oneofs::share_oneof;
@@ -25,7 +26,7 @@ use std::alloc::{AllocError, Global};
 use std::collections::BTreeMap;
 
 /// A content of one value, alone, in a list, or under a key.
-fn content_of(
+pub(crate) fn content_of(
     alloc: Global,
     shape: Shape,
     key: Option<MapKey>,
@@ -47,7 +48,11 @@ fn content_of(
 }
 
 /// A key for a map of a shape.
-fn any_key(alloc: Global, pool: &Pool, shape: Shape) -> Result<Option<MapKey>, AllocError>
+pub(crate) fn any_key(
+    alloc: Global,
+    pool: &Pool,
+    shape: Shape,
+) -> Result<Option<MapKey>, AllocError>
     requires { HasKeyKind shape }
     ensures { IfOk result (λ o. IsKeyOf pool.now shape (option_map key_view o)) }
 {
@@ -125,7 +130,7 @@ fn content_by_values(
 }
 
 /// A body of one field.
-fn body_of(alloc: Global, number: u32, content: Content) -> Result<Body, AllocError>
+pub(crate) fn body_of(alloc: Global, number: u32, content: Content) -> Result<Body, AllocError>
     ensures { IfOk result (λ b. body_view b ≡ alone number (content_view content)) }
 {
     let mut body = empty_body(alloc);
@@ -246,7 +251,7 @@ fn witness_between(
 }
 
 /// What the witness of a field holds.
-fn witness_body(
+pub(crate) fn witness_body(
     alloc: Global,
     old: &Pool,
     old_type: MessageId,
@@ -256,7 +261,9 @@ fn witness_body(
 ) -> Result<Option<Body>, AllocError>
     requires old { old_type.0 < length old.now.messages }
     requires new { new_type.0 < length new.now.messages }
-    ensures shown { IfOk result (λ o. IfSome o (λ b. IsShown old.now new.now old_type.0 new_type.0 number (body_view b))) }
+    ensures built { IfOk result (λ o. IfSome o (λ b. IsBuiltAt old.now new.now old_type.0 new_type.0 number (body_view b))) }
+    ensures rules { IfOk result (λ o. IfSome o (λ b. IsPool old.now × IsPool new.now)) }
+    ensures shown { IfOk result (λ o. IfSome o (λ b. IsWitness old.now new.now old_type.0 new_type.0 (body_view b))) }
     ensures exact { IfOk result (λ o. is_some o ≡ break_among (differences_at old.now new.now old_type.0 new_type.0 number)) }
 {
     let Some(from) = old.field_by_number(old_type, number) else {
@@ -271,8 +278,7 @@ fn witness_body(
 /// A message of an old type that shows that the difference at a field breaks reading: its canonical bytes are refused by the new type, or read as a
 /// message that does not agree with it. It has the field alone, with one value, or two fields that the new type has in one oneof.
 ///
-/// There is one exactly where a comparison of the two types reports that the field breaks reading. docs/COMPAT.md says of which change the
-/// message is not proved to be a witness (`is_covered`).
+/// There is one exactly where a comparison of the two types reports that the field breaks reading.
 pub fn witness<'p>(
     alloc: Global,
     old: &'p Pool,
@@ -284,7 +290,7 @@ pub fn witness<'p>(
     requires old { old_type.0 < length old.now.messages }
     requires new { new_type.0 < length new.now.messages }
     ensures typed { IfOk result (λ o. IfSome o (λ w. (w.pool ≡ old.now) × (w.kind ≡ old_type.0))) }
-    ensures shown { IfOk result (λ o. IfSome o (λ w. IsShown old.now new.now old_type.0 new_type.0 number w.body)) }
+    ensures shown { IfOk result (λ o. IfSome o (λ w. IsWitness old.now new.now old_type.0 new_type.0 w.body)) }
     ensures exact { IfOk result (λ o. is_some o ≡ break_among (differences_at old.now new.now old_type.0 new_type.0 number)) }
 {
     match witness_body(alloc, old, old_type, new, new_type, number)? {

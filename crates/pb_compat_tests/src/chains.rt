@@ -6,7 +6,13 @@ use pb_schema::{Field, Kind, MessageId, Pool, Shape};
 use std::alloc::Global;
 use std::test::Fail;
 
-fn field(alloc: Global, name: &str, number: u32, kind: Kind, shape: Shape) -> Result<Field, Fail> {
+pub(crate) fn field(
+    alloc: Global,
+    name: &str,
+    number: u32,
+    kind: Kind,
+    shape: Shape,
+) -> Result<Field, Fail> {
     Ok(Field {
         name: String::from_str(alloc, name)?,
         number,

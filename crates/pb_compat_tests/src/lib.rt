@@ -14,6 +14,8 @@ mod first_call;
 #[cfg(test)]
 mod lines;
 #[cfg(test)]
+mod nested;
+#[cfg(test)]
 mod readings;
 #[cfg(test)]
 mod rules;

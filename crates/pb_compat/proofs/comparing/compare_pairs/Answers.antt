@@ -2,6 +2,7 @@ use Rattle.std.proofs.Common.{◌≡◌, ℕ, length, Some, None, sym, subst, ar
 use Rattle.std.specs.Prelude.{slice_get}
 use Rattle.pb_compat.specs.Walk.{pairs_of, FollowsAll, AreCompared}
 use Rattle.pb_compat.proofs.ComparedLemmas.{compared_none, next_within, next_step, compared_more, compared_all}
+use Rattle.pb_compat.proofs.ClimbLemmas.{compared_linked}
 use Rattle.pb_compat.proofs.comparing.compare_pairs.Goals as goal
 
 pub loop-from-init : goal.loop-from-init
@@ -48,9 +49,16 @@ loop-from-preserved c =
     (subst (λ i. slice_get c.compare_types.new.pairs.steps.items i ≡ Some c.in_ok-types.types.reached_by) index c.in_ok-types.ensures.step)
     c.in_ok-types.ensures.differences)
 
-pub returns : goal.returns
-returns c =
+pub returns-clause-compared : goal.returns-clause-compared
+returns-clause-compared c =
     let cs = c.loop-from.compared.items in
     let same : c.len.result ≡ length cs = omega (arith, c.len.ensures, c.loop-from.compared.ok.0) in
     compared_all c.args.old.now c.args.new.now c.args.starts.now c.loop-from.pairs cs c.loop-from.invariant
+    (subst (λ i. slice_get (pairs_of c.loop-from.pairs) i ≡ None) same (sym c.in_default.ensures))
+
+pub returns-clause-linked : goal.returns-clause-linked
+returns-clause-linked c =
+    let cs = c.loop-from.compared.items in
+    let same : c.len.result ≡ length cs = omega (arith, c.len.ensures, c.loop-from.compared.ok.0) in
+    compared_linked c.args.old.now c.args.new.now c.args.starts.now c.loop-from.pairs cs c.loop-from.invariant
     (subst (λ i. slice_get (pairs_of c.loop-from.pairs) i ≡ None) same (sym c.in_default.ensures))
