@@ -1,24 +1,23 @@
 -- The messages that the call builds are well formed, and show the break.
-use Rattle.std.proofs.Common.{◌≡◌, ◌≢◌, ℕ, ◌≤◌, [], Bool, true, false, not, ◌&&◌, ◌||◌, Option, Some, None, Result, Ok, Err, IfOk, IfSome, IsSomeAnd, refl, sym, ◌∙◌, ap, subst, arith, inl, inr}
-use Rattle.std.specs.Prelude.{IsTrue, ◌==◌, ◌⊎◌, is_some}
+use Rattle.std.proofs.Common.{◌≡◌, ◌≢◌, ℕ, ◌≤◌, [], Bool, true, false, not, ◌&&◌, Option, Some, None, Result, Ok, Err, IfOk, IfSome, IsSomeAnd, refl, sym, ◌∙◌, ap, subst, arith, inl, inr}
+use Rattle.std.specs.Prelude.{IsTrue, ◌==◌}
 use Rattle.pb_schema.specs.declared.types.Kind.{Kind}
 use Rattle.pb_schema.specs.declared.types.Kind.TheVariants as kind
 use Rattle.pb_schema.specs.declared.types.Shape.{Shape}
 use Rattle.pb_schema.specs.declared.types.Shape.TheVariants as shape
-use Rattle.pb_schema.specs.Kinds.{wire_type_of, is_packable, is_key_kind, is_of_proto2, closed_enum}
+use Rattle.pb_schema.specs.Kinds.{is_packable, is_key_kind, is_of_proto2}
 use Rattle.pb_schema.specs.Rules.{IsPool, IsFieldOf, HasKeyKind, MayBePacked, MayBeValue}
 use Rattle.pb_schema.specs.Scalar.{Scalar}
 use Rattle.pb_schema.specs.Types.{FieldView, Types, message_fields, field_numbered}
-use Rattle.pb_value.specs.Canon.{is_packed}
-use Rattle.pb_value.specs.Data.{Datum, scalar, message, Datums, no_datums, datum, no_entries, entry, Holding, one, list, map as map_of, no_fields, field, Message, body, put_field, message_depth}
-use Rattle.pb_value.specs.WellFormed.{IsOfShape, IsDatum, IsWellFormed, key_of}
+use Rattle.pb_value.specs.Data.{Datum, scalar, message, Datums, no_datums, datum, Holding, one, list, map as map_of, no_fields, field, Message, body, put_field, message_depth}
+use Rattle.pb_value.specs.WellFormed.{IsOfShape, IsDatum, key_of}
 use Rattle.pb_value.proofs.BodyBack.{can_pack, numbers_differ}
-use Rattle.pb_value.proofs.Numbers.{found_number, number_is, self_equal}
-use Rattle.pb_value.proofs.Options.{at_some, some_of}
-use Rattle.pb_compat.specs.Fields.{keeps_kind, keeps_shape, is_map, is_list, is_map_keeping}
+use Rattle.pb_value.proofs.Numbers.{found_number, self_equal}
+use Rattle.pb_value.proofs.Options.{some_of}
+use Rattle.pb_compat.specs.Fields.{keeps_shape, is_list}
 use Rattle.pb_compat.specs.Oneofs.{share_oneof}
 use Rattle.pb_compat.specs.Samples.{IsValue, IsLostValue}
-use Rattle.pb_compat.specs.Witness.{alone, IsContentOf, AreFieldsAt, is_one_by_one, may_be_beside, partner_of, IsSettable, IsMadeOf, IsKeyOf, HoldsValue, HoldsLost, HoldsLostKey, IsLost, by_shape, by_key, by_values, IsPairOf, IsBuilt, of_one, of_two, IsWitness}
+use Rattle.pb_compat.specs.Witness.{alone, IsContentOf, AreFieldsAt, is_one_by_one, partner_of, IsSettable, IsMadeOf, IsKeyOf, HoldsLost, IsLost, by_shape, by_key, by_values, IsPairOf, IsBuilt, of_one, of_two, IsWitness}
 use Rattle.pb_compat.proofs.MapLemmas.{map_can, map_is_misread}
 use Rattle.pb_compat.proofs.NeverLemmas.{implicit_default}
 use Rattle.pb_compat.proofs.PackedLemmas.{packed_is_misread}

@@ -1,5 +1,5 @@
 -- From types of a comparison back to those with which it began, field by field.
-use Rattle.std.proofs.Common.{◌≡◌, ℕ, zero, suc, ◌+◌, ◌≤◌, ◌<◌, length, List, [], ◌∷◌, Bool, true, false, ◌&&◌, Option, Some, None, IsSomeAnd, refl, sym, ◌∙◌, ap, subst, arith, Contains}
+use Rattle.std.proofs.Common.{◌≡◌, ℕ, zero, suc, ◌+◌, ◌≤◌, ◌<◌, length, List, [], ◌∷◌, Bool, true, false, ◌&&◌, Option, Some, None, IsSomeAnd, refl, sym, subst, arith, Contains}
 use Rattle.std.specs.Prelude.{slice_get, is_some, nat_lt, IfOk, Result, Ok, Err, Vec}
 use Rattle.std.specs.declared.alloc.AllocError.{AllocError}
 use Rattle.std.specs.declared.alloc.Global.{Global}
@@ -65,7 +65,7 @@ module _ (old new : Types) (cs : List ComparedTypes) (linked : AreLinked old new
       let first = e.1 in
       let same : e.0 ≡ d = cc in
       let lead = lead_of old new d.old.0 d.new.0 s.field c.old.0 c.new.0 (subst (λ (x : ComparedTypes). leads old new (types_of x) s.field ≡ Some (types_of c)) same e.2) in
-      ap (λ (o : Option FieldView). is_some o) lead.at.old_field
+      subst (λ (o : Option FieldView). is_some o ≡ true) (sym lead.at.old_field) refl
 
 -- CLIMBING
 

@@ -1,14 +1,14 @@
 -- A packed list of one number of a closed enum, read as a list of a kind of another wire type: its bytes are no whole elements, or are those of
 -- another number.
-use Rattle.std.proofs.Common.{◌≡◌, ◌≢◌, ℕ, ℤ, pos, negsuc, zero, suc, ◌+◌, ◌*◌, ◌%◌, ◌^◌, ◌<◌, ◌≤◌, length, List, [], ◌∷◌, ◌++◌, Bool, true, false, Option, Some, None, refl, sym, ◌∙◌, ap, subst, arith, inl, inr, length-append}
+use Rattle.std.proofs.Common.{◌≡◌, ◌≢◌, ℕ, ℤ, pos, negsuc, suc, ◌+◌, ◌*◌, ◌^◌, ◌<◌, ◌≤◌, length, List, [], ◌∷◌, true, refl, sym, ◌∙◌, ap, subst, arith, inl, inr, length-append}
 use Rattle.std.specs.Prelude.{◌⊎◌}
 use Rattle.std.specs.Int.{w32, w64, cast_signed, cast_unsigned, from_le_bytes}
 use Rattle.std.specs.Int.RustNames.{FitsSigned}
 use Rattle.std.specs.List.{filter_map}
 use Rattle.std.proofs.lemmas.Int.{ints}
 use Rattle.std.proofs.Math.Nat.{pow-le-pow_right}
-use Rattle.pb_wire.specs.Record.{Payload, varint, fixed64, len, group, fixed32}
-use Rattle.pb_wire.specs.Schema.{Element, a_varint, four_bytes, eight_bytes}
+use Rattle.pb_wire.specs.Record.{len}
+use Rattle.pb_wire.specs.Schema.{Element, four_bytes, eight_bytes}
 use Rattle.pb_wire.specs.Sound.{IsElement, varint_element, four_element, eight_element, AreElements, no_elements, element}
 use Rattle.pb_wire.specs.Varint.{groups_value, EndsOnce, shortest}
 use Rattle.pb_wire.proofs.ShortestLemmas.{shortest-ends, groups_value-shortest, length-shortest-le}
@@ -17,13 +17,13 @@ use Rattle.pb_schema.specs.declared.types.EnumId.{EnumId}
 use Rattle.pb_schema.specs.declared.types.Kind.{Kind}
 use Rattle.pb_schema.specs.declared.types.Kind.TheVariants as kind
 use Rattle.pb_schema.specs.Types.{Types}
-use Rattle.pb_schema.specs.Scalar.{Scalar, int32, int64, uint32, uint64, boolean, float, double, enum, text, bytes}
+use Rattle.pb_schema.specs.Scalar.{Scalar, int32, uint32, enum}
 use Rattle.pb_schema.specs.Kinds.{wire_type_of, is_packable, read}
 use Rattle.pb_schema.specs.Context.{element_of}
 use Rattle.pb_schema.specs.Packed.{elements, numbers_of}
 use Rattle.pb_value.specs.Data.{scalar}
 use Rattle.pb_value.proofs.FieldExtent.{equal_or_not}
-use Rattle.pb_compat.specs.Scalars.{Meaning, integer, single, double_bits, octets, meaning}
+use Rattle.pb_compat.specs.Scalars.{integer, meaning}
 use Rattle.pb_compat.specs.Samples.{IsUnlikeElement, never_element, otherwise_element, unsound_element}
 use Rattle.pb_compat.proofs.ElementLemmas.{as_numbers, IsPackedWire, of_varints, of_eights, of_fours, packed_wire}
 use Rattle.pb_compat.proofs.SampleLemmas.{form_of, never_scalar, long_pos, long_neg, small_neg}

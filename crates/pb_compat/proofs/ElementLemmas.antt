@@ -1,12 +1,12 @@
 -- Packed lists of one element: what another kind reads of them.
-use Rattle.std.proofs.Common.{◌≡◌, ◌≢◌, ℕ, ◌%◌, ◌^◌, List, [], ◌∷◌, true, Option, Some, None, refl, sym, ◌∙◌, ap, subst, append-nil, arith}
+use Rattle.std.proofs.Common.{◌≡◌, ◌≢◌, ℕ, ◌%◌, ◌^◌, List, [], ◌∷◌, true, Option, Some, refl, sym, ◌∙◌, ap, subst, append-nil, arith}
 use Rattle.std.specs.List.{filter_map, cons_option}
-use Rattle.pb_wire.specs.Record.{Payload, varint, fixed64, len, fixed32}
+use Rattle.pb_wire.specs.Record.{Payload, varint, len, fixed32}
 use Rattle.pb_wire.specs.Varint.{groups_value, shortest, shortest_within}
 use Rattle.pb_schema.specs.declared.types.Kind.{Kind}
 use Rattle.pb_schema.specs.declared.types.Kind.TheVariants as kind
 use Rattle.pb_schema.specs.Types.{Types}
-use Rattle.pb_schema.specs.Scalar.{Scalar, int32, int64, uint32, uint64, boolean, float, double, enum, text, bytes}
+use Rattle.pb_schema.specs.Scalar.{Scalar}
 use Rattle.pb_schema.specs.Kinds.{wire_type_of, is_packable, IsOfKind, read, written}
 use Rattle.pb_schema.specs.Packed.{elements, element_bytes, numbers_of}
 use Rattle.pb_schema.proofs.PackedLemmas.{numbers_back}

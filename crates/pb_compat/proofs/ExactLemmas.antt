@@ -1,18 +1,16 @@
 -- A message is built exactly where a difference breaks reading.
-use Rattle.std.proofs.Common.{◌≡◌, ℕ, List, [], ◌∷◌, Bool, true, false, not, ◌&&◌, ◌||◌, Option, Some, None, refl, sym, ◌∙◌, ap}
-use Rattle.std.specs.Prelude.{◌++◌, is_some, if◌then◌else◌}
+use Rattle.std.proofs.Common.{◌≡◌, ℕ, [], ◌∷◌, Bool, true, false, not, ◌&&◌, ◌||◌, Option, Some, None, refl, sym, ◌∙◌, ap}
+use Rattle.std.specs.Prelude.{◌++◌, if◌then◌else◌}
 use Rattle.std.specs.Str.{bytes_eq}
 use Rattle.std.specs.Option.{option_to_list}
 use Rattle.pb_schema.specs.Types.{FieldView, Types, message_fields, field_numbered}
 use Rattle.pb_schema.specs.Rules.{IsPool}
 use Rattle.pb_value.proofs.BodyBack.{numbers_differ}
-use Rattle.pb_compat.specs.declared.difference.Difference.{Difference}
-use Rattle.pb_compat.specs.declared.difference.Severity.{Severity}
-use Rattle.pb_compat.specs.declared.difference.Severity.TheVariants.{BreaksReading, Loses, ChangesPresence, Converts, Renames}
+use Rattle.pb_compat.specs.declared.difference.Severity.TheVariants.{BreaksReading, ChangesPresence, Converts, Renames}
 use Rattle.pb_compat.specs.Agrees.{break_among}
-use Rattle.pb_compat.specs.Fields.{keeps_values, keeps_shape, keeps_field, is_in_crowd, change_of_field, renaming_of, severities_at, differences_of, differences_at, changes_presence, presence, is_same_form}
+use Rattle.pb_compat.specs.Fields.{keeps_values, keeps_shape, keeps_field, is_in_crowd, renaming_of, severities_at, differences_of, differences_at, changes_presence, presence, is_same_form}
 use Rattle.pb_compat.specs.Oneofs.{is_crowded}
-use Rattle.pb_compat.specs.Witness.{AreFieldsAt, has_witness, partner_of}
+use Rattle.pb_compat.specs.Witness.{AreFieldsAt, has_witness}
 use Rattle.pb_compat.proofs.BreaksLemmas.{listed, differences_found}
 use Rattle.pb_compat.proofs.PartnerLemmas.{partner_exact}
 

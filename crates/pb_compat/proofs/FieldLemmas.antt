@@ -1,5 +1,5 @@
 -- What a new kind reads of the records that scalars of an old kind were written as.
-use Rattle.std.proofs.Common.{◌≡◌, ℕ, List, [], ◌∷◌, ◌++◌, map, Bool, true, false, ◌&&◌, Some, None, option_map, refl, sym, ◌∙◌, ap, arith, append-nil}
+use Rattle.std.proofs.Common.{◌≡◌, ℕ, List, [], ◌∷◌, ◌++◌, map, Bool, true, false, ◌&&◌, Some, None, refl, sym, ◌∙◌, ap, arith, append-nil}
 use Rattle.std.specs.Prelude.{unwrap_or}
 use Rattle.std.specs.List.{filter_map, cons_option}
 use Rattle.std.specs.Option.{option_to_list}
@@ -14,12 +14,12 @@ use Rattle.pb_schema.specs.Packed.{elements, numbers_of}
 use Rattle.pb_schema.specs.Closed.{is_declared}
 use Rattle.pb_schema.proofs.PackedLemmas.{numbers_back}
 use Rattle.pb_value.specs.Data.{scalar, message, Datums, no_datums, datum, Message}
-use Rattle.pb_value.specs.Value.{last_of, all_elements, one_value, list_values}
+use Rattle.pb_value.specs.Value.{all_elements, list_values}
 use Rattle.pb_value.specs.Canon.{packed_bytes, canon_each, record_of}
 use Rattle.pb_value.specs.WellFormed.{AreDatums, datums_declared}
 use Rattle.pb_value.proofs.HeldBack.{field_with, values}
 use Rattle.pb_value.proofs.Options.{some_of}
-use Rattle.pb_value.proofs.ShapeSteps.{one_value-scalar, list_values-scalar}
+use Rattle.pb_value.proofs.ShapeSteps.{list_values-scalar}
 use Rattle.pb_value.proofs.WrittenLemmas.{wire_type-written, no_message_of, payloads, packed_numbers}
 use Rattle.pb_compat.specs.Scalars.{meaning, keeps_scalars}
 use Rattle.pb_compat.specs.Fields.{keeps_kind}

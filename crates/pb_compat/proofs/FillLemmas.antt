@@ -1,15 +1,14 @@
 -- Values that may be the content of a field, and keys of its map.
-use Rattle.std.proofs.Common.{◌≡◌, Bool, true, false, not, Option, Some, None, IfSome, IsSomeAnd, refl, sym, ◌∙◌, ap, subst}
+use Rattle.std.proofs.Common.{◌≡◌, Bool, true, false, not, Option, Some, None, IfSome, IsSomeAnd, refl, ◌∙◌, subst}
 use Rattle.std.specs.Prelude.{IsTrue, is_some, option_map}
 use Rattle.pb_schema.specs.declared.types.Kind.{Kind}
 use Rattle.pb_schema.specs.declared.types.Kind.TheVariants as kind
 use Rattle.pb_schema.specs.declared.types.Shape.{Shape}
 use Rattle.pb_schema.specs.declared.types.Shape.TheVariants as shape
-use Rattle.pb_schema.specs.Kinds.{is_key_kind, closed_enum, IsOfKind}
-use Rattle.pb_schema.specs.Rules.{HasKeyKind}
-use Rattle.pb_schema.specs.Scalar.{Scalar, int32, int64, uint32, uint64, boolean, float, double, enum, text, bytes}
+use Rattle.pb_schema.specs.Kinds.{is_key_kind}
+use Rattle.pb_schema.specs.Scalar.{Scalar, int32, int64, uint32, uint64, boolean, text}
 use Rattle.pb_schema.specs.Types.{FieldView, Types}
-use Rattle.pb_value.specs.Data.{Datum, scalar, message, Holding, one}
+use Rattle.pb_value.specs.Data.{Datum, scalar, message, one}
 use Rattle.pb_value.specs.Judge.Forms.{is_default_datum}
 use Rattle.pb_value.specs.View.{key_view}
 use Rattle.pb_value.specs.WellFormed.{IsOfShape, IsDatum}

@@ -1,6 +1,6 @@
 -- Values that the new kind does not read as the same, wherever they are: alone, in a list, in a packed list or in a map.
 use Rattle.std.proofs.Common.{◌≡◌, ◌≢◌, ℕ, zero, suc, ℤ, pos, negsuc, List, [], ◌∷◌, Bool, true, false, not, ◌&&◌, ◌||◌, Some, None, Result, Ok, Err, IfOk, refl, sym, ◌∙◌, ap, subst, arith, inl, inr}
-use Rattle.std.specs.Prelude.{◌==◌, ◌⊎◌, is_some, slice_get}
+use Rattle.std.specs.Prelude.{◌==◌, ◌⊎◌, slice_get}
 use Rattle.std.specs.List.{list_any}
 use Rattle.std.specs.Ordering.{int_eq}
 use Rattle.std.proofs.lemmas.Bool.Decides.{Decides-int_eq}
@@ -12,7 +12,7 @@ use Rattle.pb_schema.specs.declared.types.Kind.TheVariants as kind
 use Rattle.pb_schema.specs.declared.types.Shape.TheVariants as shape
 use Rattle.pb_schema.specs.Types.{Types}
 use Rattle.pb_schema.specs.Scalar.{Scalar, int32, int64, uint32, uint64, boolean, float, double, enum, text, bytes, is_default}
-use Rattle.pb_schema.specs.Kinds.{wire_type_of, is_packable, is_group, is_of_proto2, message_of_kind, closed_enum, default_of, IsOfKind}
+use Rattle.pb_schema.specs.Kinds.{wire_type_of, is_packable, is_of_proto2, message_of_kind, closed_enum, default_of, IsOfKind}
 use Rattle.pb_schema.specs.Closed.{declares}
 use Rattle.pb_schema.specs.EnumValues.{enum_values}
 use Rattle.pb_schema.specs.Packed.{element_bytes}

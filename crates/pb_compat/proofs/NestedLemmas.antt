@@ -1,9 +1,9 @@
 -- Messages of one field that hold a message which the new type does not read as the same.
-use Rattle.std.proofs.Common.{◌≡◌, ℕ, zero, suc, ◌+◌, ◌*◌, ◌<◌, ◌≤◌, ◌^◌, length, List, [], ◌∷◌, ◌++◌, Bool, true, false, not, Option, Some, None, option_map, IsSomeAnd, refl, sym, ◌∙◌, ap, subst, arith, append-nil}
+use Rattle.std.proofs.Common.{◌≡◌, ℕ, suc, ◌+◌, ◌*◌, ◌<◌, ◌≤◌, ◌^◌, length, List, [], ◌∷◌, ◌++◌, Bool, true, false, not, Option, Some, None, option_map, IsSomeAnd, refl, sym, ◌∙◌, ap, subst, arith, append-nil}
 use Rattle.std.specs.Prelude.{unwrap_or, option_and_then, if◌then◌else◌, ◌==◌}
 use Rattle.std.proofs.lemmas.List.{length-append}
 use Rattle.pb_wire.specs.Varint.{shortest}
-use Rattle.pb_wire.specs.Record.{Payload, varint, fixed64, len, group, fixed32, Record, group_of, wire_type}
+use Rattle.pb_wire.specs.Record.{Payload, len, Record, group_of, wire_type}
 use Rattle.pb_wire.specs.Inside.{records_inside}
 use Rattle.pb_wire.specs.Schema as wire
 use Rattle.pb_wire.specs.Schema.{Schema}
@@ -20,11 +20,11 @@ use Rattle.pb_schema.specs.declared.types.Shape.{Shape}
 use Rattle.pb_schema.specs.declared.types.Shape.TheVariants as shape
 use Rattle.pb_schema.specs.Types.{FieldView, Types, message_fields, field_numbered}
 use Rattle.pb_schema.specs.Scalar.{Scalar}
-use Rattle.pb_schema.specs.Kinds.{wire_type_of, is_packable, message_of_kind, is_of_proto2, closed_enum, default_of, IsOfKind, written}
+use Rattle.pb_schema.specs.Kinds.{wire_type_of, is_packable, message_of_kind, is_of_proto2, closed_enum, written}
 use Rattle.pb_schema.specs.Closed.{closed_of, is_list_field, settled}
 use Rattle.pb_schema.specs.Context.{Context, a_message, an_entry, read_field, read_shaped, group_of_field, group_shaped, schema_of}
 use Rattle.pb_schema.specs.Rules.{IsPool, MayBePacked, MayBeValue}
-use Rattle.pb_value.specs.Data.{Datum, scalar, message, Datums, no_datums, datum, Entries, no_entries, entry, Holding, one, list, map as map_of, Message, no_fields, body, fields_of, get_field, levels_of, holding_depth, message_depth}
+use Rattle.pb_value.specs.Data.{Datum, scalar, message, Datums, no_datums, datum, Entries, no_entries, entry, Holding, one, list, map as map_of, Message, no_fields, body, fields_of, get_field, message_depth}
 use Rattle.pb_value.specs.Value.{unless_default, unless_no_elements, unless_no_entries, one_value, list_values, missing, entry_key, entry_value, held_as, value_within}
 use Rattle.pb_value.specs.Canon.{payload_of, record_of, sealed, canon, canon_bytes, canon_each, canon_holding, message_type, packed_bytes, is_packed}
 use Rattle.pb_value.specs.WellFormed.{IsOfShape, IsDatum, AreEntries, KeysRise, IsHeld, IsBody, key_of, holds_declared}
@@ -35,8 +35,8 @@ use Rattle.pb_value.proofs.HeldBack.{entry_records, entry_records-good}
 use Rattle.pb_value.proofs.KnownLemmas.{IsUncut, settled-same}
 use Rattle.pb_value.proofs.Numbers.{self_equal, found_number}
 use Rattle.pb_value.proofs.Options.{some_of}
-use Rattle.pb_compat.specs.Fields.{keeps_kind, keeps_shape, is_map, is_map_keeping}
-use Rattle.pb_compat.specs.Agrees.{Agrees, HasNoUnknown, HoldsNoUnknown, IsSameValue, HoldsSame}
+use Rattle.pb_compat.specs.Fields.{keeps_kind, keeps_shape, is_map}
+use Rattle.pb_compat.specs.Agrees.{Agrees, HoldsNoUnknown, IsSameValue, HoldsSame}
 use Rattle.pb_compat.specs.Samples.{IsValue}
 use Rattle.pb_compat.specs.Witness.{alone, IsContentOf, AreFieldsAt}
 use Rattle.pb_compat.proofs.EncodingLemmas.{reads_message, grouped}

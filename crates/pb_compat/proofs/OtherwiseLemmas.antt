@@ -1,6 +1,6 @@
 -- Values that the new kind reads otherwise, or whose records do not fit: the field holds something else, or the record is unknown.
-use Rattle.std.proofs.Common.{◌≡◌, ◌≢◌, ℕ, List, [], ◌∷◌, ◌++◌, map, Bool, true, false, not, Option, Some, None, option_map, refl, sym, ◌∙◌, ap, subst}
-use Rattle.std.specs.Prelude.{option_and_then, is_some, if◌then◌else◌}
+use Rattle.std.proofs.Common.{◌≡◌, ◌≢◌, ℕ, List, [], ◌∷◌, ◌++◌, map, Bool, true, false, Option, Some, None, option_map, refl, sym, ◌∙◌, ap, subst}
+use Rattle.std.specs.Prelude.{option_and_then, if◌then◌else◌}
 use Rattle.std.specs.List.{AllByRecursion}
 use Rattle.pb_wire.specs.Record.{Payload, varint, fixed64, len, group, fixed32, Record, wire_type}
 use Rattle.pb_schema.specs.declared.types.Kind.{Kind}
@@ -14,9 +14,9 @@ use Rattle.pb_schema.specs.Closed.{closed_of, closed_shaped, is_list, is_list_fi
 use Rattle.pb_schema.specs.Fits.{fits_shape}
 use Rattle.pb_schema.specs.Packed.{elements}
 use Rattle.pb_schema.specs.Rules.{IsPool}
-use Rattle.pb_value.specs.Data.{Datum, scalar, no_datums, datum, Holding, one, list, Message, no_fields, field, unknown_of}
+use Rattle.pb_value.specs.Data.{Datum, scalar, no_datums, datum, Holding, one, list, Message}
 use Rattle.pb_value.specs.Value.{last_of, unless_default, unless_no_elements, one_value, list_values, held_as, value_within}
-use Rattle.pb_value.specs.Canon.{payload_of, record_of, canon_fields, canon_holding}
+use Rattle.pb_value.specs.Canon.{payload_of, record_of, canon_holding}
 use Rattle.pb_value.specs.WellFormed.{IsDatum}
 use Rattle.pb_value.proofs.HeldBack.{wire_type-payload_of}
 use Rattle.pb_value.proofs.KnownLemmas.{IsUncut, settled-same}
@@ -25,7 +25,7 @@ use Rattle.pb_value.proofs.Options.{some_of}
 use Rattle.pb_value.proofs.ShapeSteps.{one_value-scalar, list_values-scalar}
 use Rattle.pb_compat.specs.Scalars.{meaning}
 use Rattle.pb_compat.specs.Fields.{is_map}
-use Rattle.pb_compat.specs.Agrees.{Agrees, HoldsSame}
+use Rattle.pb_compat.specs.Agrees.{HoldsSame}
 use Rattle.pb_compat.specs.Samples.{IsReadOtherwise, IsUnfit}
 use Rattle.pb_compat.specs.Witness.{alone}
 use Rattle.pb_compat.proofs.ContentLemmas.{IsCounted}

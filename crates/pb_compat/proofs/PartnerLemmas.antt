@@ -1,19 +1,18 @@
 -- Fields that a message may set together, and that the new type has in one oneof: there is such a partner exactly where the oneof is crowded.
 use Rattle.std.proofs.Common.{◌≡◌, ◌≢◌, ⊎_elim, ℕ, List, [], ◌∷◌, map, Bool, true, false, not, cond, ◌&&◌, Option, Some, None, refl, sym, ◌∙◌, ap, subst, inl, inr}
 use Rattle.std.specs.Prelude.{◌==◌, ◌⊎◌, find, is_some, option_map, if◌then◌else◌}
-use Rattle.std.specs.List.{AllByRecursion, list_all, filter_map, cons_option}
+use Rattle.std.specs.List.{AllByRecursion, list_all, cons_option}
 use Rattle.pb_schema.specs.declared.types.Shape.{Shape}
 use Rattle.pb_schema.specs.declared.types.Shape.TheVariants as shape
 use Rattle.pb_schema.specs.Names.{AllDiffer}
 use Rattle.pb_schema.specs.Oneofs.{is_member, members, member_numbers}
 use Rattle.pb_schema.specs.Types.{FieldView, field_numbered}
 use Rattle.pb_value.specs.Oneof.{is_member_at}
-use Rattle.pb_value.proofs.Numbers.{numbers, self_equal, number_is, not_equal, found_number, found_each}
+use Rattle.pb_value.proofs.Numbers.{numbers, self_equal, number_is, found_number, found_each}
 use Rattle.pb_compat.specs.Fields.{is_in_crowd}
 use Rattle.pb_compat.specs.Oneofs.{share_oneof, at_most_one, shapes_of, is_crowded}
 use Rattle.pb_compat.specs.Witness.{may_be_beside, fields_at, partner_of}
 use Rattle.pb_compat.proofs.CrowdLemmas.{Share, share_both, share_three, share_turned, two_share, member_listed}
-use Rattle.pb_compat.proofs.FieldLemmas.{and_both}
 
 -- SHARING
 

@@ -88,7 +88,10 @@ fn is_shown(
         return Ok(false);
     };
     let same = match bytes {
-        Some(bytes) => hex::decode(alloc, bytes)?.as_slice() == built.as_slice(),
+        Some(bytes) => {
+            let expected = hex::decode(alloc, bytes)?;
+            expected.as_slice() == built.as_slice()
+        }
         None => true,
     };
     Ok(same && show(alloc, old, new, &built)?)
@@ -201,8 +204,10 @@ fn step_is_shown(alloc: Global) -> Result<bool, Fail> {
     };
     let old = nest(alloc, 1, list, Kind::Int64)?;
     let new = nest(alloc, 1, one, Kind::Int32)?;
-    let shown = bytes_shown(alloc, &old, &new, 1)?;
-    Ok(shown.as_deref() == Some([0x12, 0].as_slice()))
+    match bytes_shown(alloc, &old, &new, 1)? {
+        Some(bytes) => Ok(matches!(bytes.as_slice(), [0x12, 0])),
+        None => Ok(false),
+    }
 }
 
 /// Whether there is no message where no difference breaks.

@@ -1,5 +1,5 @@
-use Rattle.std.proofs.Common.{◌≡◌, ◌<◌, ◌≤◌, ◌+◌, length, Bool, true, Option, Some, refl, sym, ◌∙◌, ap, arith, rules}
-use Rattle.std.specs.Prelude.{slice_get, is_some, nat_lt}
+use Rattle.std.proofs.Common.{◌≡◌, ◌<◌, ◌≤◌, ◌+◌, length, true, Option, refl, sym, ◌∙◌, ap, arith, rules}
+use Rattle.std.specs.Prelude.{is_some, nat_lt}
 use Rattle.std.proofs.lemmas.Option.{slice_get_read}
 use Rattle.pb_schema.specs.Rules.{IsPool}
 use Rattle.pb_value.specs.View.{body_view}

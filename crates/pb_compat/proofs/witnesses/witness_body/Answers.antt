@@ -6,7 +6,7 @@ use Rattle.pb_schema.specs.Rules.{IsPool}
 use Rattle.pb_compat.specs.Nested.{IsBuiltAt}
 use Rattle.pb_compat.specs.Witness.{AreFieldsAt, IsBuilt, IsWitness}
 use Rattle.pb_compat.proofs.BuiltLemmas.{settable, built_shows, if_ok_some}
-use Rattle.pb_compat.proofs.ExactLemmas.{no_old_field, no_new_field, breaks_exactly}
+use Rattle.pb_compat.proofs.ExactLemmas.{breaks_exactly}
 use Rattle.pb_compat.proofs.witnesses.witness_body.Goals as goal
 
 pub witness_between-requires-clause-settable : goal.witness_between-requires-clause-settable
