@@ -19,7 +19,7 @@ use std::alloc::{AllocError, Global};
 /// up to one.
 const MAX_FIELDS: u8 = 99;
 
-/// The body of a field that holds a message, or what shows that the field itself breaks.
+/// The body of a field alone that holds a message, or what shows that the field itself breaks.
 fn body_round(
     alloc: Global,
     old: &Pool,
@@ -45,7 +45,7 @@ fn body_round(
     Ok(body_of(alloc, number, content)?)
 }
 
-/// A message with which the comparison began, that has in it what shows the break, and its type.
+/// The type with which the comparison began, and the body of a message of it that holds what shows the break.
 fn nested_body(
     alloc: Global,
     old: &Pool,
