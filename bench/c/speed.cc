@@ -4,8 +4,8 @@
 // canonical message, and the field is of a uint64.
 //
 // SET is what protoc --include_imports --descriptor_set_out wrote; the files are those of bench/texts/make_texts.py. Each round times each call on all
-// texts of a file in turn, by processor time; the best round counts. A line for each file and call tells the bytes and the nanoseconds. With no file
-// the calls on no bytes are timed, and a line for each tells the nanoseconds.
+// texts of a file in turn, by processor time. A line for each file and call tells the bytes and the nanoseconds of each round. With no file the calls on
+// no bytes are timed, and a line for each tells the nanoseconds.
 #include "../texts/texts.h"
 #include "mabristu.h"
 #ifdef UPB
@@ -186,7 +186,7 @@ static const std::vector<std::pair<const char*, Call>> calls = {
 
 static bool time_all(const char* path, int rounds) {
     std::vector<std::string> texts = texts_of(contents(path));
-    std::vector<long long> best(calls.size(), -1);
+    std::vector<std::vector<long long>> spent(calls.size());
     size_t size = 0;
     for (const std::string& text : texts) size += text.size();
     for (int round = 0; round < rounds; round++)
@@ -197,10 +197,13 @@ static bool time_all(const char* path, int rounds) {
                     fprintf(stderr, "%s: %s failed\n", path, calls[call].first);
                     return false;
                 }
-            long long spent = now() - start;
-            best[call] = best[call] < 0 ? spent : std::min(best[call], spent);
+            spent[call].push_back(now() - start);
         }
-    for (size_t call = 0; call < calls.size(); call++) printf("%s %s %zu %lld\n", path, calls[call].first, size, best[call]);
+    for (size_t call = 0; call < calls.size(); call++) {
+        printf("%s %s %zu", path, calls[call].first, size);
+        for (long long it : spent[call]) printf(" %lld", it);
+        printf("\n");
+    }
     return true;
 }
 

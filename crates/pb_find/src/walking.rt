@@ -15,7 +15,7 @@ ghost use Rattle.pb_find.specs.View.{found_view};
 
 use crate::scalar_ref::ScalarRef;
 use crate::single::{other_found, scalar_found};
-use crate::target::{Target, target_of};
+use crate::target::{Target, concerned, target_of};
 use pb_schema::{MessageId, Pool};
 use pb_validate::{RecordTag, payload_at, record_end, tag_at};
 use std::alloc::Global;
@@ -74,7 +74,7 @@ pub(crate) fn walk<'a>(
         if tag.wire_type == 4 {
             return Some((tag.end, found));
         }
-        match target {
+        match concerned(pool, level.message_type, target, tag.number) {
             None => {
                 let past = record_end(alloc, pool, level.message_type, level.levels, bytes, tag)?;
                 here = past;
@@ -90,8 +90,10 @@ pub(crate) fn walk<'a>(
 }
 
 /// Reads a record after its tag, where a path leads to a field: where it ends, and what is found after it. None where it has a fault.
+///
+/// Few records concern that field. Apart from `walk`, it leaves registers to the loop over all records.
 #[cycle(walking)]
-#[inline(always)]
+#[inline(never)]
 fn target_found<'a>(
     alloc: Global,
     pool: &Pool,
@@ -124,10 +126,7 @@ fn target_found<'a>(
 }
 
 /// Reads a record of the field that a path leads to, after its tag: where it ends, and what is found after it. None where it has a fault.
-///
-/// Few records are of that field. Apart from `walk`, it leaves registers to the loop over all records.
 #[cycle(walking)]
-#[inline(never)]
 fn own_found<'a>(
     alloc: Global,
     pool: &Pool,

@@ -13,7 +13,7 @@ use Rattle.pb_validate.proofs.JudgeLemmas.{front_none, front_push}
 use Rattle.pb_find.specs.Found.{found}
 use Rattle.pb_find.specs.View.{found_view}
 use Rattle.pb_find.proofs.TargetLemmas.{target_is, own_message, own_other_type, reads_message, reads_group, message_type_of}
-use Rattle.pb_find.proofs.WalkLemmas.{some_map, nothing_more, one_more, none_found, not_read, no_tag, message_value, all_of, group_value_of, no_group, no_message, no_cut_message}
+use Rattle.pb_find.proofs.WalkLemmas.{some_map, stranger_more, one_more, none_found, not_read, no_tag, message_value, all_of, group_value_of, no_group, no_message, no_cut_message}
 use Rattle.pb_find.proofs.walking.+walking.Goals as goal
 
 pub walk-records-init : goal.walk-records-init
@@ -47,8 +47,8 @@ walk-records-preserved-in-None t c =
       ended.1,
       _,
       front_push c.records.invariant.2 value.0 c.records.invariant.3 c.in-Ok.ensures.ok value.1,
-      nothing_more c.args.pool.now c.args.level.message_type.0 c.args.path.now c.records.target-1 (found_view c.args.before) (found_view c.records.found) c.records.invariant.2 _ c.in-None.is
-          c.records.invariant.5 c.records.invariant.4,
+      stranger_more c.args.pool.now c.args.level.message_type.0 c.args.path.now _ (found_view c.args.before) (found_view c.records.found) c.records.invariant.2 c.in-Ok.tag.number value.0
+          (c.concerned.ensures.others c.in-None.is) c.records.invariant.5 c.records.invariant.4,
       c.records.invariant.5,
       c.records.invariant.6,
       c.records.invariant.7,
@@ -56,7 +56,8 @@ walk-records-preserved-in-None t c =
 
 pub walk-target_found-requires : goal.walk-target_found-requires
 walk-target_found-requires t c =
-    let shorter = rw c.in-Some.is at c.records.invariant.7 in
+    let own = rw c.in-Some.is at c.concerned.ensures.own in
+    let shorter = rw own at c.records.invariant.7 in
     let less : 3 * length c.in-Some.target.rest.now + 2 < 3 * length c.args.path.now = omega (arith, shorter) in (
       search (rules, less),
       (
@@ -71,7 +72,7 @@ walk-target_found-requires t c =
                 c.in-Ok.ensures.within.1,
                 (
                   subst (λ (n : ℕ). HasTag (here c.args.bytes.now n None) c.in-Ok.tag.number c.in-Ok.tag.wire_type (here c.args.bytes.now c.in-Ok.tag.end None)) (sym c.in-Ok.ensures.within.2) c.in-Ok.ensures.ok,
-                  (c.if-tag-eq4.false, rw c.in-Some.is at c.records.invariant.6),
+                  (c.if-tag-eq4.false, rw own at c.records.invariant.6),
                 ),
               ),
             ),
@@ -94,8 +95,8 @@ walk-records-preserved t c =
       ended.1,
       _,
       front_push c.records.invariant.2 value.0 c.records.invariant.3 c.in-Ok.ensures.ok value.1,
-      one_more c.args.pool.now c.args.level.message_type.0 c.args.path.now c.records.target-1 c.in-Some.target (found_view c.args.before) (found_view c.records.found) _ c.records.invariant.2 _
-          c.in-Some.is c.records.invariant.5 c.records.invariant.4 value.2,
+      one_more c.args.pool.now c.args.level.message_type.0 c.args.path.now _ c.in-Some.target (found_view c.args.before) (found_view c.records.found) _ c.records.invariant.2 _
+          (rw c.in-Some.is at c.concerned.ensures.own) c.records.invariant.5 c.records.invariant.4 value.2,
       c.records.invariant.5,
       c.records.invariant.6,
       c.records.invariant.7,
