@@ -30,8 +30,8 @@ pub use pb_compat::{
 // Messages: what they hold, changes, what is at a place of one, and changes there.
 pub use pb_place::{
     ChangeError, Found, PlaceStep, at, clear_at, drop_unknown_at, insert_at, is_set, key_at,
-    len_at, message_at, numbers_at, push_at, remove_at, scalar_at, set_at, unknown_at,
-    which_oneof_at,
+    len_at, message_at, numbers_at, push_at, remove_at, remove_element_at, scalar_at, set_at,
+    set_element_at, unknown_at, which_oneof_at,
 };
 pub use pb_value::{
     Body, Content, DynamicMessage, MapKey, MessageRef, Value, ValueError, default_value,

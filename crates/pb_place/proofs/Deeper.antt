@@ -13,8 +13,9 @@ use Rattle.pb_value.specs.Dynamic.{Dynamic}
 use Rattle.pb_value.specs.WellFormed.{IsWellFormed}
 use Rattle.pb_value.proofs.ChangeLemmas.{by_order, fields_depth-put_field}
 use Rattle.pb_value.proofs.HeldLemmas.{datums_depth-joined}
+use Rattle.pb_place.proofs.Elements.{put_nth_depth, take_nth_depth}
 use Rattle.pb_place.proofs.Removed.{remove_at_depth}
-use Rattle.pb_place.specs.Changed.{Edit, set, clear, push, insert, remove, drop_unknown, edited, brings}
+use Rattle.pb_place.specs.Changed.{Edit, set, clear, push, insert, remove, set_element, remove_element, drop_unknown, edited, brings}
 
 drop_depth : (n : ℕ) (fs : Fields) → fields_depth (drop_field n fs) ≤ fields_depth fs
 drop_depth n no_fields = omega arith
@@ -106,4 +107,6 @@ edited_depth (push d n) w = changed_depth w.body _ (levels_of d) (put_depth n (f
 edited_depth (insert x d n) w =
     changed_depth w.body _ (suc (levels_in_entry d)) (put_depth n (fields_of w.body) (inserted x d) (suc (levels_in_entry d)) (inserted_depth x d))
 edited_depth (remove x n) w = changed_depth w.body _ 0 (let a = remove_at_depth n x (fields_of w.body) (drop_depth n) in omega (arith, a))
+edited_depth (set_element i d n) w = changed_depth w.body _ (levels_of d) (put_nth_depth n i d (fields_of w.body))
+edited_depth (remove_element i n) w = changed_depth w.body _ 0 (let a = take_nth_depth n i (fields_of w.body) (drop_depth n) in omega (arith, a))
 edited_depth drop_unknown w = bare_depth w.body

@@ -117,7 +117,7 @@ HasOneMemberEach-in_field all change n (field k g fs) w =
     ) in
     by_order (HasOneMemberEach all) n k _ _ _ (λ _. later) (λ _. w) (λ _. later)
 
-datums_kept :
+pub datums_kept :
     (pool : Types) (k : Kind) (l i : ℕ) (change : Datum → Datum) (ds : Datums) → AreDatums pool k ds → datums_depth ds ≤ l
     → ((d : Datum) → nth_datum ds i ≡ Some d → IsDatum pool k d → levels_of d ≤ l → IsDatum pool k (change d) × (levels_of (change d) ≤ l))
     → AreDatums pool k (in_nth change i ds) × (datums_depth (in_nth change i ds) ≤ l)
@@ -172,7 +172,7 @@ message_shape (shape.Map k) change (one (message v)) w = w
 message_shape s change (list ds) w = w
 message_shape s change (map es) w = w
 
-list_shape : (s : Shape) (i : ℕ) (change : Datum → Datum) (h : Holding) → IsOfShape s h → IsOfShape s (in_list (in_nth change i) h)
+pub list_shape : (s : Shape) (i : ℕ) (change : Datum → Datum) (h : Holding) → IsOfShape s h → IsOfShape s (in_list (in_nth change i) h)
 list_shape s i change (one d) w = w
 list_shape s i change (list no_datums) w = w
 list_shape shape.Implicit i change (list (datum d ds)) w = absurd w

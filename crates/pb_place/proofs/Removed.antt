@@ -138,7 +138,7 @@ in_field-none change n (field k g fs) e = told (nat_cmp n k) (in_field-none chan
     told Equal later q = absurd (cc)
     told Greater later q = ap (field k g) (later q)
 
-get_field-in_field : (change : Holding → Holding) (n : ℕ) (fs : Fields) → get_field n (in_field change n fs) ≡ option_map change (get_field n fs)
+pub get_field-in_field : (change : Holding → Holding) (n : ℕ) (fs : Fields) → get_field n (in_field change n fs) ≡ option_map change (get_field n fs)
 get_field-in_field change n no_fields = refl
 get_field-in_field change n (field k g fs) = told (nat_cmp n k) refl (get_field-in_field change n fs)
   where
@@ -150,7 +150,7 @@ get_field-in_field change n (field k g fs) = told (nat_cmp n k) refl (get_field-
     told Equal e later = ap (λ (z : Ordering). match_ordering z (get_field n fs) (Some (change g)) (get_field n fs)) e
     told Greater e later = ap (λ (z : Ordering). match_ordering z (get_field n (in_field change n fs)) (Some g) (get_field n (in_field change n fs))) e ∙ later
 
-drop_field-in_field : (change : Holding → Holding) (n : ℕ) (fs : Fields) → drop_field n (in_field change n fs) ≡ drop_field n fs
+pub drop_field-in_field : (change : Holding → Holding) (n : ℕ) (fs : Fields) → drop_field n (in_field change n fs) ≡ drop_field n fs
 drop_field-in_field change n no_fields = refl
 drop_field-in_field change n (field k g fs) = told (nat_cmp n k) refl (drop_field-in_field change n fs)
   where
@@ -166,7 +166,7 @@ drop_field-in_field change n (field k g fs) = told (nat_cmp n k) refl (drop_fiel
         ap (λ (z : Ordering). match_ordering z (field k g (drop_field n (in_field change n fs))) (in_field change n fs) (field k g (drop_field n (in_field change n fs)))) e
         ∙ ap (field k g) later
 
-in_field_depth : (change : Holding → Holding) (n : ℕ) (fs : Fields) → ((h : Holding) → holding_depth (change h) ≤ holding_depth h) → fields_depth (in_field change n fs) ≤ fields_depth fs
+pub in_field_depth : (change : Holding → Holding) (n : ℕ) (fs : Fields) → ((h : Holding) → holding_depth (change h) ≤ holding_depth h) → fields_depth (in_field change n fs) ≤ fields_depth fs
 in_field_depth change n no_fields f = omega arith
 in_field_depth change n (field k g fs) f = told (nat_cmp n k) (in_field_depth change n fs f) (f g)
   where

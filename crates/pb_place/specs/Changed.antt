@@ -6,7 +6,7 @@ use Rattle.pb_schema.specs.Scalar.{Scalar}
 use Rattle.pb_value.specs.Data.{Datum, Holding, body, fields_of, get_field, drop_field, holding_depth, levels_of, levels_in_entry}
 use Rattle.pb_value.specs.Dynamic.{Dynamic, with_changed}
 use Rattle.pb_value.specs.Change.{set_at, set_cause, push_at, push_cause, insert_at, entry_at, insert_cause}
-use Rattle.pb_value.specs.Inner.{datum_under}
+use Rattle.pb_value.specs.Inner.{datum_at, datum_under}
 use Rattle.pb_value.specs.Cause.{or_else, unless}
 use Rattle.pb_value.specs.declared.error.ValueError.{ValueError}
 use Rattle.pb_value.specs.declared.error.ValueError.TheVariants.{Memory, TooDeep}
@@ -14,8 +14,9 @@ use Rattle.pb_place.specs.declared.error.ChangeError.{ChangeError}
 use Rattle.pb_place.specs.declared.error.ChangeError.TheVariants.{Absent, Refused}
 use Rattle.pb_place.specs.declared.step.PlaceStep.{PlaceStep}
 use Rattle.pb_place.specs.declared.step.PlaceStep.TheVariants.{Field, Index, Key}
-use Rattle.pb_place.specs.At.{Part, message_part, part_at, seen}
+use Rattle.pb_place.specs.At.{Part, message_part, part_at, Seen, seen, at}
 use Rattle.pb_place.specs.Ask.{message_in}
+use Rattle.pb_place.specs.Element.{put_nth, take_nth}
 use Rattle.pb_place.specs.Removed.{remove_at}
 use Rattle.pb_place.specs.Replaced.{with_at}
 
@@ -26,24 +27,31 @@ pub data Edit : Type 0 where
   push : Datum → ℕ → Edit
   insert : Scalar → Datum → ℕ → Edit
   remove : Scalar → ℕ → Edit
+  set_element : ℕ → Datum → ℕ → Edit
+  remove_element : ℕ → ℕ → Edit
   drop_unknown : Edit
 
--- the message with the change made: what `DynamicMessage` makes of it, or without an entry of a map, or without its unknown records
+-- the message with the change made: what `DynamicMessage` makes of it, or without an entry of a map, or with another element in a list or one less,
+-- or without its unknown records
 abbrev pub edited : Edit → Dynamic → Dynamic
 edited (set h n) v = with_changed v (set_at (message_fields v.pool v.kind) n h)
 edited (clear n) v = with_changed v (drop_field n)
 edited (push d n) v = with_changed v (push_at n d)
 edited (insert x d n) v = with_changed v (insert_at n x d)
 edited (remove x n) v = with_changed v (remove_at n x)
+edited (set_element i d n) v = with_changed v (put_nth n i d)
+edited (remove_element i n) v = with_changed v (take_nth n i)
 edited drop_unknown v = record v { body = body (fields_of v.body) [] }
 
--- why `DynamicMessage` refuses it, for a message of a type
+-- why `DynamicMessage` refuses it, for a message of a type; another element as `push` does
 abbrev pub edit_cause : Edit → Types → ℕ → Option ValueError
 edit_cause (set h n) pool m = set_cause pool m n h
 edit_cause (clear n) pool m = None
 edit_cause (push d n) pool m = push_cause pool m n d
 edit_cause (insert x d n) pool m = insert_cause pool m n x d
 edit_cause (remove x n) pool m = None
+edit_cause (set_element i d n) pool m = push_cause pool m n d
+edit_cause (remove_element i n) pool m = None
 edit_cause drop_unknown pool m = None
 
 -- how deep what it brings nests below the message
@@ -53,6 +61,8 @@ brings (clear n) = 0
 brings (push d n) = levels_of d
 brings (insert x d n) = suc (levels_in_entry d)
 brings (remove x n) = 0
+brings (set_element i d n) = levels_of d
+brings (remove_element i n) = 0
 brings drop_unknown = 0
 
 -- what it takes out of the message
@@ -62,6 +72,8 @@ taken_out (clear n) v = None
 taken_out (push d n) v = None
 taken_out (insert x d n) v = entry_at n x (fields_of v.body)
 taken_out (remove x n) v = option_and_then (datum_under x) (get_field n (fields_of v.body))
+taken_out (set_element i d n) v = option_and_then (datum_at i) (get_field n (fields_of v.body))
+taken_out (remove_element i n) v = option_and_then (datum_at i) (get_field n (fields_of v.body))
 taken_out drop_unknown v = None
 
 -- the message that a part has at a place
@@ -116,3 +128,38 @@ IsFieldChanged place e v new = IsSomeAnd (field_place place) (λ q. IsChangedAt 
 -- what a change at a place that ends at a field takes out
 abbrev pub taken_at : List PlaceStep → (ℕ → Edit) → Dynamic → Option (Option Datum)
 taken_at place e v = option_and_then (λ q. option_map (taken_out (e q.1)) (target q.0 (message_part v))) (field_place place)
+
+-- a place that ends at an index: the place of the list, and the index
+abbrev pub index_place : List PlaceStep → Option (List PlaceStep × ℕ)
+index_place [] = None
+index_place (Index i ∷ []) = Some ([], i)
+index_place (Field n ∷ []) = None
+index_place (Key k ∷ []) = None
+index_place (s ∷ t ∷ p) = option_map (λ q. (s ∷ q.0, q.1)) (index_place (t ∷ p))
+
+-- of what is at a place that ends at an index: the place of the message that has the list in a field, the field's number, and the index
+abbrev pub element_by : Option Seen → Option (List PlaceStep × ℕ) → Option ((List PlaceStep × ℕ) × ℕ)
+element_by None o = None
+element_by (Some x) None = None
+element_by (Some x) (Some q) = option_map (λ r. (r, q.1)) (field_place q.0)
+
+-- the element of a list that a message has at a place
+abbrev pub element_place : List PlaceStep → Dynamic → Option ((List PlaceStep × ℕ) × ℕ)
+element_place place v = element_by (at place v) (index_place place)
+
+-- why a change of an element is refused: it is not there, or the change's own cause
+abbrev pub refusal_by : (ℕ → ℕ → Edit) → Dynamic → Option ((List PlaceStep × ℕ) × ℕ) → Option ChangeError
+refusal_by e v None = Some Absent
+refusal_by e v (Some q) = refusal (most_at q.0.0) (e q.1 q.0.1) (target q.0.0 (message_part v))
+
+abbrev pub element_refusal : List PlaceStep → (ℕ → ℕ → Edit) → Dynamic → Option ChangeError
+element_refusal place e v = refusal_by e v (element_place place v)
+
+-- The element at a place is changed, and all else is as before.
+abbrev pub IsElementChanged : List PlaceStep → (ℕ → ℕ → Edit) → Dynamic → Dynamic → Type 0
+IsElementChanged place e v new = IsSomeAnd (element_place place v) (λ q. IsChangedAt q.0.0 (e q.1 q.0.1) v new)
+
+-- what a change of the element at a place takes out
+abbrev pub taken_element : List PlaceStep → (ℕ → ℕ → Edit) → Dynamic → Option (Option Datum)
+taken_element place e v =
+    option_and_then (λ q. option_map (taken_out (e q.1 q.0.1)) (target q.0.0 (message_part v))) (element_place place v)

@@ -14,7 +14,7 @@ use Rattle.pb_place.specs.declared.change.Change.TheVariants as change
 use Rattle.pb_place.specs.declared.error.ChangeError.{ChangeError}
 use Rattle.pb_place.specs.declared.step.PlaceStep.{PlaceStep}
 use Rattle.pb_place.specs.At.{content_part}
-use Rattle.pb_place.specs.Changed.{Edit, set, clear, push, insert, remove, drop_unknown, edited, taken_out, target, refusal, IsRefused}
+use Rattle.pb_place.specs.Changed.{Edit, set, clear, push, insert, remove, set_element, remove_element, drop_unknown, edited, taken_out, target, refusal, IsRefused}
 use Rattle.pb_place.specs.Replaced.{replaced}
 
 abbrev pub edit_of : Change → Edit
@@ -23,6 +23,8 @@ edit_of (change.Clear n) = clear n
 edit_of (change.Push n v) = push (value_view v) n
 edit_of (change.Insert n k v) = insert (key_view k) (value_view v) n
 edit_of (change.Remove n k) = remove (key_view k) n
+edit_of (change.SetElement n i v) = set_element i (value_view v) n
+edit_of (change.RemoveElement n i) = remove_element i n
 edit_of change.DropUnknown = drop_unknown
 
 -- the message of a type with this body

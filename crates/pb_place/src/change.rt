@@ -1,12 +1,14 @@
 //! Changes of one message.
 
 ghost use Rattle.std.specs.Prelude.{◌≡◌, [], ◌↔◌, ◌≤◌, IfOk, OnErr, IsTrue, option_map};
+ghost use Rattle.pb_value.specs.Change.{push_cause};
 ghost use Rattle.pb_value.specs.Cause.{IsRefusedBy};
 ghost use Rattle.pb_value.specs.Data.{body, fields_of};
 ghost use Rattle.pb_value.specs.View.{body_view, key_view, value_view};
-ghost use Rattle.pb_place.specs.Changed.{brings, drop_unknown, remove, edit_cause, edited, taken_out};
+ghost use Rattle.pb_place.specs.Changed.{brings, drop_unknown, remove, remove_element, set_element, edit_cause, edited, taken_out};
 ghost use Rattle.pb_place.specs.Edits.{edit_of};
 
+use crate::element::{judged, put_element, remove_element as take_element};
 use crate::removing::remove_entry;
 use crate::walk::into_well_formed;
 use pb_value::parts::{content_within, entry_within, from_well_formed, value_within};
@@ -27,6 +29,10 @@ pub(crate) enum Change {
     Insert(u32, MapKey, Value),
     /// Removes the value under a key from the map of a number.
     Remove(u32, MapKey),
+    /// Puts a value in place of the element at an index of the list of a number.
+    SetElement(u32, usize, Value),
+    /// Removes the element at an index from the list of a number.
+    RemoveElement(u32, usize),
     /// Drops the unknown records.
     DropUnknown,
 }
@@ -40,6 +46,8 @@ impl Change {
             Change::Set(_, content) => content_within(content, limit),
             Change::Clear(_) => true,
             Change::Remove(_, _) => true,
+            Change::SetElement(_, _, value) => value_within(value, limit),
+            Change::RemoveElement(_, _) => true,
             Change::DropUnknown => true,
             Change::Push(_, value) => value_within(value, limit),
             Change::Insert(_, _, value) => entry_within(value, limit),
@@ -68,6 +76,10 @@ impl Change {
             }
             Change::Insert(number, key, value) => Ok(message.insert(number, key, value)?),
             Change::Remove(number, key) => Ok(remove(message, number, &key)),
+            Change::SetElement(number, index, value) => {
+                Ok(set_element(message, number, index, value)?)
+            }
+            Change::RemoveElement(number, index) => Ok(remove_element(message, number, index)),
             Change::DropUnknown => {
                 drop_unknown(message);
                 Ok(None)
@@ -87,6 +99,45 @@ fn remove(message: &mut DynamicMessage<'_>, number: u32, key: &MapKey) -> Option
     let whole = mem::replace(message, DynamicMessage::new(alloc, pool, message_type));
     let mut body = into_well_formed(whole);
     let taken = remove_entry(&mut body, number, key);
+    *message = from_well_formed(alloc, pool, message_type, body);
+    taken
+}
+
+/// Puts a value in place of the element at an index of the list of a number in a message. The answer is the one that was there. Where there is
+/// none, nothing changes.
+fn set_element(
+    message: &mut DynamicMessage<'_>,
+    number: u32,
+    index: usize,
+    value: Value,
+) -> Result<Option<Value>, ValueError>
+    ensures ok { IfOk result (λ _. message.new ≡ edited (set_element index (value_view value) number) message.old) }
+    ensures out { IfOk result (λ v. option_map value_view v ≡ taken_out (set_element index (value_view value) number) message.old) }
+    ensures err { OnErr result (message.new ≡ message.old) }
+    ensures judged { IsRefusedBy result (push_cause message.old.pool message.old.kind number (value_view value)) }
+{
+    let alloc = message.alloc();
+    let pool = message.pool();
+    let message_type = message.message_type();
+    let value = judged(alloc, pool, message_type, number, value)?;
+    let whole = mem::replace(message, DynamicMessage::new(alloc, pool, message_type));
+    let mut body = into_well_formed(whole);
+    let taken = put_element(&mut body, number, index, value);
+    *message = from_well_formed(alloc, pool, message_type, body);
+    Ok(taken)
+}
+
+/// Removes the element at an index from the list of a number in a message.
+fn remove_element(message: &mut DynamicMessage<'_>, number: u32, index: usize) -> Option<Value>
+    ensures left { message.new ≡ edited (remove_element index number) message.old }
+    ensures taken { option_map value_view result ≡ taken_out (remove_element index number) message.old }
+{
+    let alloc = message.alloc();
+    let pool = message.pool();
+    let message_type = message.message_type();
+    let whole = mem::replace(message, DynamicMessage::new(alloc, pool, message_type));
+    let mut body = into_well_formed(whole);
+    let taken = take_element(&mut body, number, index);
     *message = from_well_formed(alloc, pool, message_type, body);
     taken
 }

@@ -3,11 +3,13 @@
 ghost use Rattle.std.specs.Prelude.{◌≡◌, IfOk, OnOk, OnErr, Some, option_and_then, option_map};
 ghost use Rattle.pb_value.specs.View.{content_view, key_view, value_view};
 ghost use Rattle.pb_place.specs.At.{message_part};
-ghost use Rattle.pb_place.specs.Changed.{set, clear, push, insert, remove, drop_unknown};
+ghost use Rattle.pb_place.specs.Changed.{set, clear, push, insert, remove, set_element, remove_element, drop_unknown};
+ghost use Rattle.pb_place.specs.Changed.{element_place, element_refusal, index_place, taken_element};
 ghost use Rattle.pb_place.specs.Changed.{field_place, most_at, refusal, refusal_at, target, taken_at, taken_out};
-ghost use Rattle.pb_place.specs.Changed.{IsChangedAt, IsFieldChanged, IsRefused};
+ghost use Rattle.pb_place.specs.Changed.{IsChangedAt, IsElementChanged, IsFieldChanged, IsRefused};
 ghost use Rattle.pb_place.specs.Edits.{edit_of};
 
+use crate::asking::is_set;
 use crate::change::Change;
 use crate::error::ChangeError;
 use crate::step::PlaceStep;
@@ -64,6 +66,32 @@ fn field_at_end(place: &[PlaceStep]) -> Option<(&[PlaceStep], u32)>
         PlaceStep::Field(number) => Some((parent, *number)),
         _ => None,
     }
+}
+
+/// The place of the list and the index that a place ends at.
+fn index_at_end(place: &[PlaceStep]) -> Option<(&[PlaceStep], usize)>
+    ensures { option_map (λ q. (q.0.now, q.1)) result ≡ index_place place.now }
+{
+    let (step, list) = place.split_last()?;
+    match step {
+        PlaceStep::Index(index) => Some((list, *index)),
+        _ => None,
+    }
+}
+
+/// The place of a message, the number of its field that is a list, and the index of the element there, where a message has it at a place.
+fn element_at_end<'a>(
+    message: &DynamicMessage<'_>,
+    place: &'a [PlaceStep],
+) -> Option<((&'a [PlaceStep], u32), usize)>
+    ensures { option_map (λ q. ((q.0.0.now, q.0.1), q.1)) result ≡ element_place place.now message.now }
+{
+    let (list, index) = index_at_end(place)?;
+    if !is_set(message.view(), place) {
+        return None;
+    }
+    let field = field_at_end(list)?;
+    Some((field, index))
 }
 
 /// Sets the field that a place ends at to a content, in the message that the steps before it lead to.
@@ -160,6 +188,45 @@ pub fn remove_at(
         return Err(ChangeError::Absent);
     };
     Ok(change_at(message, parent, Change::Remove(number, key))?)
+}
+
+/// Puts a value in place of the element of a list that a place ends at. The answer is the value that was there.
+///
+/// Nothing else changes. The call is refused where the message has no such element, or else where [`DynamicMessage::push`] refuses the value, and
+/// last where the whole message would nest more than 100 levels deep. A refused call changes nothing.
+pub fn set_element_at(
+    message: &mut DynamicMessage<'_>,
+    place: &[PlaceStep],
+    value: Value,
+) -> Result<Option<Value>, ChangeError>
+    ensures ok { OnOk result (IsElementChanged place.now (λ i. set_element i (value_view value)) message.old message.new) }
+    ensures stood { IfOk result (λ v. Some (option_map value_view v) ≡ taken_element place.now (λ i. set_element i (value_view value)) message.old) }
+    ensures err { OnErr result (message.new ≡ message.old) }
+    ensures judged { IsRefused result (element_refusal place.now (λ i. set_element i (value_view value)) message.old) }
+{
+    let Some(((parent, number), index)) = element_at_end(message, place) else {
+        return Err(ChangeError::Absent);
+    };
+    Ok(change_at(message, parent, Change::SetElement(number, index, value))?)
+}
+
+/// Removes the element of a list that a place ends at, and the elements after it move up. The answer is the value that was there. A list without
+/// elements is not set.
+///
+/// Nothing else changes. The call is refused where the message has no such element, and then changes nothing.
+pub fn remove_element_at(
+    message: &mut DynamicMessage<'_>,
+    place: &[PlaceStep],
+) -> Result<Option<Value>, ChangeError>
+    ensures ok { OnOk result (IsElementChanged place.now remove_element message.old message.new) }
+    ensures stood { IfOk result (λ v. Some (option_map value_view v) ≡ taken_element place.now remove_element message.old) }
+    ensures err { OnErr result (message.new ≡ message.old) }
+    ensures judged { IsRefused result (element_refusal place.now remove_element message.old) }
+{
+    let Some(((parent, number), index)) = element_at_end(message, place) else {
+        return Err(ChangeError::Absent);
+    };
+    Ok(change_at(message, parent, Change::RemoveElement(number, index))?)
 }
 
 /// Drops the unknown records of the message at a place, and changes nothing else. The call is refused where no message is at the place.

@@ -7,6 +7,7 @@
 mod asking;
 mod change;
 mod changing;
+mod element;
 mod error;
 mod reading;
 mod removing;
@@ -16,7 +17,10 @@ mod walk;
 pub use asking::{
     is_set, key_at, len_at, message_at, numbers_at, scalar_at, unknown_at, which_oneof_at,
 };
-pub use changing::{clear_at, drop_unknown_at, insert_at, push_at, remove_at, set_at};
+pub use changing::{
+    clear_at, drop_unknown_at, insert_at, push_at, remove_at, remove_element_at, set_at,
+    set_element_at,
+};
 pub use error::ChangeError;
 pub use reading::{Found, at};
 pub use step::PlaceStep;

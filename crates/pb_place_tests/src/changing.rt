@@ -3,7 +3,8 @@
 use super::places::place_of;
 use super::schema::Schema;
 use pb_place::{
-    ChangeError, PlaceStep, clear_at, drop_unknown_at, insert_at, push_at, remove_at, set_at,
+    ChangeError, PlaceStep, clear_at, drop_unknown_at, insert_at, push_at, remove_at,
+    remove_element_at, set_at, set_element_at,
 };
 use pb_samples::{body_of, content_of, key_of, value_of};
 use pb_value::{DynamicMessage, Value, ValueError};
@@ -129,6 +130,43 @@ const REMOVED: &str = "
 12:{u7=n0} | remove u8 f12 ku7 | Absent
 ";
 
+/// `put` a value in place of an element, and `take` it out, with a word that says nothing.
+const ELEMENTS: &str = "
+6:[i4,i5] | put i7 f6 #0 | 6:[i7,i5]
+6:[i4,i5] | put i0 f6 #1 | 6:[i4,i0]
+13:[tp,tq] | put t f13 #0 | 13:[t,tq]
+19:[n0,n1] | put m1=i5 f19 #1 | 19:[n0,m1=i5]
+19:[n0] | put n99 f19 #0 | 19:[n99]
+6:[i4] | put i7 f6 #1 | Absent
+6:[i4] | put tx f6 #1 | Absent
+6:[i4] | put i7 f6 | Absent
+6:[i4] | put i7 | Absent
+6:[i4] | put i7 f1 #0 | Absent
+6:[i4] | put i7 f99 #0 | Absent
+6:[i4] | put i7 f6 #0 #0 | Absent
+1:i5 | put i7 f6 #0 | Absent
+1:i5 | put i7 f1 #0 | Absent
+9:{ta=i8} | put i7 f9 #0 | Absent
+9:{ta=i8} | put i7 f9 kta | Absent
+3:n0 | put i7 f3 f6 #0 | Absent
+6:[i4] | put tx f6 #0 | WrongKind
+19:[n0] | put i7 f19 #0 | WrongKind
+19:[n0] | put m1=i0 f19 #0 | DefaultStored
+19:[n0] | put n100 f19 #0 | TooDeep
+6:[i4,i5,i6] | take - f6 #1 | 6:[i4,i6]
+6:[i4,i5,i6] | take - f6 #2 | 6:[i4,i5]
+6:[i4,i5] | take - f6 #0 | 6:[i5]
+6:[i4] 1:i5 | take - f6 #0 | 1:i5
+19:[n0,m1=i5] | take - f19 #0 | 19:[m1=i5]
+6:[i4] | take - f6 #1 | Absent
+6:[i4] | take - f6 | Absent
+6:[i4] | take - | Absent
+1:i5 | take - f6 #0 | Absent
+1:i5 | take - f1 #0 | Absent
+9:{ta=i8} | take - f9 #0 | Absent
+19:[n0] | take - f19 #0 f6 #0 | Absent
+";
+
 const DROPPED: &str = "
 1:i5 99~v7 98~x00 | drop | 1:i5
 1:i5 | drop | 1:i5
@@ -139,10 +177,10 @@ const DROPPED: &str = "
 ";
 
 pub(crate) const TABLES: &[&str] = &[
-    SET, CLEARED, ABSENT, REFUSED, PUSHED, INSERTED, REMOVED, DROPPED,
+    SET, CLEARED, ABSENT, REFUSED, PUSHED, INSERTED, REMOVED, ELEMENTS, DROPPED,
 ];
 
-/// A row: the fields of a message, an insertion or a removal, and the value that was under the key, or none.
+/// A row: the fields of a message, an insertion or a removal, or another element, and the value that was there, or none.
 const OUT: &str = "
 9:{ta=i8} | insert ta=i7 f9 | i8
 9:{ta=i8} | insert tb=i7 f9 | none
@@ -153,6 +191,10 @@ const OUT: &str = "
 12:{u8=n1.1=i5} | remove u8 f12 | n1.1=i5
 1:i5 | remove ta f9 | none
 1:i5 | remove ta f1 | none
+6:[i4,i5] | put i7 f6 #1 | i5
+19:[n0,m1=i5] | put n1 f19 #1 | m1=i5
+6:[i4,i5,i6] | take - f6 #1 | i5
+19:[n2.1=i5] | take - f19 #0 | n2.1=i5
 ";
 
 pub(crate) const OUT_TABLES: &[&str] = &[OUT];
@@ -173,7 +215,7 @@ fn change(
     }
 }
 
-/// An insertion or a removal.
+/// A change that takes a value out.
 fn take(
     alloc: Global,
     message: &mut DynamicMessage<'_>,
@@ -188,6 +230,8 @@ fn take(
             Ok(insert_at(message, place, key, value))
         }
         "remove" => Ok(remove_at(message, place, key_of(alloc, word)?)),
+        "put" => Ok(set_element_at(message, place, value_of(alloc, word)?)),
+        "take" => Ok(remove_element_at(message, place)),
         _ => Err(Fail::new("no such change")),
     }
 }
