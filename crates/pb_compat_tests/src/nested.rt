@@ -1,8 +1,10 @@
 //! Messages that show a break of nested types: of the type with which the comparison began, with what shows the break in them.
 
+ghost use Rattle.pb_compat.specs.Nested.{AreLinked};
+
 use super::chains::field;
 use super::fields::{file_of, message_of};
-use pb_compat::{compare, nested_witness};
+use pb_compat::{ComparedTypes, compare, nested_witness};
 use pb_decode::decode;
 use pb_encode::encode;
 use pb_schema::{Kind, MessageId, MessageType, Pool, Shape};
@@ -42,7 +44,27 @@ fn nest(alloc: Global, fields: usize, link: Link, kind: Kind) -> Result<Pool, Fa
     Ok(Pool::from_parts(alloc, files, messages, Vec::new(alloc))?)
 }
 
-/// The bytes of the message that shows the break at field 1 of the types to which this many fields lead, if there is one.
+/// The bytes of the message that shows the break at field 1 of the types at an index of a comparison, if there is one.
+fn bytes_at(
+    alloc: Global,
+    old: &Pool,
+    new: &Pool,
+    compared: &[ComparedTypes],
+    index: usize,
+) -> Result<Option<Vec<u8>>, Fail>
+    requires { AreLinked old.now new.now compared.now }
+{
+    if index >= compared.len() {
+        return Err("too few types".into());
+    }
+    let Some(message) = nested_witness(alloc, old, new, compared, index, 1)? else {
+        return Ok(None);
+    };
+    let bytes = encode(&message)?;
+    Ok(Some(bytes))
+}
+
+/// The same of the types to which this many fields lead.
 fn bytes_shown(
     alloc: Global,
     old: &Pool,
@@ -53,13 +75,8 @@ fn bytes_shown(
         return Err("no message".into());
     }
     let compared = compare(alloc, old, MessageId(0), new, MessageId(0))?;
-    if fields >= compared.len() {
-        return Err("too few types".into());
-    }
-    match nested_witness(alloc, old, new, &compared, fields, 1)? {
-        Some(message) => Ok(Some(encode(&message)?)),
-        None => Ok(None),
-    }
+    let bytes = bytes_at(alloc, old, new, &compared, fields)?;
+    Ok(bytes)
 }
 
 /// Whether bytes encode a message of the first old type that the first new type refuses or reads as another one.
@@ -157,8 +174,7 @@ fn wrong_row(alloc: Global) -> Result<Option<usize>, Fail> {
 
 #[test]
 fn nests(rt: HostRuntime) -> Result<(), Fail> {
-    let wrong = wrong_row(rt.alloc())?;
-    assert!(rt; wrong.is_none(), "{wrong:?}");
+    assert!(rt; wrong_row(rt.alloc())?.is_none());
     Ok(())
 }
 
@@ -187,8 +203,7 @@ fn wrong_link(alloc: Global) -> Result<Option<usize>, Fail> {
 
 #[test]
 fn deep_nests(rt: HostRuntime) -> Result<(), Fail> {
-    let wrong = wrong_link(rt.alloc())?;
-    assert!(rt; wrong.is_none(), "{wrong:?}");
+    assert!(rt; wrong_link(rt.alloc())?.is_none());
     Ok(())
 }
 
