@@ -3,7 +3,8 @@
 ghost use Rattle.std.specs.Prelude.{◌≡◌, ◌≤◌, ◌++◌, codes, decimal, flat_map, length, MatchResult};
 ghost use Rattle.pb_wire.specs.Fault.{fault};
 ghost use Rattle.pb_wire.specs.PathText.{dotted, path_text, step_text};
-ghost use Rattle.pb_files.specs.Report.{cause_end, device_line, fault_line, fields_text, frame_fault_line, frame_json_line, frames_line, json_line, json_text_line, link_line};
+ghost use Rattle.pb_files.specs.Report.{cause_end, device_line, fault_line, fields_text, frame_fault_line, frame_json_line};
+ghost use Rattle.pb_files.specs.Report.{frames_line, json_line, json_text_line, link_line};
 ghost use Rattle.pb_files.specs.Report.{set_cause_line, set_fault_line, shown_name, source_line, type_line};
 ghost use Rattle.pb_files.specs.Refusal.{refusal_line, refusal_status};
 ghost use Rattle.pb_output.specs.Sending.{Cut, Sent, SentOrCut};

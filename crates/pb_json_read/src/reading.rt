@@ -17,8 +17,10 @@ ghost use Rattle.pb_json_read.specs.Faults.{fault, out_of_memory};
 ghost use Rattle.pb_json_read.specs.Forms.{ReadsAlone};
 ghost use Rattle.pb_json_read.specs.Names.{field_meant as meant};
 ghost use Rattle.pb_json_read.specs.Reads.{DeepOf, DynamicOf, FlatOf, NestedOf, ReadsContent, ReadsElements, ReadsEntries, ReadsList, ReadsMap};
-ghost use Rattle.pb_json_read.specs.Reads.{ReadsMember, ReadsMemberEntry, ReadsMemberHeld, ReadsMemberUnder, ReadsMembers, ReadsMessage, ReadsObject, ReadsValue, SoleOf};
-ghost use Rattle.pb_json_read.specs.Steps.{Made, Parts as PartsRead, ReadsScalar, ReadsSingle, nothing, has_null, is_absent, passes_over, takes_null, unknown_name};
+ghost use Rattle.pb_json_read.specs.Reads.{ReadsMember, ReadsMemberEntry, ReadsMemberHeld, ReadsMemberUnder, ReadsMembers};
+ghost use Rattle.pb_json_read.specs.Reads.{ReadsMessage, ReadsObject, ReadsValue, SoleOf};
+ghost use Rattle.pb_json_read.specs.Steps.{Made, Parts as PartsRead, ReadsScalar, ReadsSingle, nothing};
+ghost use Rattle.pb_json_read.specs.Steps.{has_null, is_absent, passes_over, takes_null, unknown_name};
 ghost use Rattle.pb_json_read.specs.Steps.{with_datum, with_entry};
 ghost use Rattle.pb_json_read.specs.WellKnown.{is_dynamic};
 

@@ -1,10 +1,12 @@
 //! Points in time and lengths of time.
 
-ghost use Rattle.std.specs.Prelude.{◌≡◌, ◌+◌, ◌-◌, ◌*◌, ◌^◌, ◌<◌, ◌≤◌, ◌==◌, ◌+ℤ◌, ◌-ℤ◌, ◌*ℤ◌, ◌≤ℤ◌, neg_ℤ, length, drop, slice_index, pos, Some, None, Option, IfSome, if◌then◌else◌};
+ghost use Rattle.std.specs.Prelude.{◌≡◌, ◌+◌, ◌-◌, ◌*◌, ◌^◌, ◌<◌, ◌≤◌, ◌==◌, ◌+ℤ◌, ◌-ℤ◌, ◌*ℤ◌, ◌≤ℤ◌, neg_ℤ};
+ghost use Rattle.std.specs.Prelude.{length, drop, slice_index, pos, Some, None, Option, IfSome, if◌then◌else◌};
 ghost use Rattle.std.specs.Char.{is_ascii_digit};
 ghost use Rattle.std.specs.List.{list_all, prefix_len};
 ghost use Rattle.jiff_core.specs.Calendar.{days_from_civil};
-ghost use Rattle.pb_json_scalars.specs.Clock.{ahead_by, date_days, day_second, days_of, duration, fraction_len, fraction_nanos, instant, instant_of, is_civil, nanos_of, natural, offset, second_of, signed_time, timestamp, unsigned_duration};
+ghost use Rattle.pb_json_scalars.specs.Clock.{ahead_by, date_days, day_second, days_of, duration, fraction_len, fraction_nanos, instant};
+ghost use Rattle.pb_json_scalars.specs.Clock.{instant_of, is_civil, nanos_of, natural, offset, second_of, signed_time, timestamp, unsigned_duration};
 
 use jiff_core::civil::Date;
 
