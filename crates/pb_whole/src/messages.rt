@@ -222,7 +222,8 @@ impl Reader<'_> {
         left: Left,
     ) -> Result<usize, NoMemory>
         requires at_tag { IsAtTag self.now.pool.now part.old bytes.now left tag }
-        requires means { Means self.now.pool.now (part_context (part_view part.old)) tag.number tag.wire_type (purposes.Message message_type (ListSlot tag.number)) }
+        requires means { Means self.now.pool.now (part_context (part_view part.old)) tag.number tag.wire_type
+            (purposes.Message message_type (ListSlot tag.number)) }
         ensures passes { Passes tag.size bytes.now result }
         ensures read { ReadsOne self.now.pool.now part.old part.new bytes.now left result }
     {
