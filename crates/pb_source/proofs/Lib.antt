@@ -43,7 +43,7 @@ pub mod OneSource
 pub mod StrictFiles
 -- for `parse`: what it tells is the declaration, or the fault and no other
 pub mod ParseLemmas
--- for the statements of a message, with the room that is left for nested messages
+-- for the statements of a message, by the levels that are left for nested messages
 pub mod RoomSteps
 -- for the loop over a file, up to its end
 pub mod EndSteps

@@ -385,7 +385,7 @@ reads_statement grammar Body n (Nested.inside p) h =
     (reads_allowed grammar Body (Lines grammar Body) (lines_first grammar Body) n (Nested.inside p) h (reads_mapped MessageStatement.a_message (reads_line grammar Body n p h)))
     (with_as grammar Body) (as_with grammar Body)
 
--- ---- messages by the room that is left
+-- ---- messages by the levels that are left
 
 -- where the rule on nests is left out, one more may stand
 abbrev pub deep : ℕ → Rules → ℕ

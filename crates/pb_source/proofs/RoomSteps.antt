@@ -1,4 +1,4 @@
--- Statements of a message, and fields and groups, with the room that is left for nested messages. The word `message` alone is of the kind of messages.
+-- Statements of a message, and fields and groups, by the levels that are left for nested messages. The word `message` alone is of the kind of messages.
 use Rattle.std.proofs.Common.{◌≡◌, ◌<◌, ◌-◌, ℕ, zero, suc, List, [], ◌∷◌, Bool, true, false, not, ◌&&◌, codes, refl, ap, sym, ◌∙◌, Option, Some, None, Err, arith}
 use Rattle.std.specs.Prelude.{if◌then◌else◌}
 use Rattle.std.specs.Str.{bytes_eq}
@@ -81,7 +81,7 @@ pub none_in_room : (grammar : Grammar) → (n room : ℕ) (read : List Symbol) (
     → room_statement_reader grammar n room all_rules read ≡ Err (read, None)
 none_in_room grammar n room read s ts e h = rw e (other_of grammar n (nested_in grammar n room) s ts None h (λ e. cc e))
 
--- a message where room is left
+-- a message where a level is left
 pub message_in_room : (grammar : Grammar) → (n room : ℕ) (read : List Symbol) (s : Symbol) (ts : List Symbol) → 0 < room → read ≡ s ∷ ts → message_kind s ≡ Some kind.Message
     → room_statement_reader grammar n room all_rules read ≡ mapped MessageStatement.a_message (message_reader grammar n (room - 1)) all_rules read
 unfolding nested_in
@@ -90,7 +90,7 @@ message_in_room grammar n (suc room) read s ts l e h =
     let less : room ≡ suc room - 1 = omega arith in
     rw e (of_kind grammar n (nested_in grammar n (suc room)) s ts (Some kind.Message) h ∙ ap (λ r. mapped MessageStatement.a_message (message_reader grammar n r) all_rules (s ∷ ts)) less)
 
--- a message where no room is left
+-- a message where no level is left
 pub message_too_deep : (grammar : Grammar) → (n : ℕ) (read : List Symbol) (s : Symbol) (ts : List Symbol) → read ≡ s ∷ ts → message_kind s ≡ Some kind.Message
     → room_statement_reader grammar n 0 all_rules read ≡ Err (read, Some nests_bounded)
 unfolding nested_in
@@ -107,7 +107,7 @@ no_room_statement grammar room n = no_statement grammar n (nested_in grammar n r
 
 -- ---- fields and groups
 
--- a group where room is left
+-- a group where a level is left
 pub group_in_room : (grammar : Grammar) (n room : ℕ) (l : Label) (read : List Symbol) → 0 < room → is_proto2 grammar ≡ true → first_passes is_group read ≡ true
     → member_reader grammar n l (nested_in grammar n room) all_rules read ≡ group_reader grammar n l (room_body_reader grammar n (room - 1)) all_rules read
 unfolding nested_in
@@ -116,7 +116,7 @@ group_in_room grammar n (suc room) l read less p h =
     let one : room ≡ suc room - 1 = omega arith in
     rw (p, h) (ap (λ r. group_reader grammar n l (room_body_reader grammar n r) all_rules read) one)
 
--- a group where no room is left
+-- a group where no level is left
 pub group_too_deep : (grammar : Grammar) (n : ℕ) (l : Label) (read : List Symbol) → is_proto2 grammar ≡ true → first_passes is_group read ≡ true
     → member_reader grammar n l (nested_in grammar n 0) all_rules read ≡ Err (read, Some nests_bounded)
 unfolding nested_in

@@ -144,7 +144,7 @@ map_tail_reader g n =
 unfoldable pub dotted_reader : ℕ → Reader (List (List ℕ))
 dotted_reader n = choice is_dot (behind (mark_reader (codes ".")) (fullname_reader n)) (answer [])
 
--- a field of a type whose name begins with the word `map`, from behind that word
+-- a field of a type whose name begins with the word `map`, from after that word
 unfoldable pub of_map_reader : Grammar → ℕ → Reader DeclaredField
 of_map_reader g n = mapped (field_from Unlabelled) (both (mapped (λ ws. type_of (codes "map" ∷ ws)) (dotted_reader n)) (field_tail_reader g (suc n)))
 
@@ -243,7 +243,7 @@ extend_kind =
     (Some in_extend.Field)
     ((codes ";", Some in_extend.Empty) ∷ (codes ".", Some in_extend.Field) ∷ [])
 
--- a field or a group behind the word of its label
+-- a field or a group after the word of its label
 abbrev pub labelled_reader : Grammar → ℕ → List ℕ → Label → Nested → Reader Member
 labelled_reader g n w l nested = behind (keyword_reader w) (member_reader g n l nested)
 
@@ -331,19 +331,19 @@ message_statement_reader g n (Nested.inside body) = allowed_statement_reader g n
 abbrev pub body_reader : ℕ → Reader MessageStatement → Reader (List MessageStatement)
 body_reader n statement = until n is_closing statement (mark_reader (codes "}")) []
 
--- what nests in a message, where so many messages may nest in it, each in the one before
+-- what nests in a message, where this many levels are left: as many messages may nest in it, each in the one before
 unfoldable pub nested_in : Grammar → ℕ → ℕ → Nested
 nested_in g n zero = Nested.beyond (body_reader n (message_statement_reader g n Nested.none))
 nested_in g n (suc room) = Nested.inside (body_reader n (message_statement_reader g n (nested_in g n room)))
 
--- a statement of a message with that room
+-- a statement of a message with these levels left
 abbrev pub room_statement_reader : Grammar → ℕ → ℕ → Reader MessageStatement
 room_statement_reader g n room = message_statement_reader g n (nested_in g n room)
 
 abbrev pub room_body_reader : Grammar → ℕ → ℕ → Reader (List MessageStatement)
 room_body_reader g n room = body_reader n (room_statement_reader g n room)
 
--- a message with that room
+-- a message with these levels left
 abbrev pub message_reader : Grammar → ℕ → ℕ → Reader DeclaredMessage
 message_reader g n room = message_line_reader (room_body_reader g n room)
 

@@ -1,6 +1,7 @@
 //! What statements come to.
 
-ghost use Rattle.std.specs.Prelude.{◌≡◌, ◌≤◌, ◌<◌, ◌++◌, ◌∷◌, [], ℕ, List, Bool, Option, None, Some, codes, map, length, string_bytes, option_map, option_to_list, pos, IfOk, OnOk};
+ghost use Rattle.std.specs.Prelude.{◌≡◌, ◌≤◌, ◌<◌, ◌++◌, ◌∷◌, [], ℕ, List, Bool, Option, None, Some};
+ghost use Rattle.std.specs.Prelude.{codes, map, length, string_bytes, option_map, option_to_list, pos, IfOk, OnOk};
 ghost use Rattle.pb_schema.specs.Names.{entry_name};
 ghost use Rattle.pb_decl.specs.View.{field_view, message_view};
 ghost use Rattle.pb_decl.specs.declared.decl.TypeCode.{TypeCode};

@@ -22,7 +22,7 @@ use pb_tokens::refusal::Refusal;
 use pb_tokens::symbol::Placed;
 use std::alloc::Global;
 
-/// What stands behind a field's type, or the word `group`.
+/// What follows a field's type, or the word `group`.
 #[derive(Drop)]
 pub(crate) struct FieldTail<'a> {
     pub name: &'a str,
@@ -76,7 +76,7 @@ pub(crate) fn field_of(
     }
 }
 
-/// Reads what stands behind a field's type.
+/// Reads what follows a field's type.
 #[tactic(auto, unfolding(crate::specs::Readers::Lines::field_tail_reader))]
 fn field_tail<'a>(
     alloc: Global,
@@ -100,7 +100,7 @@ fn field_tail<'a>(
     Ok((tail, after))
 }
 
-/// Reads a field behind its label.
+/// Reads a field after its label.
 #[tactic(auto, unfolding(crate::specs::Readers::Lines::field_reader))]
 pub(crate) fn field(
     alloc: Global,
@@ -119,7 +119,7 @@ pub(crate) fn field(
     Ok((field, after))
 }
 
-/// Reads a map behind its word.
+/// Reads a map after its word.
 #[tactic(auto, unfolding(crate::specs::Readers::Lines::map_tail_reader))]
 fn map_tail(
     alloc: Global,

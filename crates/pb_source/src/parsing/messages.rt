@@ -1,6 +1,6 @@
 //! Messages, and what messages nest in: groups, and the oneofs and blocks of `extend` that have groups.
 //!
-//! `room` is how many messages may nest in one, each in the one before.
+//! `room` is how many levels are left: as many messages may nest in one, each in the one before.
 
 ghost use Rattle.std.specs.Prelude.{◌≡◌, ◌≤◌, ◌<◌, ◌++◌, [], length, map, codes, string_bytes, option_map, option_to_list, IfOk, OnOk, true};
 ghost use Rattle.pb_decl.specs.View.{message_view};
@@ -65,7 +65,7 @@ fn member(
     Ok((MemberSaid { field, group: None }, after))
 }
 
-/// Reads a field or a group behind the word of its label.
+/// Reads a field or a group after the word of its label.
 #[cycle(message)]
 fn labelled(
     alloc: Global,
@@ -120,7 +120,7 @@ fn oneof_statement(
     }
 }
 
-/// Puts a field behind others, if there is one.
+/// Puts a field after others, if there is one.
 fn push_member(members: &mut Vec<MemberSaid>, said: Option<MemberSaid>) -> Result<(), AllocError>
     ensures { OnOk result (members.new.items ≡ members.old.items ++ option_to_list said) }
 {
@@ -242,7 +242,7 @@ fn extension(
     }
 }
 
-/// Puts a message behind others, if there is one.
+/// Puts a message after others, if there is one.
 fn push_group(groups: &mut Vec<MessageDecl>, said: Option<MessageDecl>) -> Result<(), AllocError>
     ensures { OnOk result (groups.new.items ≡ groups.old.items ++ option_to_list said) }
 {
@@ -384,7 +384,7 @@ fn is_nesting(kind: MessageKind) -> bool
     )
 }
 
-/// Reads a statement of a message with that room.
+/// Reads a statement of a message with these levels left.
 #[cycle(message)]
 fn message_statement(
     alloc: Global,
@@ -452,7 +452,7 @@ fn message_body(
     Ok((decl, after))
 }
 
-/// Reads a message with that room.
+/// Reads a message with these levels left.
 #[cycle(message)]
 pub(crate) fn message(
     alloc: Global,

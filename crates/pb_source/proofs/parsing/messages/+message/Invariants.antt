@@ -9,7 +9,7 @@ use Rattle.pb_source.specs.StatementView.{member_view}
 use Rattle.pb_source.specs.Readers.Lines.{is_closing, nested_in, oneof_statement_reader, extension_reader, room_statement_reader}
 use Rattle.pb_source.proofs.parsing.messages.+message.Given as goal
 
--- ---- what each call leaves to be read, by the room and then by what calls what
+-- ---- what each call leaves to be read, by the levels left and then by what calls what
 
 abbrev pub decreases-member : goal.decreases-member
 decreases-member l = 16 * l.room
