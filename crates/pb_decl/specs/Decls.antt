@@ -28,7 +28,7 @@ pub record MessageHead : Type 0 where
   pub fields : List DeclaredField
   pub enums : List DeclaredEnum
   pub oneofs : List (List ℕ)
-  -- starts and ends; an end is behind its range
+  -- starts and ends; an end is after its range
   pub reserved : List (ℤ × ℤ)
   pub reserved_names : List (List ℕ)
   -- the mark `map_entry`

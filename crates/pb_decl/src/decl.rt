@@ -126,7 +126,7 @@ pub struct MessageDecl {
     pub enums: Vec<EnumDecl>,
     /// The names of its oneofs.
     pub oneofs: Vec<String>,
-    /// Starts and ends; an end is behind its range.
+    /// Starts and ends; an end is after its range.
     pub reserved: Vec<(i32, i32)>,
     pub reserved_names: Vec<String>,
     /// Whether it is the entry message of a map field.

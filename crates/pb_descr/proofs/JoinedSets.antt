@@ -77,7 +77,7 @@ by_own : (i j : ℕ) (ds : List Datum) → (causes_from (i + 1) ds ≡ [] → ca
 by_own i j ds rest [] silent = rest silent
 by_own i j ds rest (c ∷ cs) silent = absurd (cc)
 
--- that nothing is told does not rest on the index
+-- that nothing is reported does not rest on the index
 silent_anywhere : (i j : ℕ) (ds : List Datum) → causes_from i ds ≡ [] → causes_from j ds ≡ []
 silent_anywhere i j [] silent = refl
 silent_anywhere i j (d ∷ ds) silent = by_own i j ds (silent_anywhere (i + 1) (j + 1) ds) (file_causes d) silent
@@ -136,7 +136,7 @@ dropped_less zero xs = omega arith
 dropped_less (suc n) [] = omega arith
 dropped_less (suc n) (x ∷ xs) = omega (arith, dropped_less n xs)
 
--- what stands behind an index is all the rest
+-- what comes after an index is all the rest
 rest_whole : (n : ℕ) (xs : List ℕ) → take (length xs - n) (drop n xs) ≡ drop n xs
 rest_whole n xs = take_all (length xs - n) (drop n xs) (dropped_less n xs)
 

@@ -140,7 +140,7 @@ first_of_map : (i : ℕ) (cs : List DeclCause) (c : DeclCause) → slice_get cs 
 first_of_map i [] c h = absurd (cc)
 first_of_map i (d ∷ cs) c h = let same : d ≡ c = cc in ap (λ e. Some (at_file i e)) same
 
--- one that shows a cause is told
+-- one that shows a cause is reported
 pub file_stopped :
     {X : Type 0} (view : X → Datum) (xs : List X) (i : ℕ) (x : X) (c : DeclCause) (all : List (ℕ × DeclCause)) → i < length xs → x ≡ get_or xs i x → all ≡ files_from view i xs → slice_get (file_causes (view x)) 0 ≡ Some c → Some (at_file i c) ≡ slice_get all 0
 file_stopped view xs i x c all within is so_far told =

@@ -34,7 +34,7 @@ use Rattle.pb_descr.proofs.WithoutLemmas.{field_depth}
 
 -- FIELDS OF A TYPE
 
--- fields of a type, of so many levels
+-- fields of a type, of this many levels
 abbrev IsKept : ℕ → ℕ → Fields → Type 0
 IsKept m top fs = AreFields descriptor_types (message_fields descriptor_types m) fs × RisesFrom 0 fs × (fields_depth fs ≤ top)
 

@@ -141,7 +141,7 @@ written_next see write view xs i x old new v within is pushed seen written =
     let more = ap (λ zs. map write (map view zs)) taken ∙ ap (map write) (map-append view (take i xs) (x ∷ [])) ∙ map-append write (map view (take i xs)) (view x ∷ []) in
     ap (map see) pushed ∙ map-append see old (v ∷ []) ∙ ap (λ ds. ds ++ see v ∷ []) written ∙ ap (λ d. map write (map view (take i xs)) ++ d ∷ []) seen ∙ sym more
 
--- where each message of a list has so many levels, so has the list
+-- where each message of a list has this many levels, so has the list
 pub nest_each : (k : ℕ) (ms : List DeclaredMessage) → AllByRecursion (λ m. nests m ≤ k) ms → all_nest (messages_of ms) ≤ k
 nest_each k [] all = omega arith
 nest_each k (m ∷ ms) all = let first = all.0 in let rest = nest_each k ms all.1 in omega (arith, first, rest)

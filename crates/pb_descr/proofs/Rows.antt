@@ -69,7 +69,7 @@ no_syntax_written : set_bytes two_file ≡ 0x0a ∷ 0x03 ∷ 0x0a ∷ 0x01 ∷ 0
 unfolding value value_within records_spelled front_within first_varint after_varint named_length shortest shortest_within
 no_syntax_written = refl
 
--- CAUSES OF MESSAGES THAT ARE GIVEN AS FIELDS, in the order in which they are told
+-- CAUSES OF MESSAGES THAT ARE GIVEN AS FIELDS, in the order in which they are reported
 
 abbrev named : List ℕ → Fields → Datum
 named name fs = message (body (field 1 (one (scalar (text name))) fs) [])
@@ -139,7 +139,7 @@ order_inside :
     ≡ cause.MissingName ∷ cause.Extension ∷ cause.BadTypeNumber ∷ cause.MissingName ∷ cause.MissingName ∷ cause.MissingName ∷ []
 order_inside = refl
 
--- the cause of a nested message is told behind those of the message's fields
+-- the cause of a nested message is reported after those of the message's fields
 nested_behind_fields :
     file_causes
     (file_of (named (codes "M")

@@ -46,7 +46,7 @@ inner_held two n (field k h fs) = by_order (nat_cmp n k) (inner_held two n fs)
 
 -- LOOPS THAT CHANGE EACH ELEMENT
 
--- so many elements are changed, and the others are as they were
+-- this many elements are changed, and the others are as they were
 abbrev pub Changed : {V : Type 0} → (V → Datum) → (Datum → Datum) → ℕ → List Datum → List V → Type 0
 Changed shown f i old now = map shown now ≡ map f (take i old) ++ drop i old
 

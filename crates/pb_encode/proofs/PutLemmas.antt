@@ -28,7 +28,7 @@ packed_more k (scalar x) ds = ap (λ (l : List ℕ). l ++ packed_bytes k ds) (sy
 packed_more k (message m) ds = refl
 
 module _ {D : Type 0} {written : D → Option (List ℕ)} {failures : D → ℕ} where
-  -- bytes behind a number that is told in two ways
+  -- bytes after a number that is given in two ways
   pub puts_behind_number :
       {d0 d1 : D} {a b : Sink} (m n : ℕ) (rest : List ℕ) → m ≡ n → Puts written failures d0 d1 a b (shortest m ++ rest) → Puts written failures d0 d1 a b (shortest n ++ rest)
   puts_behind_number {d0} {d1} {a} {b} m n rest e h = subst (λ (i : ℕ). Puts written failures d0 d1 a b (shortest i ++ rest)) e h

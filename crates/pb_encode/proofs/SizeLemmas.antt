@@ -80,7 +80,7 @@ pub tag_size : (k tag n w : ℕ) → tag ≡ k → n ≡ length (shortest (tag *
 tag_size k tag n w e h small =
     let begin : tag * 8 + 1 ≡ 8 * k + 1 = omega (arith, e) in h ∙ ap (λ (i : ℕ). length (shortest i)) begin ∙ same_tags k 1 w (omega arith) small
 
--- a length that is told is the length, or it is the greatest that is told
+-- a length that is given is the length, or it is the greatest that can be given
 pub sealed_size : (a n size : ℕ) → size ≡ capped n → min ((a + length (shortest size)) + size) (2 ^ 128 - 1) ≡ capped ((a + length (shortest n)) + n)
 sealed_size a n size e =
     ⊎_elim

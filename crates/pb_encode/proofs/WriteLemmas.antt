@@ -28,7 +28,7 @@ use Rattle.pb_encode.proofs.MeasureLemmas.{shortest_records-append, plain_parts}
 use Rattle.pb_output.proofs.SinkLemmas.{puts_then, puts_lost}
 use Rattle.pb_encode.proofs.PutLemmas.{ToPut, to_put_start, to_put_more, to_put_done, to_put_lost}
 
--- a length in the table, and the lengths behind it
+-- a length in the table, and the lengths after it
 pub next_at : (xs : List ℕ) (i n : ℕ) (more : List ℕ) → i < length xs → drop i xs ≡ n ∷ more → (get_or xs i 0 ≡ n) × (drop (i + 1) xs ≡ more)
 next_at xs i n more h e = let f : get_or xs i 0 ∷ drop (i + 1) xs ≡ n ∷ more = sym (drop_more xs i 0 h) ∙ e in (cc, cc)
 
@@ -94,7 +94,7 @@ module _ {D : Type 0} {written : D → Option (List ℕ)} {failures : D → ℕ}
       {d0 d1 d2 : D} {a b c : Sink} {table : List ℕ} {at next : ℕ} {inside bs cs : List ℕ} → Puts written failures d0 d1 a b bs → Writes written failures d1 d2 b c table at next inside cs → Writes written failures d0 d2 a c table at next inside (bs ++ cs)
   writes_after p w = record { follows = λ more q. let one = w.follows more q in (puts_then p one.0, one.1) }
 
-  -- a part behind its length
+  -- a part after its length
   pub writes_sealed :
       {d0 d1 d2 : D} {a b c : Sink} {table : List ℕ} {at inside_at next : ℕ} {inside : List ℕ} (number size : ℕ) (s : List ℕ)
       → ((n : ℕ) (more : List ℕ) → drop at table ≡ n ∷ more → (size ≡ n) × (drop inside_at table ≡ more)) → Puts written failures d0 d1 a b (shortest (8 * number + 2) ++ shortest size)
@@ -219,7 +219,7 @@ module _ {D : Type 0} {written : D → Option (List ℕ)} {failures : D → ℕ}
   write_entries_end pool f left e s =
       to_write_done s (ap (λ (es : List (MapKey × Value)). shortest_records (canon_entries pool f (entries_view es))) e) (ap (λ (es : List (MapKey × Value)). lengths_in_entries pool f (entries_view es)) e)
 
-  -- an entry: its key and its value behind their length
+  -- an entry: its key and its value after their length
   pub writes_entry :
       {d0 d1 d2 d3 : D} {a b c e : Sink} {table : List ℕ} {at inside_at next : ℕ} {inside : List ℕ} (number size : ℕ) (key value : Payload)
       → ((n : ℕ) (more : List ℕ) → drop at table ≡ n ∷ more → (size ≡ n) × (drop inside_at table ≡ more)) → Puts written failures d0 d1 a b (shortest (8 * number + 2) ++ shortest size) → Puts written failures d1 d2 b c (shortest_record 1 key)
@@ -275,7 +275,7 @@ module _ {D : Type 0} {written : D → Option (List ℕ)} {failures : D → ℕ}
 
   -- A WHOLE TEXT
 
-  -- all that a new buffer was told, with nothing left in it
+  -- all that was put into a new buffer, with nothing left in it
   pub carries_whole :
       {d0 d1 d2 : D} {b c : Sink} (a : Sink) (bytes : List ℕ) → a ≡ record { held = []; sent = 0; failed = false } → Puts written failures d0 d1 a b bytes → Puts written failures d1 d2 b c [] → Carries written failures d0 d2 c bytes
   carries_whole {d0} {d1} {d2} {b} {c} a bytes e p q =

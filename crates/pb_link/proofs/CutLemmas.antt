@@ -54,7 +54,7 @@ module _ (X : Type 0) (whole : List X) where
   pub cut_first : (place : ℕ) (x : X) (xs : List X) → Cut X whole place (x ∷ xs) → slice_get whole place ≡ Some x
   cut_first place x xs c = let e : place ≡ place + 0 = omega arith in ap (slice_get whole) e ∙ cut_get place (x ∷ xs) 0 x c refl
 
-  -- how many stand before what is behind it
+  -- how many stand before what is after it
   pub cut_count : (t : X → Bool) (place : ℕ) (xs : List X) → Cut X whole place xs → count t (take (place + length xs) whole) ≡ count t (take place whole) + count t xs
   cut_count t place xs c =
       let long : place + length xs ≡ length (c.before ++ xs) = ap (λ n. n + length xs) (sym c.at) ∙ sym (length-append c.before xs) in

@@ -23,7 +23,7 @@ use Rattle.pb_link.proofs.TypeRowsLemmas.{message_row, message_at, enum_row, enu
 use Rattle.pb_link.proofs.EntryThereLemmas.{has_entry}
 use Rattle.pb_link.proofs.OneNameLemmas.{is_found}
 
--- from where a file sees the type's, its full name behind a dot means the place
+-- from where a file sees the type's, its full name after a dot means the place
 abbrev pub IsFoundAt : World → ℕ → ℕ → List ℕ → Type 0
 IsFoundAt w place of_file name = (file : ℕ) (scope : List ℕ) → w.sight.sees file of_file ≡ true → looked_up w.declared (w.sight.sees file) scope (46 ∷ name) ≡ found place
 

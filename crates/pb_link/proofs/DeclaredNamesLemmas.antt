@@ -111,7 +111,7 @@ join ts xs ys ms ns es fs first second =
     (onward (reordered_inner M E N F)
     (reordered_is ((M ++ N) ++ (E ++ F)) (flat_map (of_message ts) (ms ++ ns) ++ flat_map (of_enum ts) (es ++ fs)) (ap (λ l. l ++ (E ++ F)) (sym (flat_append (of_message ts) ms ns)) ∙ ap (λ l. flat_map (of_message ts) (ms ++ ns) ++ l) (sym (flat_append (of_enum ts) es fs))))))
 
--- what stands behind a message's own names comes before those of what is in it
+-- what comes after a message's own names is before those of what is in it
 around : {X : Type 0} (own m e entries f : List X) → IsReordered ((own ++ ((m ++ e) ++ entries)) ++ f) (((own ++ entries) ++ m) ++ (e ++ f))
 around own m e entries f =
     onward (reordered_append (own ++ ((m ++ e) ++ entries)) (own ++ (entries ++ (m ++ e))) f f (reordered_append own own ((m ++ e) ++ entries) (entries ++ (m ++ e)) (reordered_same own) (reordered_turn (m ++ e) entries)) (reordered_same f))

@@ -1,4 +1,4 @@
--- The oneofs that a pool's messages are declared with meet their rule: real ones stand first, and behind them one for each optional field, in
+-- The oneofs that a pool's messages are declared with meet their rule: real ones stand first, and after them one for each optional field, in
 -- the order of those fields.
 use Rattle.std.proofs.Common.{◌≡◌, ◌≢◌, ℕ, zero, suc, ◌+◌, ◌<◌, ◌≤◌, ◌⊎◌, inl, inr, List, [], ◌∷◌, take, length, Bool, true, false, ◌&&◌, ◌||◌, ◌==◌, not, cond, refl, sym, ap, ◌∙◌, subst, arith, Option, Some, None}
 use Rattle.std.specs.Prelude.{ℤ, pos, slice_get, filter, nat_lt, is_none}
@@ -229,7 +229,7 @@ synthetic_member o (f ∷ fs) h = by f.is_optional (is_member_of o f) h (synthet
     by false true k again = refl
     by false false k again = again k
 
--- of the first so many indexes none passes a test
+-- of the indexes below a number none passes a test
 none_of_first : (t : ℕ → Bool) (o k : ℕ) (xs : List (List ℕ)) → ((q : ℕ) → q < k + o → t q ≡ false) → list_any (λ e. t e.0) (take o (enumerate_from k xs)) ≡ false
 none_of_first t zero k xs none = refl
 none_of_first t (suc o) k [] none = refl
@@ -299,7 +299,7 @@ module _ (ts : Types) (pool : IsPool ts) (m : ℕ × MessageView) (there : Stand
           (synthetic_member o (declared_head ts m.0 m.1).fields is)
           (or_first (is_synthetic (declared_head ts m.0 m.1) o) (not (list_any (λ e. is_synthetic (declared_head ts m.0 m.1) e.0) (take o (enumerate_from 0 (declared_head ts m.0 m.1).oneofs)))) is)
 
-  -- a oneof of the message is not synthetic, and each behind those is
+  -- a oneof of the message is not synthetic, and each after those is
   pub real_oneof : (o : ℕ) → o < length m.1.oneofs → is_synthetic (declared_head ts m.0 m.1) o ≡ false
   real_oneof o real = real_apart Two ts Scope o Real m.1.fields real
 

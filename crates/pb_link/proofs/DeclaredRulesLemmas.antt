@@ -65,7 +65,7 @@ or_right true b h = absurd (true_false h)
     true_false e = cc
 or_right false b h = h
 
--- the field behind a declared one
+-- the field after a declared one
 declared_at : (two : Bool) (ts : Types) (scope : List ℕ) (s : ℕ) (fs : List FieldView) (i : ℕ) (f : DeclaredField) → slice_get (declared_fields two ts scope s fs) i ≡ Some f → (g : FieldView) × (slice_get fs i ≡ Some g) × ((r : ℕ) × (f ≡ declared_field two ts scope r g))
 declared_at two ts scope s [] i f h = absurd (none-some f h)
 declared_at two ts scope s (g ∷ fs) zero f h = (g, refl, (s, sym (some_same (declared_field two ts scope s g) f h)))

@@ -1,4 +1,4 @@
--- The declarations of a pool's types, told part by part: what each message, enum and file declares itself, in its place, tells what all of
+-- The declarations of a pool's types, part by part: what each message, enum and file declares itself, in its place, tells what all of
 -- them declare, and in which order.
 use Rattle.std.proofs.Common.{◌≡◌, ℕ, zero, suc, ◌+◌, ◌≤◌, List, [], ◌∷◌, ◌++◌, ◌&&◌, ◌==◌, map, length, refl, sym, ap, ◌∙◌, subst, arith, Option, Some, None, IsSomeAnd, true}
 use Rattle.std.specs.Prelude.{slice_get, filter_map}
@@ -32,7 +32,7 @@ Scope ts file parent = scope_by_names ts.files (message_names ts) file parent
 abbrev pub entries_of : Types → ℕ × MessageView → DeclaredMessages
 entries_of ts m = messages_of (filter_map (entry_of_field ts) m.1.fields)
 
--- something that is told of declarations and of the messages and enums that they declare, part by part
+-- a statement about declarations, and about the messages and enums that they declare, part by part
 pub record IsTold (ts : Types) (R : List Declaration → List (ℕ × MessageView) → List (ℕ × EnumView) → Type 0) : Type 0 where
   pub none : R [] [] []
   pub join : (xs ys : List Declaration) (ms ns : List (ℕ × MessageView)) (es fs : List (ℕ × EnumView)) → R xs ms es → R ys ns fs → R (xs ++ ys) (ms ++ ns) (es ++ fs)

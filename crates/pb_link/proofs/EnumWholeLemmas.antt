@@ -1,4 +1,4 @@
--- Going through the files of a pool, the messages outside others in each, and the enums of each message behind those in the messages in it,
+-- Going through the files of a pool, the messages outside others in each, and the enums of each message after those in the messages in it,
 -- and then the enums outside messages, goes through all enums in their order.
 use Rattle.std.proofs.Common.{◌≡◌, ◌≢◌, ℕ, zero, suc, ◌+◌, ◌<◌, ◌≤◌, ◌⊎◌, inl, inr, ⊎_elim, List, [], ◌∷◌, ◌++◌, true, ◌&&◌, ◌==◌, length, refl, sym, ap, ◌∙◌, subst, arith, Option, Some, None, IsSomeAnd}
 use Rattle.std.specs.Prelude.{slice_get, filter}
@@ -89,7 +89,7 @@ module _ (ts : Types) (pool : IsPool ts) where
   abbrev pub Own : ℕ × MessageView → ℕ × EnumView → Type 0
   Own m e = Is ts e × (e.1.file ≡ m.1.file) × (e.1.parent ≡ Some m.0)
 
-  -- a message's own enums stand behind those in the messages in it
+  -- a message's own enums come after those in the messages in it
   inner_first : (c : ℕ) (m : ℕ × MessageView) (x y : ℕ × EnumView) → parent_of ts.messages c ≡ Some m.0 → Held ts m.1.file c x → Own m y → x.0 < y.0
   inner_first c m x y up first own = first_of x y first.there own.0 differ never
     where

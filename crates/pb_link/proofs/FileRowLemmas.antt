@@ -10,7 +10,7 @@ use Rattle.pb_rules.proofs.FileRowLemmas.{NamesFile, none_append, no_file_enums,
 use Rattle.pb_link.specs.ToDecls.{outermost_messages, outermost_enums, declared_enum, declared_message, declared_file}
 
 module _ (ts : Types) where
-  -- what stands behind a file
+  -- what comes after a file
   abbrev pub Behind : ℕ → ℕ → ℕ → FileView → List Declaration
   Behind file place i f =
       let messages : List Declaration = messages_declared file place f.package_name (place + 1) (messages_of (map (declared_message (length ts.messages) ts) (outermost_messages ts i))) in

@@ -1,4 +1,4 @@
--- Where no rule fails, message types stand behind their parents and enums in declaration order.
+-- Where no rule fails, message types come after their parents and enums in declaration order.
 use Rattle.std.proofs.Common.{◌≡◌, ℕ, zero, suc, ◌+◌, ◌<◌, ◌≤◌, ◌⊎◌, inl, inr, ⊎_elim, List, [], ◌∷◌, Bool, true, false, not, length, refl, sym, ap, ◌∙◌, subst, arith, Option, Some, None}
 use Rattle.std.specs.Prelude.{slice_get, filter, filter_map, cond, take, option_and_then, is_some, if◌then◌else◌}
 use Rattle.std.specs.List.{cons_option}
@@ -27,7 +27,7 @@ get_below [] i less = absurd (omega (arith, less))
 get_below (x ∷ xs) zero less = (x, refl)
 get_below (x ∷ xs) (suc i) less = get_below xs i (omega (arith, less))
 
--- what a list gives at an index is that of an element, behind as many that pass
+-- what a list gives at an index is that of an element, after as many that pass
 abbrev GivenAt : {X Y : Type 0} → (X → Bool) → (X → Option Y) → List X → ℕ → Y → Type 0
 GivenAt {X = X} t h xs i y = (p : ℕ) × (x : X) × (slice_get xs p ≡ Some x) × (h x ≡ Some y) × (length (filter t (take p xs)) ≡ i)
 
@@ -234,7 +234,7 @@ follow files w world nothing i p is = by_index i refl
 
 -- ENUMS
 
--- a message behind an enum, whose parent stands before the enum, stands in a declaration around the enum's parent
+-- a message after an enum, whose parent stands before the enum, stands in a declaration around the enum's parent
 parent_around : (files : List DeclaredFile) (w : World) → IsWorldOf files w → (k x : ℕ) (d m : Declaration) → slice_get w.declared k ≡ Some d → slice_get w.declared x ≡ Some m → rank d.item ≡ 1 → rank m.item ≡ 0 → k < x → m.parent < k → m.parent < d.parent
 parent_around files w world k x d m at_d at_m enum message later before = ⊎_elim
     (λ e. absurd (omega (arith, (nested files w world).ranked x k m d at_m at_d later e, enum, message)))
@@ -263,7 +263,7 @@ rank_of_enum w k d e = ap rank e.item
 rank_of_type : (w : World) (k : ℕ) (at : IsTypeAt w k) → rank at.declared.item ≡ 0
 rank_of_type w k at = ap rank at.item
 
--- a message behind an enum is not within the message around the enum
+-- a message after an enum is not within the message around the enum
 not_within : (files : List DeclaredFile) (w : World) → IsWorldOf files w → NothingFails w → (k : ℕ) (d : Declaration) → IsEnumAt w k d → IsTypeAt w d.parent → d.parent < k → (m : ℕ) → IsWithin (pool_of files w).messages (message_index w d.parent) m → (x : ℕ) → IsTypeAt w x → message_index w x ≡ m → k < x → ⊥
 not_within files w world nothing k d e holder before m itself x at index later = omega (arith, index, index_less w d.parent x holder (omega (arith, before, later)))
 not_within files w world nothing k d e holder before m (deeper {q = q} is rest) x at index later = by_holder (around_message files w world nothing x at).holder (λ y. not_within files w world nothing k d e holder before q rest y)
@@ -284,7 +284,7 @@ not_within files w world nothing k d e holder before m (deeper {q = q} is rest) 
     by_holder (inl f) again = none-some q (sym (parent_in_file w at.declared.parent f) ∙ parent)
     by_holder (inr t) again = by_place again t (some_same (message_index w at.declared.parent) q (sym (parent_in_type w at.declared.parent t) ∙ parent)) (le_or_less at.declared.parent k)
 
--- behind an enum outside messages stands no message of its file
+-- after an enum outside messages stands no message of its file
 no_message_behind : (files : List DeclaredFile) (w : World) → IsWorldOf files w → NothingFails w → (k : ℕ) (d : Declaration) → IsEnumAt w k d → IsFileAt w d.parent → d.parent < k → (n x : ℕ) → x < n → (at : IsTypeAt w x) → at.declared.file ≡ d.file → k < x → ⊥
 no_message_behind files w world nothing k d e holder before zero x below at same later = omega (arith, below)
 no_message_behind files w world nothing k d e holder before (suc n) x below at same later = by_place (λ y. no_message_behind files w world nothing k d e holder before n y) (le_or_less at.declared.parent k)
@@ -312,7 +312,7 @@ ends_no_later files w world nothing k l a b one two less same = by_second around
     around_b : IsAround w l b
     around_b = around_enum files w world nothing l b two.entry two.there two.item
 
-    -- an enum outside messages stands behind no message that holds an enum
+    -- an enum outside messages comes after no message that holds an enum
     first_in_file : IsFileAt w a.parent → a.parent < k → (t : IsTypeAt w b.parent) → b.file ≡ t.declared.file → b.parent < l → (b.parent ≤ k) ⊎ (k < b.parent) → ⊥
     first_in_file f before t of_b below (inr later) = no_message_behind files w world nothing k a one f before (suc b.parent) b.parent (omega arith) t (sym of_b ∙ sym same) later
     first_in_file f before t of_b below (inl h) = ⊎_elim

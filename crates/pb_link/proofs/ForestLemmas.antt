@@ -1,4 +1,4 @@
--- Declaration order: what is in a message stands in one run behind it, so going through messages and those in them goes through all of them in
+-- Declaration order: what is in a message stands in one run after it, so going through messages and those in them goes through all of them in
 -- their order.
 use Rattle.std.proofs.Common.{◌≡◌, ◌≢◌, ℕ, zero, suc, ◌+◌, ◌<◌, ◌≤◌, ◌⊎◌, inl, inr, ⊎_elim, List, [], ◌∷◌, ◌++◌, Bool, true, false, cond, refl, sym, ap, ◌∙◌, subst, arith, Option, Some, None}
 use Rattle.std.specs.Prelude.{filter}

@@ -84,7 +84,7 @@ found_type w file scope f q h = by_name f.type_name h
 
 -- INDEXES OF TYPES
 
--- what a list gives at an element stands behind as much as elements before it give
+-- what a list gives at an element comes after as much as elements before it give
 pub index_there : {X Y : Type 0} (t : X → Bool) (h : X → Option Y) → ((x : X) → t x ≡ is_some (h x)) → (xs : List X) (p : ℕ) (x : X) (y : Y) → slice_get xs p ≡ Some x → h x ≡ Some y → slice_get (filter_map h xs) (length (filter t (take p xs))) ≡ Some y
 index_there t h agree [] p x y there gives = absurd (none-some x there)
 index_there t h agree (z ∷ zs) zero x y there gives = ap (λ o. slice_get (cons_option o (filter_map h zs)) 0) (ap h (some_same z x there) ∙ gives)

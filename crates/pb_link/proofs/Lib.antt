@@ -37,7 +37,7 @@ pub mod IndexLemmas
 pub mod OrderLemmas
 -- full names are those of declarations
 pub mod ScopeLemmas
--- types stand behind their parents, enums in declaration order
+-- types come after their parents, enums in declaration order
 pub mod FollowLemmas
 -- for names beside the places of what has them
 pub mod PlacedLemmas
@@ -75,7 +75,7 @@ pub mod DeclaredLemmas
 -- for messages and enums, put into their places one by one
 pub mod NestedLemmas
 -- ---- they stand in the pool's order
--- what is in a message stands in one run behind it
+-- what is in a message stands in one run after it
 pub mod ForestLemmas
 -- going through the files and the messages outside others in each, that is the order of all messages
 pub mod FlatLemmas
@@ -87,7 +87,7 @@ pub mod HeadLemmas
 pub mod DeclaredFileLemmas
 -- the order of enums is one order
 pub mod EnumOrderLemmas
--- going through the files, and the enums of each message behind those in the messages in it, is that order
+-- going through the files, and the enums of each message after those in the messages in it, is that order
 pub mod EnumWholeLemmas
 -- the declarations declare the enums in it
 pub mod EnumHeadLemmas
@@ -102,7 +102,7 @@ pub mod OwnRules
 pub mod DeclaredRulesLemmas
 -- for lists in another order, whose elements differ in both
 pub mod ReorderLemmas
--- for what all of them declare, told part by part
+-- for what all of them declare, part by part
 pub mod EachDeclaredLemmas
 -- their full names, in another order
 pub mod DeclaredNamesLemmas

@@ -23,7 +23,7 @@ is_file (a_value e i v) = false
 is_file (a_service s) = false
 is_file (a_method m) = false
 
--- around one declaration enums stand behind messages, and services behind enums
+-- around one declaration enums come after messages, and services after enums
 abbrev pub rank : Item → ℕ
 rank (a_file f) = 0
 rank (a_message head inner) = 0
@@ -58,12 +58,12 @@ record IsRoot (low high root : ℕ) (d : Declaration) : Type 0 where
   pub least : low ≤ rank d.item
   pub most : rank d.item ≤ high
 
--- the k-th of some declarations, which stand at a place and behind it, stands in an earlier one of them
+-- the k-th of some declarations, which stand at a place and after it, stands in an earlier one of them
 record IsInner (place k : ℕ) (d : Declaration) : Type 0 where
   pub least : place ≤ d.parent
   pub most : d.parent < place + k
 
--- Some declarations, which stand at a place and behind it: each stands directly in the one at `root`, or in one of them.
+-- Some declarations, which stand at a place and after it: each stands directly in the one at `root`, or in one of them.
 record IsForest (low high root place : ℕ) (ds : List Declaration) : Type 0 where
   pub roots : (k : ℕ) (d : Declaration) → slice_get ds k ≡ Some d → IsRoot low high root d ⊎ IsInner place k d
   pub no_file : (k : ℕ) (d : Declaration) → slice_get ds k ≡ Some d → is_file d.item ≡ false
@@ -144,7 +144,7 @@ forest_append low mid next high root place at xs ys rises first_low last_high be
         (get_split xs ys m e at_e))
         (get_split xs ys k d there)
 
-    -- one of the front that stands in the root is of no greater rank than one behind that does
+    -- one of the front that stands in the root is of no greater rank than one after that does
     across : (m i : ℕ) (d e : Declaration) → slice_get ys i ≡ Some d → slice_get xs m ≡ Some e → d.parent ≡ e.parent → rank e.item ≤ rank d.item
     across m i d e one two same = ⊎_elim
         (λ r. ⊎_elim (λ q. omega (arith, q.most, rises, r.least)) (λ j. absurd (omega (arith, j.least, same, r.parent, before))) (first.roots m e two))
@@ -254,7 +254,7 @@ forest_file file place f =
 
 -- FILES
 
--- Some declarations, which stand at a place and behind it, none of them in one outside.
+-- Some declarations, which stand at a place and after it, none of them in one outside.
 pub record AreNested (place : ℕ) (ds : List Declaration) : Type 0 where
   pub inside : (k : ℕ) (d : Declaration) → slice_get ds k ≡ Some d → (place ≤ d.parent) × (d.parent ≤ place + k)
   -- what stands between a declaration and the one around it is in that one, and no file

@@ -210,7 +210,7 @@ get_less (y ∷ xs) (suc i) x h = omega (arith, get_less xs i x h)
 pub before : (ts : Types) → IsPool ts → (m p : ℕ) → parent_of ts.messages m ≡ Some p → p < m
 before ts pool m p e = parents_before ts.messages (suc m) (λ i less. pool.messages_in_order.1 i) m p (omega arith) e
 
--- what is declared in a message stands behind it
+-- what is declared in a message comes after it
 pub child_behind : (ts : Types) → IsPool ts → (i : ℕ) (m : ℕ × MessageView) → Stands ts m → is_parent i m.1.parent ≡ true → i < m.0
 child_behind ts pool i m there is = before ts pool m.0 i (parent_there ts.messages m.0 m.1 there ∙ parent_is i m.1.parent is)
 
@@ -236,7 +236,7 @@ whole_is ts pool i t there = by (length ts.messages) refl
         (λ c h. let behind = child_behind ts pool i c h.0 h.1 in same_levels ts pool n (suc n) c (get_less ts.messages c.0 c.1 h.0) (omega (arith, size, behind)) (omega (arith, size)))
         (all_filtered (Stands ts) (λ c. is_parent i c.1.parent) (numbered ts) (each_stands ts)))
 
--- those in a message stand behind it
+-- those in a message come after it
 front_free : (i k : ℕ) (xs : List MessageView) (d : ℕ) → ((j : ℕ) (x : MessageView) → slice_get xs j ≡ Some x → is_parent i x.parent ≡ true → i < k + j) → k + d ≤ i + 1 → filter (λ m. is_parent i m.1.parent) (drop d (enumerate_from k xs)) ≡ filter (λ m. is_parent i m.1.parent) (enumerate_from k xs)
 front_free i k xs zero behind far = refl
 front_free i k [] (suc d) behind far = refl

@@ -80,7 +80,7 @@ none_before ds differ p d there is = any_none (has_name (full_name d)) p ds (no_
     any_none t (suc n) [] none = refl
     any_none t (suc n) (x ∷ xs) none = ap (λ b. b || list_any t (take n xs)) (none 0 x (omega arith) refl) ∙ any_none t n xs (λ q e less at. none (suc q) e (omega (arith, less)) at)
 
--- A type that is seen is found by its full name behind a dot
+-- A type that is seen is found by its full name after a dot
 pub is_found : (ds : List Declaration) → AllDiffer (names_of ds) → (sees : Seen) (scope name : List ℕ) (p : ℕ) (d : Declaration) → slice_get ds p ≡ Some d → is_type d.item ≡ true → is_named d.item ≡ true → full_name d ≡ name → sees d.file ≡ true → looked_up ds sees scope (46 ∷ name) ≡ found p
 is_found ds differ sees scope name p d there a_type is same seen =
     ap (λ o. unless_found o (if is_some (type_found ds every_file scope (46 ∷ name)) then not_visible else (if is_no_type ds sees scope (46 ∷ name) then not_a_type else not_found)))

@@ -84,7 +84,7 @@ some_unmarked t (z ∷ es) h = step t z es (t z) refl (some_unmarked t es) h
     step t z es true same later h = let at = later h in (suc at.0, at.1)
     step t z es false same later h = (0, (z, refl, same))
 
--- where no unmarked element stands behind a marked one, those are the front
+-- where no unmarked element comes after a marked one, those are the front
 unmarked_at : {Y : Type 0} (t : Y → Bool) (es : List Y) (o : ℕ) → ((i : ℕ) (e : Y) → slice_get es i ≡ Some e → t e ≡ false → list_any t (take i es) ≡ false) → o < length (filter (λ x. not (t x)) es) → Unmarked t es o
 unmarked_at t [] o first h = absurd (omega (arith, h))
 unmarked_at {Y = Y} t (z ∷ es) o first h = step (t z) refl o (λ p less. unmarked_at t es p (λ i e there plain. or_false (t z) (list_any t (take i es)) (first (suc i) e there plain)) less) h

@@ -60,7 +60,7 @@ message_went ns after mid last t ms es went same inner enums ends =
     ∙ ap (each_behind behind_enum (head_of t).enums) (inner ∙ messages_behind ms after ∙ ap (λ l. behind_messages l after) same ∙ ap (behind_messages (inner_of t)) went)
     ∙ behind_parts ns t
 
--- behind the message itself, its fields and its oneofs
+-- after the message itself, its fields and its oneofs
 pub head_went : {A : Type 0} (ns one fields after : List A) (head : MessageHead) (fs : List DeclaredField) (n : ℕ) → one ≡ drop 1 ns → fs ≡ head.fields → fields ≡ each_behind behind_one fs one → n ≡ length head.oneofs → after ≡ drop n fields → after ≡ behind_head head ns
 head_went ns one fields after head fs n first same behind size ends =
     ends ∙ ap (λ k. drop k fields) size

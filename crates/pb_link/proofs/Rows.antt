@@ -208,7 +208,7 @@ with_oneofs fields oneofs = a_set (message (record { name = codes "M"; fields = 
 shared_oneof : told (with_oneofs (member (codes "a") 1 0 true ∷ member (codes "b") 2 0 false ∷ []) (codes "o" ∷ [])) ≡ Some (2, cause.BadOneof)
 shared_oneof = refl
 
--- a real oneof behind a synthetic one, and before it
+-- a real oneof after a synthetic one, and before it
 real_behind : told (with_oneofs (member (codes "a") 1 0 true ∷ member (codes "b") 2 1 false ∷ []) (codes "_a" ∷ codes "o" ∷ [])) ≡ Some (5, cause.BadOneof)
 real_behind = refl
 

@@ -17,7 +17,7 @@ use Rattle.pb_rules.proofs.ThereLemmas.{built, some_same}
 use Rattle.pb_link.proofs.KindLemmas.{stands_behind, index_there, is_a_message}
 use Rattle.pb_link.proofs.IndexLemmas.{MayHoldType, message_in, holds_types}
 
--- an index behind an element that passes is greater
+-- an index after an element that passes is greater
 pub count_less : {X : Type 0} (t : X → Bool) (xs : List X) (q p : ℕ) (x : X) → q < p → slice_get xs q ≡ Some x → t x ≡ true → length (filter t (take q xs)) < length (filter t (take p xs))
 count_less t [] q p x less there passes = absurd (none-some x there)
 count_less t (z ∷ zs) q zero x less there passes = absurd (omega (arith, less))

@@ -134,7 +134,7 @@ none_kept t k (y ∷ ys) none =
     ap (λ b. map (λ (x : ℕ × List ℕ). x.1) (cond b ((k, y) ∷ filter t (enumerate_from (k + 1) ys)) (filter t (enumerate_from (k + 1) ys)))) (ap (λ n. t (n, y)) (sym e) ∙ none 0 y refl)
     ∙ none_kept t (k + 1) ys (λ i z there. let f : k + 1 + i ≡ k + suc i = omega arith in ap (λ n. t (n, z)) f ∙ none (suc i) z there)
 
--- the first ones pass a test of their index, and those behind them do not
+-- the first ones pass a test of their index, and those after them do not
 first_kept : (t : ℕ × List ℕ → Bool) (k : ℕ) (xs ys : List (List ℕ)) → ((i : ℕ) (x : List ℕ) → slice_get xs i ≡ Some x → t (k + i, x) ≡ true) →
     ((i : ℕ) (y : List ℕ) → slice_get ys i ≡ Some y → t (k + length xs + i, y) ≡ false) →
     map (λ (e : ℕ × List ℕ). e.1) (filter t (enumerate_from k (xs ++ ys))) ≡ xs

@@ -1,4 +1,4 @@
--- Behind each declaration stand the parts that it declares itself, and what is declared around each one stands before it.
+-- After each declaration stand the parts that it declares itself, and what is declared around each one stands before it.
 use Rattle.std.proofs.Common.{◌≡◌, ℕ, zero, suc, ◌+◌, ◌<◌, ◌⊎◌, inl, inr, ⊎_elim, List, [], ◌∷◌, ◌++◌, map, length, refl, sym, ap, ◌∙◌, subst, arith, Some, add-zero, append_assoc}
 use Rattle.std.specs.Prelude.{slice_get}
 use Rattle.std.specs.List.{AllByRecursion, enumerate_from}
@@ -94,7 +94,7 @@ In place around d = (d.parent ≡ place) × StandsIn d around
 abbrev pub StandsBehind : ℕ → List Declaration → ℕ → Declaration → Type 0
 StandsBehind place ds k d = (p : ℕ) × (o : Declaration) × (p < k) × (slice_get ds p ≡ Some o) × In (place + p) o d
 
--- Some declarations, which stand at a place and behind it: behind each stand its parts, and what is around it stands before it or outside.
+-- Some declarations, which stand at a place and after it: after each stand its parts, and what is around it stands before it or outside.
 pub record AreBuilt (Outside : Declaration → Type 0) (place : ℕ) (ds : List Declaration) : Type 0 where
   pub parts : (k : ℕ) (d : Declaration) → slice_get ds k ≡ Some d → (j : ℕ) (e : Declaration) → slice_get (parts_of (place + k) d) j ≡ Some e → slice_get ds (k + 1 + j) ≡ Some e
   pub around : (k : ℕ) (d : Declaration) → slice_get ds k ≡ Some d → Outside d ⊎ StandsBehind place ds k d
@@ -124,7 +124,7 @@ built_append O place mid xs ys from first second = record {
       (get_split xs ys k d there);
 }
 
--- what stands in the first declaration of a list, behind the list
+-- what stands in the first declaration of a list, after the list
 built_under : (O : Declaration → Type 0) (place mid : ℕ) (x : Declaration) (xs ys : List Declaration) → slice_get xs 0 ≡ Some x → mid ≡ place + length xs → AreBuilt O place xs → AreBuilt (In place x) mid ys → AreBuilt O place (xs ++ ys)
 built_under O place mid x xs ys first_is from first second = record {
   parts = parts_append O (In place x) place mid xs ys from first second;

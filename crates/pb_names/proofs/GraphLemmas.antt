@@ -114,7 +114,7 @@ joined_size (g ∷ fs) (suc k) f there = size_more (length g.name) _ _ _ _ (leng
 middle : (xs ys zs : List ℕ) (n : ℕ) → n ≡ length ys → take n (drop (length xs) (xs ++ (ys ++ zs))) ≡ ys
 middle xs ys zs n is = ap (take n) (drop-append_seam xs (ys ++ zs)) ∙ ap (λ m. take m (ys ++ zs)) is ∙ take-append_seam ys zs
 
--- the name of the file at an index, of so many bytes, stands behind those before
+-- the name of the file at an index, of this many bytes, comes after those before
 pub record NameStands (fs : List DeclaredFile) (k : ℕ) (f : DeclaredFile) (end size : ℕ) : Type 0 where
   pub begins : size ≤ end
   pub before : end - size ≡ length (joined_names (take k fs))

@@ -3,7 +3,7 @@
 pub mod RowLemmas
 -- for what a message stands for, part by part
 pub mod ViewLemmas
--- for the row: the parts of a declaration stand behind it, and what is around one stands before it
+-- for the row: the parts of a declaration come after it, and what is around one stands before it
 pub mod BehindLemmas
 -- ---- the rules that rest on a message or an enum alone
 -- for marks, by the index of what they speak of

@@ -79,7 +79,7 @@ differs i o h = step (i == o) refl
     step true is = absurd (h (eqb-true i o is))
     step false is = is
 
--- a field without a place is a member of none of so many oneofs
+-- a field without a place is a member of none of this many oneofs
 pub at_none : (n : ℕ) (z : Option ℤ) → index_below n z ≡ None → (o : ℕ) → o < n → is_oneof_index o z ≡ false
 at_none n None h o less = refl
 at_none n (Some (negsuc i)) h o less = refl

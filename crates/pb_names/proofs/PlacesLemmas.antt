@@ -88,7 +88,7 @@ seeks_next t h ds from d next there fails rest = record {
 seeks_past : (t h : Declaration → Bool) (ds : List Declaration) (from : ℕ) → length ds ≤ from → Seeks t h ds from None
 seeks_past t h ds from over = record { onward = ap (position_from t from) (past ds from over); place = tt; later = λ p e. absurd (none-some p e) }
 
--- What a narrower test finds stands where the wider one finds something, or behind that; by the declarations that are left.
+-- What a narrower test finds stands where the wider one finds something, or after that; by the declarations that are left.
 seeks_from : (t h : Declaration → Bool) → ((d : Declaration) → t d ≡ true → h d ≡ true) → (ds : List Declaration) (left from : ℕ) → length ds ≤ from + left → Seeks t h ds from (position_from h from (drop from ds))
 seeks_from t h narrower ds zero from enough = subst (Seeks t h ds from) (sym (ap (position_from h from) (past ds from (omega (arith, enough))))) (seeks_past t h ds from (omega (arith, enough)))
 seeks_from t h narrower ds (suc left) from enough = by (there_or_past ds from) (seeks_from t h narrower ds left (from + 1) (omega (arith, enough)))

@@ -1,4 +1,4 @@
--- Ranges with their ends behind them, by their starts.
+-- Ranges with their ends after them, by their starts.
 use Rattle.std.proofs.Common.{◌≡◌, ℕ, zero, suc, ◌+◌, ◌-◌, ◌<◌, ◌≤◌, ℤ, pos, ◌+ℤ◌, ◌≤ℤ◌, ◌<ℤ◌, List, [], ◌∷◌, length, map, take, drop, get_or, ◌++◌, append-nil, Bool, true, false, not, ◌&&◌, ◌||◌, refl, sym, ap, ◌∙◌, arith, subst, ⊎_elim}
 use Rattle.std.specs.Prelude.{int_lt, int_le, cond}
 use Rattle.std.specs.Int.{int_max}

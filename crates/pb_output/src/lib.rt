@@ -1,4 +1,4 @@
-//! An output behind a buffer of fixed size, whose first failure is kept: what puts bytes into it answers nothing, and asks at its end.
+//! An output with a buffer of fixed size, whose first failure is kept: what puts bytes into it answers nothing, and asks at its end.
 #![tactic(auto)]
 
 mod buffer;

@@ -93,7 +93,7 @@ impl Sink {
         if self.failed { Some(self.sent) } else { None }
     }
 
-    /// Sees that so many bytes more can be held.
+    /// Sees that this many bytes more can be held.
     #[inline(always)]
     pub fn make_room<O: Output>(&mut self, out: &mut O, count: usize)
         requires { count ≤ SIZE }
@@ -105,7 +105,7 @@ impl Sink {
         }
     }
 
-    /// Puts bytes behind those that were put before. More than there is room for go out behind what is held.
+    /// Puts bytes after those that were put before. Bytes that do not fit the buffer go out after those that it holds.
     pub fn put<O: Output>(&mut self, out: &mut O, bytes: &[u8])
         ensures { Puts O.written O.failures out.old out.new self.old self.new bytes.now }
     {
@@ -156,7 +156,7 @@ impl Sink {
         self.held.push_varint(number);
     }
 
-    /// Puts two numbers as varints, one behind the other.
+    /// Puts two numbers as varints, one after the other.
     #[inline(always)]
     pub fn put_varints<O: Output>(&mut self, out: &mut O, first: u64, second: u64)
         ensures { Puts O.written O.failures out.old out.new self.old self.new (shortest first ++ shortest second) }
@@ -166,7 +166,7 @@ impl Sink {
         self.held.push_varint(second);
     }
 
-    /// Puts a number as a varint, and a few bytes behind it.
+    /// Puts a number as a varint, and a few bytes after it.
     #[inline(always)]
     pub fn put_varint_before<O: Output>(&mut self, out: &mut O, number: u64, bytes: &[u8])
         requires { length bytes.now ≤ MAX_VARINT }

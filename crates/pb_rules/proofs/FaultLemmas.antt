@@ -69,7 +69,7 @@ told_refused files w p c d f (Fault file name cause) world told there in_file te
   file_named = tells.0;
 }
 
--- a fault of these files names what stands where the walk told one
+-- a fault of these files names what is where the walk reported one
 abbrev pub SameFault : List DeclaredFile → List ℕ → List ℕ → LinkCause → DeclaredFile → Declaration → LinkCause → Type 0
 SameFault files file name e f d c = (f.name ≡ file) × (full_name d ≡ name) × (c ≡ e)
 

@@ -63,7 +63,7 @@ no_file_services n file parent scope place (s ∷ ss) =
     (none_mapped (NamesFile n) (λ (m : DeclaredMethod). record { file = file; parent = place; scope = in_scope scope s.name; item = a_method m }) s.methods (λ m. refl))
     (no_file_services n file parent scope (place + length own) ss)
 
--- what stands behind a file
+-- what comes after a file
 abbrev Behind : ℕ → ℕ → DeclaredFile → List Declaration
 Behind file place f =
     let messages : List Declaration = messages_declared file place f.package_name (place + 1) f.messages in
@@ -105,7 +105,7 @@ named_as_file name (a_value g i v) f e = absurd (none-some f e)
 named_as_file name (a_service g) f e = absurd (none-some f e)
 named_as_file name (a_method g) f e = absurd (none-some f e)
 
--- a file stands at this place, behind what those before it declare
+-- a file stands at this place, after what those before it declare
 pub record StandsAt (file place : ℕ) (fs : List DeclaredFile) (p : ℕ) (d : Declaration) (f : DeclaredFile) : Type 0 where
   pub before : ℕ
   pub number : d.file ≡ file + before

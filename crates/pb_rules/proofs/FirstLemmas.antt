@@ -11,7 +11,7 @@ use Rattle.pb_rules.specs.Rules.{World}
 use Rattle.pb_rules.specs.CauseName.{cause_number}
 use Rattle.pb_rules.specs.Link.{holds, NothingFails, FailsFirst, all_causes, first_cause, or_later, first_fault}
 
--- no cause has a greater number than one behind it
+-- no cause has a greater number than one after it
 abbrev is_rising : List LinkCause → Bool
 is_rising [] = true
 is_rising (c ∷ cs) = list_all (λ e. nat_le (cause_number c) (cause_number e)) cs && is_rising cs
@@ -109,7 +109,7 @@ first_cause-least w place d c told =
 pub first_cause-none : (w : World) (place : ℕ) (d : Declaration) → first_cause w place d ≡ None → (e : LinkCause) → holds w place d e ≡ true
 first_cause-none w place d told e = not_fails (holds w place d e) (find_none (λ v. not (holds w place d v)) all_causes told e (every_cause e))
 
--- of some declarations, which stand at a place and behind it, a rule fails first at an index, with this cause
+-- of some declarations, which stand at a place and after it, a rule fails first at an index, with this cause
 pub record IsEarliest (w : World) (place : ℕ) (ds : List Declaration) (at : ℕ) (c : LinkCause) : Type 0 where
   pub declaration : Declaration
   pub there : slice_get ds at ≡ Some declaration

@@ -80,7 +80,7 @@ plain_name w entry d (Some name) file scope =
     and-true (passes w is_not_entry (lookup_at w d name))
     ∙ ap (λ x. passes w is_not_entry (looked_up w.declared (w.sight.sees x) d.scope name)) file ∙ ap (λ x. passes w is_not_entry (looked_up w.declared (w.sight.sees entry.file) x name)) scope
 
--- what is told of what stands at a place
+-- what is reported of what stands at a place
 told_there : (w : World) (all : List TypeNames) (k : ℕ) (d : Declaration) → map type_names_view all ≡ map (lookups w) w.declared → slice_get w.declared k ≡ Some d → type_names_view (names_of_place all k) ≡ lookups w d
 told_there w all k d told at =
     told_at type_names_view (lookups w) all w.declared k d type_names.None told (slice_get_within w.declared k d at) (sym (get_or_from_slice_get w.declared k d d at))

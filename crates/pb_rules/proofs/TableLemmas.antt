@@ -119,7 +119,7 @@ of_world files ds P all w in_files is =
     let R : List DeclaredFile → Type 0 = λ fs. P (world_of fs ds w.sight) in
     subst Q (sym is) (subst R (sym in_files) (all w.sight))
 
--- A WALK: of all worlds with these tables, what is told comes from a place on, and no file before it reaches itself
+-- A WALK: of all worlds with these tables, what is reported comes from a place on, and no file before it reaches itself
 abbrev pub IsWalked : List DeclaredFile → List DeclarationValue → Names → List Bool → ℕ → Type 0
 IsWalked files row n map_marks i = (w : World) → w.files ≡ files → AreTablesOf w (map declaration_view row) n map_marks → (first_told (first_cause w) 0 (map declaration_view row) ≡ first_told (first_cause w) i (map declaration_view (drop i row))) × IsHeldBefore w i
 

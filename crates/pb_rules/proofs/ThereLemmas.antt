@@ -1,4 +1,4 @@
--- What stands at the places of a world: the parts of each message and enum behind it, and each declaration in a file.
+-- What stands at the places of a world: the parts of each message and enum after it, and each declaration in a file.
 use Rattle.std.proofs.Common.{◌≡◌, ◌≢◌, ℕ, ℤ, zero, suc, ◌+◌, ◌<◌, List, [], ◌∷◌, ◌++◌, Bool, true, false, not, ◌&&◌, ◌||◌, map, length, refl, sym, ap, ◌∙◌, subst, arith, Option, Some, None, add-zero, ⊎_elim}
 use Rattle.std.specs.Prelude.{slice_get, filter_map, take}
 use Rattle.std.specs.List.{AllByRecursion, cons_option, list_any, enumerate_from}

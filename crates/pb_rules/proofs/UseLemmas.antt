@@ -134,7 +134,7 @@ one_used ds entry place d of b at is sums =
 pub none_there : (ds : List Declaration) (place : ℕ) (of : List Declaration) → slice_get ds place ≡ None → Sums ds (users.One place) of → ⊥
 none_there ds place of past sums = none-some sums.0 (sym past ∙ sums.1)
 
--- what is told at a place
+-- what is reported at a place
 nil_cons : {A P : Type 0} (b : A) (bs : List A) → ◌≡◌ {A = List A} [] (b ∷ bs) → P
 nil_cons b bs h = cc
 

@@ -5,7 +5,7 @@ use Rattle.pb_rules.specs.declared.cause.LinkCause.{LinkCause}
 use Rattle.pb_names.specs.Declarations.{Declaration}
 use Rattle.pb_rules.specs.Link.{or_later, first_told}
 
--- what the declarations from index i on tell is what the one there tells, or else what those behind it tell
+-- what the declarations from index i on tell is what the one there tells, or else what those after it tell
 pub told_more : {X : Type 0} (judge : ℕ → Declaration → Option LinkCause) (view : X → Declaration) (xs : List X) (i : ℕ) (x : X) → i < length xs → x ≡ get_or xs i x → first_told judge i (map view (drop i xs)) ≡ or_later i (judge i (view x)) (first_told judge (i + 1) (map view (drop (i + 1) xs)))
 told_more judge view xs i x h there =
     ap (λ l. first_told judge i (map view l)) (drop_more xs i x h) ∙ ap (λ y. or_later i (judge i (view y)) (first_told judge (i + 1) (map view (drop (i + 1) xs)))) (sym there)

@@ -20,7 +20,7 @@ use Rattle.pb_schema.specs.Packed.{numbers_of}
 use Rattle.pb_schema.proofs.PackedLemmas.{varint_front}
 use Rattle.pb_schema_tests.specs.Cuts.{Cuts}
 
--- what stands behind a slice's front
+-- what comes after a slice's front
 pub take_rest : (n : ℕ) (s : List ℕ) → take (length s - n) (drop n s) ≡ drop n s
 take_rest n s = take_all (length s - n) (drop n s) (omega (arith, length-drop n s))
 

@@ -82,7 +82,7 @@ pub record IsEntry (graph : List (List ℕ)) (progress : List Progress) (e : ℕ
 abbrev LeadsTo : List (List ℕ) → ℕ → (ℕ × ℕ) → Type 0
 LeadsTo graph j e = LeadsOn graph e.0 j × (e.0 ≢ j)
 
--- each index of the path leads on to those behind it, which are others
+-- each index of the path leads on to those after it, which are others
 abbrev IsPath : List (List ℕ) → List (ℕ × ℕ) → Type 0
 IsPath graph [] = Unit {0}
 IsPath graph (e ∷ es) = AllByRecursion (λ d. LeadsTo graph d.0 e) es × IsPath graph es

@@ -1,4 +1,4 @@
--- A graph whose lists stand in one, each behind the one before.
+-- A graph whose lists stand in one, each after the one before.
 use Rattle.std.specs.Prelude.{◌≡◌, ◌≤◌, ◌-◌, ℕ, List, [], ◌∷◌, ◌++◌, length, take, drop}
 use Rattle.std.specs.List.{AllByRecursion}
 use Rattle.pb_sets.specs.declared.flat.FlatGraph.{FlatGraph}
@@ -12,7 +12,7 @@ abbrev pub parts_of : List ℕ → ℕ → List ℕ → List (List ℕ)
 parts_of targets start [] = []
 parts_of targets start (end ∷ ends) = part_of targets start end ∷ parts_of targets end ends
 
--- what stands behind these parts
+-- what comes after these parts
 abbrev pub behind_parts : List ℕ → ℕ → List ℕ → List ℕ
 behind_parts targets start [] = drop start targets
 behind_parts targets start (end ∷ ends) = behind_parts targets end ends

@@ -26,7 +26,7 @@ fn part(targets: &[usize], start: usize, end: usize) -> &[usize]
 }
 
 impl FlatGraph {
-    /// No list yet, with room for so many.
+    /// No list yet, with space for this many.
     pub fn with_capacity(alloc: Global, lists: usize) -> Result<FlatGraph, AllocError>
         ensures lists { IfOk result (λ f. lists_of f ≡ []) }
         ensures empty { IfOk result (λ f. open_list f ≡ []) }

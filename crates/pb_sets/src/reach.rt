@@ -28,7 +28,7 @@ pub struct Reach {
 }
 
 impl Reach {
-    /// Nothing is reached among so many indexes.
+    /// Nothing is reached among this many indexes.
     pub fn new(alloc: Global, size: usize) -> Result<Reach, AllocError>
         ensures clear { IfOk result IsClear }
         ensures size { IfOk result (λ r. vec_len r.bits ≡ size) }

@@ -12,7 +12,7 @@ use Rattle.pb_source.specs.Syntaxes.{is_proto2}
 use Rattle.pb_source.specs.declared.kind.Label.TheVariants.{Unlabelled}
 use Rattle.pb_source.specs.Readers.Lines.{a_single, field_tail_reader, field_from, field_reader, dotted_reader, of_map_reader, map_reader}
 
--- names behind a first one, whether the first is put before them or not
+-- names after a first one, whether the first is put before them or not
 names_so : {U V : Type 0} (dot : Outcome U) (names : List Symbol → Outcome (List (List ℕ))) (w : List ℕ) (g : List (List ℕ) → V)
     → on_outcome (on_outcome dot (λ u r. on_outcome (names r) (λ ws x. Ok (w ∷ ws, x)))) (λ ws x. Ok (g ws, x))
     ≡ on_outcome (on_outcome dot (λ u r. names r)) (λ ws x. Ok (g (w ∷ ws), x))

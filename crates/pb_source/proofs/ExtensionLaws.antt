@@ -60,7 +60,7 @@ field_begins (text w ∷ c) h = tt
 field_begins (sign w ∷ c) h = tt
 
 module _ (grammar : Grammar) (n : ℕ) (Body : Rules → List MessageStatement → Language) (nested : Nested) (nests : Nests grammar n Body nested) where
-  -- a field or a group behind the word of its label
+  -- a field or a group after the word of its label
   abbrev Labelled : String → Label → Rules → Member → Language
   Labelled w l rules x = keyword w ▸ member grammar rules (Body rules) l x
 

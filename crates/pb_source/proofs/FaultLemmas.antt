@@ -86,7 +86,7 @@ module _ {A : Type 0} (e : Symbol → Bool) (File : Rules → A → Language) (p
       head_is : (s t : Symbol) (xs ys : List Symbol) → s ∷ xs ≡ t ∷ ys → s ≡ t
       head_is s t xs ys h = cc h
 
-  -- what is refused has the fault that is told
+  -- what is refused has the fault that is reported
   pub refused_so : (ts rest : List Symbol) (why : Option Rule) → ts ≢ [] → Refuses all_rules ts rest why → Fault File ts (length ts - length rest) (told why)
   refused_so ts [] why some h =
       let n = length ts in

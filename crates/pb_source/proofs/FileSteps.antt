@@ -22,7 +22,7 @@ pub or_if : (a b : Bool) → (a || b) ≡ (if a then true else b)
 or_if true b = refl
 or_if false b = refl
 
--- what is read behind a package is none
+-- what is read after a package is none
 pub read_once : (grammar : Grammar) → (ps : List Placed) (here after : ℕ) (said : Bool) (s : FileStatement)
     → ((n : ℕ) → length ps ≤ n → file_statement_reader grammar n said all_rules (symbols_from ps here) ≡ Ok (s, symbols_from ps after)) → Once said s
 read_once grammar ps here after said s h =

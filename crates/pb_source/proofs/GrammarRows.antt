@@ -215,7 +215,7 @@ reserved_ranges = (
   refl,
 )
 
--- ---- faults, told by the reader and so by the definitions
+-- ---- faults, as the reader reports them, and so by the definitions
 
 -- the reader refuses so, however far it may go
 abbrev Refuses : List Symbol → List Symbol → Option Rule → ℕ → Type 0
@@ -306,7 +306,7 @@ no_default : SyntaxFault with_default 12 Unexpected
 unfolding opened
 no_default = refused_so always (file reading.Strict) (file_reader reading.Strict) (reads_file reading.Strict) with_default defaults None (λ e. cc e) (at_least (Refuses with_default defaults None) 18 (λ n. refl))
 
--- so many messages, each in the one before
+-- this many messages, each in the one before
 abbrev nested : ℕ → List Symbol → List Symbol
 nested zero ts = ts
 nested (suc k) ts = w "message" ∷ w "A" ∷ m "{" ∷ nested k ts
@@ -369,9 +369,9 @@ aliases = (
   refl,
 )
 
--- ---- where a fault is told
+-- ---- where a fault is reported
 
--- a symbol behind the last is at the end of the source
+-- a symbol after the last is at the end of the source
 place_of_symbol : place_in (record { at = 3; symbol = Symbol.word (codes "a") } ∷ []) 9 0 ≡ 3
 place_of_symbol = refl
 

@@ -265,7 +265,7 @@ module _ (grammar : Grammar) where
   member_first rules Body l x c (inr d) =
       headed_then begins_type (headed_then begins_type (headed_one begins_type (word (codes "group")) refl)) c (lined_kept (is_proto2 grammar) (group grammar rules Body l x) c d).5
 
-  -- behind the word of a label
+  -- after the word of a label
   pub reads_labelled : (n : ℕ) (w : String) (l : Label) (Body : Rules → List MessageStatement → Language) (nested : Nested) → Nests n Body nested
       → Reads n never (λ rules x. keyword w ▸ member grammar rules (Body rules) l x) (labelled_reader grammar n (codes w) l nested)
   reads_labelled n w l Body nested h = reads_behind {L = λ rules. keyword w} (reads_keyword (codes w)) (reads_member n l Body nested h)

@@ -69,7 +69,7 @@ module _ (grammar : Grammar) (Body : Rules → List MessageStatement → Languag
   With rules (MessageStatement.reserved_ranges rs) = message_statement grammar rules (Body rules) (MessageStatement.reserved_ranges rs)
   With rules (MessageStatement.reserved_names ns) = message_statement grammar rules (Body rules) (MessageStatement.reserved_names ns)
 
-  -- a field or a group behind the word of its label
+  -- a field or a group after the word of its label
   abbrev Labelled : String → Label → Rules → Member → Language
   Labelled w l rules x = keyword w ▸ member grammar rules (Body rules) l x
 

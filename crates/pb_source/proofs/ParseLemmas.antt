@@ -1,4 +1,4 @@
--- What is told of a source is its declaration, or its fault and no other.
+-- What is reported of a source is its declaration, or its fault and no other.
 use Rattle.std.proofs.Common.{◌≡◌, ℕ, zero, suc, ◌^◌, ◌-◌, ◌<◌, ◌≤◌, List, [], ◌∷◌, length, get_or, refl, ap, sym, ◌∙◌, subst, arith, ◌⊎◌, inl, inr, IsUtf8}
 use Rattle.pb_decl.specs.Decls.{DeclaredFile}
 use Rattle.pb_source.specs.declared.reading.Reading.{Reading}
@@ -19,7 +19,7 @@ use Rattle.pb_source.specs.Readers.Told.{fault_at}
 use Rattle.pb_source.proofs.OneFile.{Read}
 use Rattle.pb_source.proofs.SourceLaws.{ReadsAll, is_source, only_source, no_fault, has_fault, only_fault, no_source, token_only, token_no_source}
 
--- ---- what is told
+-- ---- what is reported
 
 -- the declaration of the bytes, which have no other, and no fault
 pub record Declared (how : Reading) (name bytes : List ℕ) (d : DeclaredFile) : Type 0 where

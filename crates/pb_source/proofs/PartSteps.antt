@@ -121,7 +121,7 @@ module _ (p : MessageParts) (ss : List MessageStatement) (h : HoldsSaid p ss) wh
       holds_more p (record p { reserved_names = v }) ss (MessageStatement.reserved_names (map string_bytes ns)) h (no_more field_view p.fields.items) (no_more message_view p.messages.items)
       (no_more enum_view p.enums.items) (no_more string_bytes p.oneofs.items) (sym (append-nil p.reserved.items)) (ap (map string_bytes) e ∙ map-append string_bytes p.reserved_names.items ns)
 
--- the message of what its parts hold, behind the oneofs of optional fields
+-- the message of what its parts hold, after the oneofs of optional fields
 pub message_made : (p : MessageParts) (ss : List MessageStatement) (name : List ℕ) (fields : List DeclaredField) (oneofs : List (List ℕ)) → HoldsSaid p ss
     → fields ≡ with_own_oneofs (length p.oneofs.items) (map field_view p.fields.items)
     → oneofs ≡ map string_bytes p.oneofs.items ++ own_oneofs (map field_view p.fields.items)
@@ -167,7 +167,7 @@ with_own_first n f fs = by_mark f.is_optional
     by_mark true = let e : suc n ≡ n + 1 = omega arith in ap (λ k. in_oneof n f ∷ with_own_oneofs k fs) e
     by_mark false = let e : n ≡ n + 0 = omega arith in ap (λ k. f ∷ with_own_oneofs k fs) e
 
--- the oneofs of the fields of front have been added to those that stood before, and those of the rest have not
+-- the oneofs of the fields of front have been added to those that were before, and those of the rest have not
 pub record OwnAdded (fields : List DeclaredField) (oneofs : List (List ℕ)) (front rest : List DeclaredField) (now : List (List ℕ)) : Type 0 where
   pub fields_same : with_own_oneofs (length oneofs) fields ≡ front ++ with_own_oneofs (length now) rest
   pub oneofs_same : now ++ own_oneofs rest ≡ oneofs ++ own_oneofs fields

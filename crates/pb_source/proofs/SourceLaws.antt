@@ -37,7 +37,7 @@ alone_is (p ∷ ps) = ap (λ ts. symbol_of p.symbol ∷ ts) (alone_is ps)
 length_from : (ps : List Placed) (at : ℕ) → length (symbols_from ps at) ≡ length ps - at
 length_from ps at = length-map (drop at ps) (λ p. symbol_of p.symbol) ∙ length-drop at ps
 
--- behind the last symbol is the end
+-- after the last symbol is the end
 place_behind : (ss : List PlacedSymbol) (end k : ℕ) → length ss ≤ k → place_in ss end k ≡ end
 place_behind [] end k l = refl
 place_behind (s ∷ ss) end zero l = absurd (omega arith)

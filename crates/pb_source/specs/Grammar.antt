@@ -180,7 +180,7 @@ body g rules (suc room) ss ts = Until (message_statement g rules (body g rules r
 abbrev pub message : Grammar → Rules → ℕ → DeclaredMessage → Language
 message g rules room = message_line (body g rules room)
 
--- Where the rule on nests is left out, one more may stand: what is told of it is told at its first word.
+-- Where the rule on nests is left out, one more may be there: its fault is reported at its first word.
 abbrev pub room : Rules → ℕ
 room rules = if rules nests_bounded then 64 else 65
 
@@ -238,7 +238,7 @@ file_statement g rules (FileStatement.an_extend ms) = beyond_strict g (extend g 
 file_statement g rules (FileStatement.an_enum e) = enum_line g rules e
 file_statement g rules (FileStatement.a_service s) = service g rules s
 
--- syntax    = "syntax" "=" text ";", behind this first symbol
+-- syntax    = "syntax" "=" text ";", after this first symbol
 abbrev pub syntax_said : Symbol → List ℕ → Language
 syntax_said first b = one first ▸ mark "=" ▸ one (text b) ▸ mark ";"
 

@@ -11,7 +11,7 @@ use Rattle.pb_source.specs.declared.parsing.declared.FileParts.{FileParts}
 use Rattle.pb_source.specs.declared.parsing.statement.MessageSaid.{MessageSaid}
 use Rattle.pb_source.specs.declared.parsing.statement.MessageSaid.TheVariants as in_message
 
--- ---- what a message's parts and an enum hold, behind some statements
+-- ---- what a message's parts and an enum hold, after some statements
 
 pub record HoldsSaid (p : MessageParts) (ss : List MessageStatement) : Type 0 where
   pub fields : map field_view p.fields.items ≡ fields_of 0 ss
@@ -40,7 +40,7 @@ with_own_oneof n f = if f.is_optional then in_oneof n f else f
 abbrev pub OnePackage : List FileStatement → Type 0
 OnePackage ss = length (all_said packages_said ss) ≤ 1
 
--- what a file's parts hold, behind some statements
+-- what a file's parts hold, after some statements
 pub record FileHolds (p : FileParts) (ss : List FileStatement) : Type 0 where
   pub package_name : string_bytes p.«package» ≡ package_of ss
   pub imports : map string_bytes p.imports.items ≡ all_said imports_said ss

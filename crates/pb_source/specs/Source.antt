@@ -14,7 +14,7 @@ use Rattle.pb_source.specs.SyntaxFault.{SyntaxFaultIn}
 abbrev pub symbols_alone : List PlacedSymbol → List Symbol
 symbols_alone = map (λ p. p.symbol)
 
--- where the symbol of this index begins; behind the last, the end of the source
+-- where the symbol of this index begins; after the last, the end of the source
 abbrev pub place_in : List PlacedSymbol → ℕ → ℕ → ℕ
 place_in [] end k = end
 place_in (p ∷ ps) end zero = p.at

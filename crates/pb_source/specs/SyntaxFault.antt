@@ -14,7 +14,7 @@ pub data IsCause {A : Type 0} (File : Rules → A → Language) (ts : List Symbo
   a_rule : (r : Rule) → Begins (File (without r)) ts → IsCause File ts (cause_of r)
   no_rule : ((r : Rule) → ¬ Begins (File (without r)) ts) → IsCause File ts Unexpected
 
--- The fault at the symbol of this index; at the index behind the last, that of the source's end.
+-- The fault at the symbol of this index; at the index after the last, that of the source's end.
 pub data Fault {A : Type 0} (File : Rules → A → Language) (ts : List Symbol) : ℕ → SourceCause → Type 0 where
   no_symbols : ts ≡ [] → ((v : A) → ¬ File all_rules v ts) → Fault File ts 0 NotProto3
   at_end : ts ≢ [] → Begins (File all_rules) ts → ((v : A) → ¬ File all_rules v ts) → Fault File ts (length ts) Unexpected

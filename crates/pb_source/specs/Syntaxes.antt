@@ -20,6 +20,6 @@ is_proto2 (Lenient Proto3) = false
 abbrev pub optional_label : Grammar → Label
 optional_label g = if is_proto2 g then Unlabelled else Optional
 
--- The words that begin no field's type behind a label, or in a oneof: in proto2 `group` begins a group.
+-- The words that begin no field's type after a label, or in a oneof: in proto2 `group` begins a group.
 abbrev pub grouping : Grammar → List String
 grouping g = if is_proto2 g then "group" ∷ [] else []

@@ -1,6 +1,6 @@
 //! Kinds of statements. The first symbol of a statement decides.
 
-/// What begins in a file, behind its syntax.
+/// What begins in a file, after its syntax.
 #[derive(Clone, Copy, PartialEq, Eq)]
 pub(crate) enum FileKind {
     /// `;` alone.

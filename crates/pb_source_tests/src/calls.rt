@@ -46,7 +46,7 @@ fn causes(rt: HostRuntime) -> Result<(), Fail> {
     Ok(())
 }
 
-/// A word so many times over.
+/// A word this many times over.
 fn repeated(alloc: Global, word: &str, times: u32) -> Result<String, Fail> {
     let mut text = String::new(alloc);
     for _ in 0..times {
@@ -75,7 +75,7 @@ fn long_sources(rt: HostRuntime) -> Result<(), Fail> {
     Ok(())
 }
 
-/// Where a growth of memory is refused, which `.ci/growths` does, that is told at byte 0.
+/// Where an allocation is refused, as by `.ci/growths`, that is reported at byte 0.
 #[test]
 fn growths(rt: HostRuntime) -> Result<(), Fail> {
     let is_told = match lex(rt.alloc(), "message M { int32 a = 1; }") {

@@ -5,7 +5,7 @@ use pb_source::parse;
 use std::alloc::Global;
 use std::test::Fail;
 
-/// A row: a source behind its syntax and a blank, and the bytes of the set of m.proto, or the byte and the cause of the fault.
+/// A row: a source after its syntax and a blank, and the bytes of the set of m.proto, or the byte and the cause of the fault.
 const ROWS: &str = "
  => 0a110a076d2e70726f746f620670726f746f33
 message M { int32 a = 1; } => 0a210a076d2e70726f746f220e0a014d12090a0161180120012805620670726f746f33
@@ -48,7 +48,7 @@ import 'a => 26 OpenText
 import '\\q'; => 27 BadToken
 ";
 
-/// What is told of a source: the bytes of its set, or its fault.
+/// What is reported of a source: the bytes of its set, or its fault.
 fn told(alloc: Global, source: &[u8]) -> Result<String, Fail> {
     match parse(alloc, "m.proto", source) {
         Ok(decl) => {
@@ -76,7 +76,7 @@ fn sources(rt: HostRuntime) -> Result<(), Fail> {
     Ok(())
 }
 
-/// Where a growth of memory is refused, which `.ci/growths` does, that is told at byte 0, or the answer stands.
+/// Where an allocation is refused, as by `.ci/growths`, that is reported at byte 0, or the answer is as before.
 #[test]
 fn growths(rt: HostRuntime) -> Result<(), Fail> {
     for row in ROWS.lines() {
@@ -119,7 +119,7 @@ fn whole_sources(rt: HostRuntime) -> Result<(), Fail> {
     Ok(())
 }
 
-/// A part so many times over.
+/// A part this many times over.
 fn push_repeated(source: &mut String, part: &str, count: u32) -> Result<(), Fail> {
     for _ in 0..count {
         source.push_str(part)?;
@@ -127,7 +127,7 @@ fn push_repeated(source: &mut String, part: &str, count: u32) -> Result<(), Fail
     Ok(())
 }
 
-/// So many messages, each in the one before, of which so many are closed.
+/// A number of messages, each in the one before, of which this many are closed.
 fn nested(alloc: Global, count: u32, closed: u32) -> Result<String, Fail> {
     let mut source = String::from_str(alloc, "syntax = \"proto3\"; ")?;
     push_repeated(&mut source, "message A{", count)?;

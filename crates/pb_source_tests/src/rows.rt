@@ -4,7 +4,7 @@ use pb_source::{SourceCause, SourceFault, Token, TokenKind, lex};
 use std::alloc::Global;
 use std::test::Fail;
 
-/// A row: the source, then each token as its kind (W, N, T, S), its first byte and the byte behind it, or `!`, the byte and the cause of the
+/// A row: the source, then each token as its kind (W, N, T, S), its first byte and the byte after it, or `!`, the byte and the cause of the
 /// fault. In a source `¶` stands for a line feed, `␀` for a NUL and `␡` for the delete character.
 const ROWS: &str = "
  =>

@@ -23,7 +23,7 @@ length-replicate zero = refl
 length-replicate (suc n) = ap suc (length-replicate n)
 
 module _ (pool : Types) (m : ℕ) (limits : Bounds) where
-  -- the text was taken behind the length, and is a text of v
+  -- the encoding was taken after the length, and is one of v
   pub frame_taken :
       (old middle new : Option (List ℕ)) (start size : ℕ) (v : Message) → TakesLength start size old middle
       → IfSome middle (λ l. IsFrameOf pool m limits size l v) → IfSome middle (λ l. new ≡ Some (drop size l))
@@ -85,7 +85,7 @@ module _ (pool : Types) (m : ℕ) (limits : Bounds) where
         (taken ∙ ap (λ (z : List ℕ). front ++ z) (sym (take-append-drop size l)) ∙ sym (append_assoc front (take size l) (drop size l))),
   )
 
--- what is taken behind the length stays in the frame
+-- what is taken after the length stays in the frame
 pub stays_in_text :
     (limits : Bounds) (old middle new : Option (List ℕ)) (start size : ℕ) → TakesLength start size old middle → size ≤ limits.bytes → TakesAtMost size middle new
     → StaysInFrame limits old new

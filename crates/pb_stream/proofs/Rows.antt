@@ -108,7 +108,7 @@ cut_in_the_length = FrameFault.no_length (λ h. cc) (VarintFault.cut_short (lit<
 above_the_limit : FrameFault pool 0 (record { bytes = 2; depth = 1 }) (0x03 ∷ 0x08 ∷ 0x96 ∷ 0x01 ∷ []) (fault 0 [] LengthTooLarge)
 above_the_limit = FrameFault.too_large (length_here 3 (0x08 ∷ 0x96 ∷ 0x01 ∷ []) (lit< tt)) (lit< tt) refl
 
--- what begins with the tag of the number 1, behind a length of one byte
+-- what begins with the tag of the number 1, after a length of one byte
 a_value :
     {n : ℕ} {rest : List ℕ} {f g : Fault} → n < 128 → n ≤ 100 → 0 < n → VarintFault (record { at = 2; known = Some (n - 1); rest = rest }) g
     → f ≡ record g { path = step 1 [] ∷ g.path } → FrameFault pool 0 limits (n ∷ 0x08 ∷ rest) f

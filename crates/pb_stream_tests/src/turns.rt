@@ -152,7 +152,7 @@ fn devices(rt: HostRuntime) -> Result<(), Fail> {
     Ok(())
 }
 
-/// Whether a message is written as this frame, or out of memory is reported before anything is. The output in memory fails where it can't grow, behind a
+/// Whether a message is written as this frame, or out of memory is reported before anything is. The output in memory fails where it can't grow, after a
 /// beginning that is counted.
 fn is_sent(alloc: Global, message: &DynamicMessage<'_>, frame: &[u8]) -> bool {
     let mut output = MemOutput::new(alloc, 1_000_000, FailurePlan::NEVER);

@@ -23,7 +23,7 @@ abbrev Closed : List Bracket → Language
 Closed [] = nothing
 Closed (b ∷ bs) = Balanced ▸ closing b ▸ Closed bs
 
--- one symbol, by the brackets that are open behind it
+-- one symbol, by the brackets that are open after it
 abbrev Step : List Bracket → Rules → List Bracket → Language
 Step bs rules cs ts = (s : Symbol) × (open_behind bs s ≡ Some cs) × (ts ≡ s ∷ [])
 

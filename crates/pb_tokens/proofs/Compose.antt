@@ -1,4 +1,4 @@
--- Readers of one thing behind another, with the values of both or of one.
+-- Readers of one thing after another, with the values of both or of one.
 use Rattle.std.proofs.Common.{◌≡◌, ℕ, List, [], ◌∷◌, ◌++◌, Bool, true, false, refl, ap, sym, ◌∙◌, subst, append-nil, arith}
 use Rattle.pb_tokens.specs.Symbols.{Symbol}
 use Rattle.pb_tokens.specs.Language.{Language, ◌▸◌, ◌or◌, Rules, all_rules}

@@ -50,7 +50,7 @@ pub mod NameSteps
 pub mod ReaderLaws
 -- of nothing, of one symbol, of one of two languages
 pub mod Parts
--- of one thing behind another
+-- of one thing after another
 pub mod Compose
 -- for all of them: the symbols that words begin with
 pub mod Heads

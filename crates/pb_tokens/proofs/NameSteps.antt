@@ -6,7 +6,7 @@ use Rattle.std.specs.Borrow.{Bor}
 use Rattle.pb_tokens.specs.PhraseView.{words_view}
 use Rattle.pb_tokens.specs.Said.{joined}
 
--- the words, each behind a dot
+-- the words, each after a dot
 abbrev pub behind_dots : List (List ℕ) → List ℕ
 behind_dots [] = []
 behind_dots (w ∷ ws) = 46 ∷ w ++ behind_dots ws

@@ -8,7 +8,7 @@ use Rattle.pb_tokens.specs.Tokens.{PlacedToken, AreTokens, LexFault}
 use Rattle.pb_tokens.proofs.OneLexing.{one_list, one_fault, not_both}
 use Rattle.pb_tokens.proofs.SomeLexing.{tokens_or_fault}
 
--- faults that are told at one place, for one cause
+-- faults that are reported at one place, for one cause
 pub same_told : (f g : SourceFault) → (f.byte ≡ g.byte) × (f.cause ≡ g.cause) → f ≡ g
 same_told f g h = λ i. fault (h.0 i) (h.1 i)
 

@@ -381,7 +381,7 @@ reads_optname g n =
 
 -- ---- options
 
--- a sign behind a name stops it
+-- a sign after a name stops it
 pub mark_stops : {S : Language} (w : List ℕ) (c rest : List Symbol) → bytes_eq w (codes ".") ≡ false → (one (sign w) ▸ S) c → IsStop is_dot (c ++ rest)
 mark_stops {S} w c rest h d = stops_rest is_dot (c ++ rest) (front_of_one {S = S} is_dot (sign w) c rest d ∙ h)
 

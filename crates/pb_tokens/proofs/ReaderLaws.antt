@@ -42,7 +42,7 @@ pub record Allowed {A : Type 0} (R : A → Language) (ts : List Symbol) (rest : 
 pub record Reads {A : Type 0} (n : ℕ) (extends : Symbol → Bool) (R : Rules → A → Language) (p : Reader A) : Type 0 where
   pub sound : (rules : Rules) (ts : List Symbol) (v : A) (rest : List Symbol) → length ts ≤ n → p rules ts ≡ Ok (v, rest) → Taken (R rules) ts v rest
   pub complete : (rules : Rules) (v : A) (c rest : List Symbol) → length (c ++ rest) ≤ n → R rules v c → IsStop extends rest → p rules (c ++ rest) ≡ Ok (v, rest)
-  -- what was read is read again, whatever stands behind the symbol that follows it
+  -- what was read is read again, whatever comes after the symbol that follows it
   pub again :
       (rules : Rules) (c : List Symbol) (v : A) (t : Symbol) (x y : List Symbol) → length (c ++ t ∷ x) ≤ n → length (c ++ t ∷ y) ≤ n
       → p rules (c ++ t ∷ x) ≡ Ok (v, t ∷ x) → p rules (c ++ t ∷ y) ≡ Ok (v, t ∷ y)
@@ -81,7 +81,7 @@ Follows {A} {B} first second R S =
 abbrev pub Chained : {A B : Type 0} → (Rules → A → Language) → (A → Rules → B → Language) → Rules → B → Language
 Chained {A} R S rules w ts = (v : A) × (R rules v ▸ S v rules w) ts
 
--- What a reader gave with this front read is given again, whatever stands behind the first symbol of what was left.
+-- What a reader gave with this front read is given again, whatever comes after the first symbol of what was left.
 again_at : {A : Type 0} {n : ℕ} {e : Symbol → Bool} {R : Rules → A → Language} {p : Reader A} → Reads n e R p
     → (rules : Rules) (c : List Symbol) (v : A) (d : List Symbol) (t : Symbol) (x y : List Symbol)
     → length (c ++ (d ++ t ∷ x)) ≤ n → length (c ++ (d ++ t ∷ y)) ≤ n

@@ -34,7 +34,7 @@ two_words = (
       (Lexes.comment (Comment.to_close (codes " b *") (codes "_c") refl) (Lexes.token {t = codes "_c"} (Spelled.a_word refl refl tt) Lexes.done refl) refl) refl,
 )
 
--- letters behind digits go on the number word
+-- letters after digits go on the number word
 a_number : AreTokens (codes "08x_ 1") (token Number 0 (codes "08x_") ∷ token Number 5 (codes "1") ∷ [])
 unfolding token
 a_number = (
@@ -136,7 +136,7 @@ joined_texts =
     )
     tt AreSymbols.none refl
 
--- a quote behind a `\` closes nothing, and a line feed there opens the text
+-- a quote after a `\` closes nothing, and a line feed there opens the text
 quote_behind : is_closed 34 (codes "\\\"") ≡ false
 quote_behind = refl
 

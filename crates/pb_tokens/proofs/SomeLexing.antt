@@ -38,7 +38,7 @@ run test (c ∷ cs) = by_test (test c) refl (run test cs)
     }
     by_test false h r = record { front = []; rest = c ∷ cs; joined = refl; passes = refl; stops = h }
 
--- the bytes before the first `*/`, and behind it
+-- the bytes before the first `*/`, and after it
 record Close (bs : List ℕ) : Type 0 where
   body : List ℕ
   rest : List ℕ

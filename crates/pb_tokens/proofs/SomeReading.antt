@@ -20,7 +20,7 @@ record Texts (ts : List PlacedToken) : Type 0 where
   symbols : List PlacedSymbol
   read : AreSymbols rest symbols
 
--- the tokens have symbols, and so has what stands behind the texts at their front
+-- the tokens have symbols, and so has what comes after the texts at their front
 abbrev Read : List PlacedToken → Type 0
 Read ts = HaveSymbols ts × Texts ts
 

@@ -36,7 +36,7 @@ texts_symbol t ts (suc n) vs k j b = (omega arith, λ ss r. AreSymbols.texts (ta
 
 -- ---- the texts among tokens mean something
 
--- what stands behind the quote of a text plays no part
+-- what comes after the quote of a text plays no part
 stops_cut : (test : ℕ → Bool) (cs : List ℕ) (c : ℕ) (x y : List ℕ) → Stops test (cs ++ c ∷ x) → Stops test (cs ++ c ∷ y)
 stops_cut test [] c x y h = h
 stops_cut test (d ∷ cs) c x y h = h

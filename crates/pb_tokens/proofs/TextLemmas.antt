@@ -243,7 +243,7 @@ slash_plain quote = by_test (eqb 92 quote)
     by_test true = refl
     by_test false = refl
 
--- one escape, and then the units behind it
+-- one escape, and then the units after it
 units_step : (quote : ℕ) (cs : List ℕ) → escape_len cs ≢ 0 → escape_len cs ≤ length cs → units_len quote (92 ∷ cs) ≡ suc (escape_len cs + units_len quote (drop (escape_len cs) cs))
 units_step quote cs z l = rw (slash_plain quote) (rw (ne_eqb (escape_len cs) 0 z) (ap suc (units_skip quote (escape_len cs) cs l)))
 

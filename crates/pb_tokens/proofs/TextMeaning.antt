@@ -119,7 +119,7 @@ units_mean {quote} {rest = rest} (Units.escape {e} {v} {cs} {vs} {es} x u j) =
     none : (n : ℕ) → 0 < n → n ≡ 0 → ⊥
     none n l e = omega arith
 
--- behind the units of a text stands its quote, which means nothing
+-- after the units of a text stands its quote, which means nothing
 quote_means : (quote : ℕ) (rest : List ℕ) → is_quote quote ≡ true → meant_from quote 0 (quote ∷ rest) ≡ []
 quote_means quote rest h =
     let p : is_plain quote quote ≡ false = rw (eq-eqb quote quote refl) refl in

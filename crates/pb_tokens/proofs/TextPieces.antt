@@ -38,7 +38,7 @@ behind_slash quote bs q = rw q.slash_not refl
 after_slash : (quote c : ℕ) (bs : List ℕ) → c ≢ 10 → closes quote true (c ∷ bs) ≡ closes quote false bs
 after_slash quote c bs h = rw (ne_eqb c 10 h) refl
 
--- the byte behind the `\` is no line feed
+-- the byte after the `\` is no line feed
 short_not_line : (c v : ℕ) → short_escape c ≡ Some v → c ≢ 10
 short_not_line c v h e = cc (h, e)
 

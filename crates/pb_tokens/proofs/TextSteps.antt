@@ -93,7 +93,7 @@ units_skip quote (suc k) (c ∷ cs) l = ap suc (units_skip quote k cs (omega ari
 drop_on : (bs : List ℕ) (at n : ℕ) → drop n (drop at bs) ≡ drop (at + n) bs
 drop_on bs at n = Rattle.std.proofs.Common.drop-drop n at bs
 
--- a unit of one byte and the escape behind it
+-- a unit of one byte and the escape after it
 pub units_escape : (quote at n : ℕ) (bs : List ℕ) → at < length bs → is_plain quote (get_or bs at 0) ≡ false → get_or bs at 0 ≡ 92 → n ≢ 0 → n ≡ escape_len (drop (at + 1) bs) → n ≤ length (drop (at + 1) bs)
     → units_len quote (drop at bs) ≡ suc n + units_len quote (drop (at + 1 + n) bs)
 units_escape quote at n bs l p e z h w =

@@ -9,7 +9,7 @@ abbrev pub number_in : ℕ → List ℕ → Option ℕ
 number_in base [] = None
 number_in base (d ∷ ds) = if list_all (λ c. is_digit c base) (d ∷ ds) then Some (digits_value base (d ∷ ds)) else None
 
--- the integer of a number word: `0`, or decimal digits without a leading 0, or octal ones behind a 0, or hexadecimal ones behind `0x` or `0X`
+-- the integer of a number word: `0`, or decimal digits without a leading 0, or octal ones after a 0, or hexadecimal ones after `0x` or `0X`
 abbrev pub integer_of : List ℕ → Option ℕ
 integer_of [] = None
 integer_of (c ∷ []) = number_in 10 (c ∷ [])

@@ -46,7 +46,7 @@ number_of_rule texts_valid = 4
 abbrev pub without : Rule → Rules
 without r s = not (number_of_rule r == number_of_rule s)
 
--- what is told of a breach
+-- what is reported of a breach
 abbrev pub cause_of : Rule → SourceCause
 cause_of numbers_fit = cause.NumberTooLarge
 cause_of options_known = cause.CustomOption
@@ -54,7 +54,7 @@ cause_of syntax_first = cause.NotProto3
 cause_of nests_bounded = cause.NestedTooDeep
 cause_of texts_valid = cause.BadUtf8
 
--- what is told where a rule is broken, or where a symbol was not expected
+-- what is reported where a rule is broken, or where a symbol was not expected
 abbrev pub told : Option Rule → SourceCause
 told None = cause.Unexpected
 told (Some r) = cause_of r

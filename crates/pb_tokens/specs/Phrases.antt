@@ -184,7 +184,7 @@ field_end = ended ";"
 abbrev pub group_end : Grammar → Rules → Option Bool → Language
 group_end = ended "{"
 
--- the same behind an enum's value, where no option means anything
+-- the same after an enum's value, where no option means anything
 abbrev pub value_end : Grammar → Rules → Language
 value_end g rules ts = mark ";" ts ⊎ ((us : List (Unit {0})) × options ";" (λ _. assignment g rules) us ts)
 
@@ -234,7 +234,7 @@ range bound end greatest r ts =
 abbrev pub unsigned : Rules → ℤ → Language
 unsigned rules z ts = (n : ℕ) × (z ≡ pos n) × counted rules n ts
 
--- an end behind the bound, which is itself within 32 bits
+-- an end after the bound, which is itself within 32 bits
 abbrev pub end_behind : ℤ → ℤ
 end_behind z = by_sign z
   where
@@ -242,7 +242,7 @@ end_behind z = by_sign z
     by_sign (pos n) = pos (min (suc n) 2147483647)
     by_sign (negsuc n) = negsuc n
 
--- in a message an end stands behind its range
+-- in a message an end comes after its range
 abbrev pub message_range : Rules → (ℤ × ℤ) → Language
 message_range rules = range (unsigned rules) end_behind (pos 536870912)
 

@@ -8,7 +8,7 @@ use Rattle.pb_tokens.specs.Tokens.{short_escape, is_plain}
 abbrev pub digit_of : ℕ → ℕ → Option ℕ
 digit_of base c = if is_digit c base then Some (digit_value c) else None
 
--- the digits at the front, at most so many: how many they are, and their number behind the digits of n
+-- the digits at the front, at most this many: how many they are, and their number after the digits of n
 abbrev pub number_from : ℕ → ℕ → ℕ → List ℕ → ℕ × ℕ
 number_from base n zero bs = (0, n)
 number_from base n (suc k) [] = (0, n)
@@ -28,7 +28,7 @@ one_more n = if n == 0 then 0 else suc n
 abbrev pub unicode_len : ℕ → ℕ × ℕ → ℕ
 unicode_len k found = if found.0 == k && is_scalar found.1 then suc k else 0
 
--- how many bytes behind a `\` make an escape with it; 0 where there is none
+-- how many bytes after a `\` make an escape with it; 0 where there is none
 abbrev pub escape_len : List ℕ → ℕ
 escape_len [] = 0
 escape_len (c ∷ cs) =
@@ -38,7 +38,7 @@ escape_len (c ∷ cs) =
     else (if c == 85 then unicode_len 8 (number_from 16 0 8 cs)
     else (number_from 8 0 3 (c ∷ cs)).0)))
 
--- how many bytes at the front are whole units of a text, where so many of them go on one that has begun
+-- how many bytes at the front are whole units of a text, where this many of them go on one that has begun
 abbrev pub units_from : ℕ → ℕ → List ℕ → ℕ
 units_from quote k [] = 0
 units_from quote (suc k) (c ∷ cs) = suc (units_from quote k cs)
@@ -52,7 +52,7 @@ abbrev pub or_nothing : Option ℕ → List ℕ
 or_nothing None = []
 or_nothing (Some v) = v ∷ []
 
--- the bytes that an escape means, by those behind its `\`
+-- the bytes that an escape means, by those after its `\`
 abbrev pub escape_meaning : List ℕ → List ℕ
 escape_meaning [] = []
 escape_meaning (c ∷ cs) =
@@ -62,7 +62,7 @@ escape_meaning (c ∷ cs) =
     else (if c == 85 then encode_utf8 (number_from 16 0 8 cs).1
     else (number_from 8 0 3 (c ∷ cs)).1 % 256 ∷ [])))
 
--- the bytes that the units at the front mean, where so many bytes go on one that has been counted
+-- the bytes that the units at the front mean, where this many bytes go on one that has been counted
 abbrev pub meant_from : ℕ → ℕ → List ℕ → List ℕ
 meant_from quote k [] = []
 meant_from quote (suc k) (c ∷ cs) = meant_from quote k cs

@@ -48,7 +48,7 @@ has_close (c ∷ d ∷ cs) = (c == 42 && d == 47) || has_close (d ∷ cs)
 abbrev pub goes_on_line : ℕ → Bool
 goes_on_line c = not (c == 10)
 
--- behind a slash
+-- after a slash
 abbrev pub begins_comment : ℕ → Bool
 begins_comment c = c == 47 || c == 42
 
@@ -59,7 +59,7 @@ pub data Comment : List ℕ → List ℕ → Type 0 where
 
 -- ---- texts ("String literals")
 
--- the byte behind `\` in an escape of one byte, and what it means
+-- the byte after `\` in an escape of one byte, and what it means
 abbrev pub short_escape : ℕ → Option ℕ
 short_escape c =
     if c == 97 then Some 7 else if c == 98 then Some 8 else if c == 102 then Some 12 else if c == 110 then Some 10 else if c == 114 then Some 13
@@ -92,7 +92,7 @@ pub data Units (quote : ℕ) : List ℕ → List ℕ → List ℕ → Type 0 whe
   plain : {c : ℕ} {cs vs rest : List ℕ} → is_plain quote c ≡ true → Units quote cs vs rest → Units quote (c ∷ cs) (c ∷ vs) rest
   escape : {e v cs vs es rest : List ℕ} → Escape e v (cs ++ rest) → Units quote cs vs rest → es ≡ e ++ cs → Units quote es (v ++ vs) rest
 
--- A text's quote comes before a line feed and the end, not counting what stands behind a `\`, as the first byte does where the flag says so.
+-- A text's quote comes before a line feed and the end, not counting what comes after a `\`, as the first byte does where the flag says so.
 abbrev pub closes : ℕ → Bool → List ℕ → Bool
 closes quote behind [] = false
 closes quote behind (c ∷ cs) = if c == 10 then false else (if not behind && c == quote then true else closes quote (not behind && c == 92) cs)

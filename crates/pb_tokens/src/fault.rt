@@ -87,7 +87,7 @@ impl fmt::Display for SourceCause {
 
 impl StdError for SourceCause {}
 
-/// What is wrong with a source, and the byte of the source where it is told; where memory ran out, the byte is 0.
+/// What is wrong with a source, and the byte of the source where it is reported; where memory ran out, the byte is 0.
 #[derive(Clone, Copy, Debug, PartialEq, Eq, Error)]
 #[error("{cause} at byte {byte}")]
 pub struct SourceFault {

@@ -23,14 +23,14 @@ pub(crate) enum Piece {
     Token(TokenKind, usize),
 }
 
-/// Why the front of bytes is nothing: how far behind the front the fault is, and its cause.
+/// Why bytes begin with no token: how far from their start the fault is, and its cause.
 #[derive(Clone, Copy, Debug, PartialEq, Eq)]
 pub(crate) struct PieceFault {
     pub offset: usize,
     pub cause: SourceCause,
 }
 
-/// How many bytes of a comment stand behind its slash, where the bytes behind the slash make it one.
+/// How many bytes of a comment come after its slash, where the bytes after the slash make it one.
 fn comment_len(after: &[u8]) -> Result<Option<usize>, PieceFault>
     ensures found { IfOk result (λ len. IfSome len (λ n. (n ≤ length after.now) × IsGap (1 + n) (47 ∷ after.now))) }
     ensures none { IfOk result (λ len. IfNone len (Stops begins_comment after.now)) }
@@ -140,7 +140,7 @@ pub fn lex<'a>(alloc: Global, source: &'a str) -> Result<Vec<Token<'a>>, SourceF
     ensures tokens { IfOk result (λ ts. AreTokens source.now (tokens_of ts.items)) }
     ensures fault { IfErr result (λ e. (e ≡ out_of_memory) ⊎ LexFault source.now e.byte e.cause) }
 
-    // Each list of tokens is answered and each fault is told, unless memory runs out.
+    // Each list of tokens is answered and each fault is reported, unless memory runs out.
     ensures accepted { (ts : List PlacedToken) → AreTokens source.now ts
         → MatchResult result (λ us. tokens_of us.items ≡ ts) (λ e. e ≡ out_of_memory) }
     ensures refused { (place : ℕ) (cause : SourceCause) → LexFault source.now place cause

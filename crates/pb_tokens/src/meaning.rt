@@ -19,7 +19,7 @@ fn push_character(into: &mut Vec<u8>, number: u32) -> Result<(), AllocError>
     Ok(())
 }
 
-/// Appends the bytes that an escape means, of which these bytes stand behind the `\`.
+/// Appends the bytes that an escape means, of which these bytes come after the `\`.
 fn push_escape(into: &mut Vec<u8>, bytes: &[u8]) -> Result<(), AllocError>
     requires { escape_len bytes.now ≢ 0 }
     ensures { OnOk result (into.new.items ≡ into.old.items ++ escape_meaning bytes.now) }

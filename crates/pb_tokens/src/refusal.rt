@@ -6,7 +6,7 @@ use std::alloc::{AllocError, AllocFailed};
 /// Why symbols are refused.
 #[derive(Clone, Copy, PartialEq, Eq)]
 pub enum Refusal {
-    /// The symbol of this index is refused, or at the index behind the last the end; by this rule, or where it is none, since it was not
+    /// The symbol of this index is refused, or at the index after the last the end; by this rule, or where it is none, since it was not
     /// expected.
     At { at: usize, rule: Option<Rule> },
     /// Memory ran out.

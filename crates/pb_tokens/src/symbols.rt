@@ -92,7 +92,7 @@ pub fn source_symbols<'a>(alloc: Global, source: &'a str) -> Result<Vec<Placed<'
     ensures symbols { IfOk result (λ ss. HasSymbols source.now (symbols_of ss.items)) }
     ensures fault { IfErr result (λ e. (e ≡ out_of_memory) ⊎ LexFault source.now e.byte e.cause) }
 
-    // Symbols are answered wherever a source has some, and the fault of its tokens is told where it has one, unless memory runs out.
+    // Symbols are answered wherever a source has some, and the fault of its tokens is reported where it has one, unless memory runs out.
     ensures accepted { (ss : List PlacedSymbol) → HasSymbols source.now ss
         → MatchResult result (λ us. symbols_of us.items ≡ ss) (λ e. e ≡ out_of_memory) }
     ensures refused { (place : ℕ) (cause : SourceCause) → LexFault source.now place cause

@@ -13,7 +13,7 @@ pub(crate) fn digit_of(base: u32, byte: u8) -> Option<u32>
     char::from(byte).to_digit(base)
 }
 
-/// How many digits stand at the front, at most so many, and their number.
+/// How many digits stand at the front, at most this many, and their number.
 pub(crate) fn number_at(base: u32, limit: usize, bytes: &[u8]) -> (usize, u32)
     requires two { 2 ≤ base }
     requires base { base ≤ 16 }
@@ -44,7 +44,7 @@ fn is_scalar(number: u32) -> bool
     number < 0xd800 || (0xdfff < number && number < 0x110000)
 }
 
-/// What the byte means behind a `\`, where it is an escape alone.
+/// What the byte means after a `\`, where it is an escape alone.
 pub(crate) fn short_escape(byte: u8) -> Option<u8>
     ensures { result ≡ short_escape byte }
 {
@@ -61,7 +61,7 @@ pub(crate) fn short_escape(byte: u8) -> Option<u8>
     }
 }
 
-/// How many bytes behind a `\` make an escape with it; 0 where there is none.
+/// How many bytes after a `\` make an escape with it; 0 where there is none.
 pub(crate) fn escape_len(bytes: &[u8]) -> usize
     ensures is { result ≡ escape_len bytes.now }
     ensures within { result ≤ length bytes.now }
@@ -120,7 +120,7 @@ pub(crate) fn units_len(quote: u8, bytes: &[u8]) -> usize
     at
 }
 
-/// Whether the quote comes before a line feed and the end, not counting what stands behind a `\`.
+/// Whether the quote comes before a line feed and the end, not counting what comes after a `\`.
 pub(crate) fn is_closed(quote: u8, bytes: &[u8]) -> bool
     ensures { result ≡ is_closed quote bytes.now }
 {

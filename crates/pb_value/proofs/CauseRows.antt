@@ -145,7 +145,7 @@ stored_empty_map = refl
 two_members : message_cause pool 0 (body (field 7 (one (scalar (uint32 5))) (field 8 (one (message empty)) no_fields)) []) ≡ Some TwoMembers
 two_members = refl
 
--- a second member is told before what is inside it, and another kind before that
+-- a second member is reported before what is inside it, and another kind before that
 second_member_first : message_cause pool 0 (body (field 7 (one (scalar (uint32 5))) (field 8 (one (message (only (one (int 0)) 1))) no_fields)) []) ≡ Some TwoMembers
 second_member_first = refl
 
@@ -218,7 +218,7 @@ entry_at_the_deepest_level = refl
 entry_one_level_too_deep : message_cause pool 0 (only (map (entry (uint32 1) (message (nested 100)) no_entries)) 12) ≡ Some TooDeep
 entry_one_level_too_deep = refl
 
--- the depth is told last
+-- the depth is reported last
 depth_last : message_cause pool 0 (body (field 3 (one (message (nested 100))) (field 99 (one (int 1)) no_fields)) []) ≡ Some NoSuchField
 depth_last = refl
 

@@ -1,4 +1,4 @@
--- Records as the payload of a kind: behind their length, or as a group.
+-- Records as the payload of a kind: after their length, or as a group.
 use Rattle.std.proofs.Common.{◌≡◌, ℕ, List, [], ◌∷◌, refl, ap, Some}
 use Rattle.pb_wire.specs.Record.{Record, group_of, records_in, wire_type}
 use Rattle.pb_wire.specs.Ranges.{IsInRangeGroup, AreInRange}

@@ -27,7 +27,7 @@ pub mod OneofLemmas
 pub mod FieldViews
 -- for `MessageRef`: the messages that a well-formed message holds are well formed
 pub mod InnerLemmas
--- for full names, from a type to the one around it: a type stands behind the one that it is declared in
+-- for full names, from a type to the one around it: a type comes after the one that it is declared in
 pub mod NameOrder
 -- for elements and entries: a list of values and a map of entries beside what they stand for
 pub mod PartViews
@@ -48,7 +48,7 @@ mod CauseRows
 mod ValueRows
 -- a message of proto2: its value, its canonical bytes, and why a value is refused
 mod Proto2Rows
--- one message over another, each way, and more records behind a message's own
+-- one message over another, each way, and more records after a message's own
 mod MergeRows
 -- a text with a record of each reading
 mod SoundTexts
@@ -63,7 +63,7 @@ pub mod ListLemmas
 pub mod ElementLemmas
 -- what soundness says of a payload, and how deep sound records nest
 pub mod SoundLemmas
--- for records as the payload of a kind: behind their length, or as a group
+-- for records as the payload of a kind: after their length, or as a group
 pub mod GroupLemmas
 -- what is known of the records that count for a field
 pub mod FittingLemmas
@@ -114,9 +114,9 @@ pub mod RoundTrip
 -- ---- joined records and merged messages
 -- for the law of joined records: of the first ones only their value counts
 pub mod JoinLemmas
--- for the law of reading onto a message, as reading behind any records that it is the value of
+-- for the law of reading onto a message, as reading after any records that it is the value of
 pub mod OntoLemmas
--- for the law of merging: a message over another, as the canonical records of one behind records of the other
+-- for the law of merging: a message over another, as the canonical records of one after records of the other
 pub mod MergeLemmas
 -- for that law also: a well-formed message over another is well formed
 pub mod MergedWell

@@ -254,7 +254,7 @@ module _ (pool : Types) (rules : IsPool pool) (m : ℕ) (v : Message) (whole : L
       of_parts : (x : Message) → IsBody pool m x → x ≡ with_fields x (so_far pool m levels x no_fields)
       of_parts (body fs ws) w = ap (λ (gs : Fields). body gs ws) (sym (merged_none pool (merged_within pool levels) (message_fields pool m) fs (numbers_differ pool m rules) w.0 w.1))
 
-  -- with all fields, and the unknown records behind
+  -- with all fields, and the unknown records after
   pub merged_whole : (now : Message) → Merged pool m v whole now whole → (levels : ℕ) → message_depth (body (fields_view whole) us) < levels
       → body (fields_of now) (unknown_of now ++ us) ≡ merged_within pool levels m v (body (fields_view whole) us)
   unfolding merged_within

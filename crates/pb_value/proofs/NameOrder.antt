@@ -1,4 +1,4 @@
--- A message type stands behind the one that it is declared in.
+-- A message type comes after the one that it is declared in.
 use Rattle.std.proofs.Common.{◌≡◌, ℕ, ◌+◌, ◌<◌, Option, Some, None, option_map, IfSome, arith, sym}
 use Rattle.pb_schema.specs.Types.{Types}
 use Rattle.pb_schema.specs.Nesting.{parent_of}

@@ -1,4 +1,4 @@
--- What is told of symbols that the code refuses.
+-- What is reported of symbols that the code refuses.
 use Rattle.std.specs.Prelude.{ℕ, List, [], ◌∷◌, Option}
 use Rattle.pb_tokens.specs.declared.fault.SourceCause.{SourceCause}
 use Rattle.pb_tokens.specs.declared.fault.SourceCause.TheVariants.{NotProto3}

@@ -150,7 +150,7 @@ fn add_map(alloc: Global, message: &mut MessageParts, map: MapSaid) -> Result<()
     Ok(())
 }
 
-/// The index behind so many, of which a source has never as many as an index has numbers.
+/// The index after this many, of which a source has never as many as an index has numbers.
 fn index_of(count: usize) -> Result<i32, AllocError>
     ensures { IfOk result (λ i. i ≡ pos count) }
 {
@@ -181,7 +181,7 @@ fn add_member(message: &mut MessageParts, member: MemberSaid) -> Result<(), Allo
     Ok(())
 }
 
-/// Puts the fields of a oneof, before which so many others stand, behind other fields, and the messages of its groups behind other messages.
+/// Puts the fields of a oneof, before which this many others stand, after other fields, and the messages of its groups after other messages.
 fn add_members(
     fields: &mut Vec<FieldDecl>,
     messages: &mut Vec<MessageDecl>,
@@ -277,7 +277,7 @@ fn own_oneof(alloc: Global, field: &str) -> Result<String, AllocError>
     Ok(name)
 }
 
-/// Puts a field into a oneof of its own behind the others, if it is optional.
+/// Puts a field into a oneof of its own after the others, if it is optional.
 fn add_own_oneof(
     alloc: Global,
     field: &mut FieldDecl,
@@ -295,7 +295,7 @@ fn add_own_oneof(
     Ok(())
 }
 
-/// Puts each optional field into a oneof of its own, behind the others.
+/// Puts each optional field into a oneof of its own, after the others.
 fn add_own_oneofs(
     alloc: Global,
     fields: &mut Vec<FieldDecl>,
@@ -360,7 +360,7 @@ impl FileParts {
     }
 }
 
-/// Puts the index behind so many imports to those of public ones, if the next is public.
+/// Puts the index after this many imports to those of public ones, if the next is public.
 fn add_public(public: &mut Vec<i32>, is_public: bool, count: usize) -> Result<(), AllocError>
     ensures { OnOk result ((name : List ℕ) → public.new.items ≡ public.old.items ++ public_from count (FileStatement.an_import is_public name ∷ [])) }
 {

@@ -23,7 +23,7 @@ fn push_name(scope: &mut String, name: &str) -> Result<(), AllocError>
     Ok(())
 }
 
-/// The full name of what is declared in a scope, behind a dot.
+/// The full name of what is declared in a scope, after a dot.
 fn rooted(alloc: Global, scope: &str, name: &str) -> Result<String, AllocError>
     ensures { IfOk result (λ t. string_bytes t ≡ 46 ∷ in_scope scope.now name.now) }
 {

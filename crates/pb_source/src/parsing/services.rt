@@ -181,7 +181,7 @@ fn service_statement(
     }
 }
 
-/// Puts a method behind others, if there is one.
+/// Puts a method after others, if there is one.
 fn push_said(methods: &mut Vec<MethodDecl>, said: Option<MethodDecl>) -> Result<(), AllocError>
     ensures { OnOk result (methods.new.items ≡ methods.old.items ++ option_to_list said) }
 {

@@ -48,7 +48,7 @@ pub(crate) enum EnumSaid {
     Names(Vec<String>),
 }
 
-/// A statement of a file, behind the first.
+/// A statement of a file, after the first.
 #[derive(Drop)]
 pub(crate) enum FileSaid {
     /// An option, or `;` alone.

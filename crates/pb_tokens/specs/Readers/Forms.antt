@@ -38,7 +38,7 @@ mapped g p = chain p (λ v. answer (g v))
 abbrev pub both : {A B : Type 0} → Reader A → Reader B → Reader (A × B)
 both p q = chain p (λ v. mapped (λ w. (v, w)) q)
 
--- a reader behind one whose value says nothing
+-- a reader after one whose value says nothing
 abbrev pub behind : {B : Type 0} → Reader (Unit {0}) → Reader B → Reader B
 behind p q = chain p (λ _. q)
 
@@ -134,7 +134,7 @@ mark_reader w = tested (is_mark w)
 
 -- ---- repetition. Each takes a number that is at least that of the symbols.
 
--- { item } close, where what passes the test begins the close, behind the items of front
+-- { item } close, where what passes the test begins the close, after the items of front
 abbrev pub until : {I : Type 0} → ℕ → (Symbol → Bool) → Reader I → Reader (Unit {0}) → List I → Reader (List I)
 until zero test item close front rules ts = Err ([], None)
 until (suc n) test item close front rules ts = choice test (mapped (λ _. front) close) (chain item (λ i. until n test item close (front ++ i ∷ []))) rules ts
@@ -149,7 +149,7 @@ abbrev pub on_rest : {I : Type 0} → List I → List Symbol → Outcome (List I
 on_rest front [] o = Ok (front, [])
 on_rest front (s ∷ ts) o = o
 
--- { item } up to the end, behind the items of front, where an item is read by whether a marked one stands before it
+-- { item } up to the end, after the items of front, where an item is read by whether a marked one stands before it
 abbrev pub to_end : {I : Type 0} → ℕ → (I → Bool) → (Bool → Reader I) → Bool → List I → Reader (List I)
 to_end zero marks item marked front rules ts = on_rest front ts (Err ([], None))
 to_end (suc n) marks item marked front rules ts =

@@ -152,7 +152,7 @@ behind_role b bs Plain = Some (b ∷ bs)
 behind_role b bs (Opens c) = Some (c ∷ b ∷ bs)
 behind_role b bs (Closes c) = if same_bracket b c then Some bs else None
 
--- the brackets that are open, the last one first, behind one more symbol
+-- the brackets that are open, the last one first, after one more symbol
 abbrev pub open_behind : List Bracket → Symbol → Option (List Bracket)
 open_behind [] s = None
 open_behind (b ∷ bs) s = behind_role b bs (role_of s)

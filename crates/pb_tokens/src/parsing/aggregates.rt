@@ -33,7 +33,7 @@ fn same_bracket(left: Bracket, right: Bracket) -> bool
     }
 }
 
-/// Takes one more symbol, where brackets are open, the last one behind the others; false where it closes another bracket than the last.
+/// Takes one more symbol, where brackets are open, the last one after the others; false where it closes another bracket than the last.
 fn advance(brackets: &mut Vec<Bracket>, symbol: &Symbol) -> Result<bool, AllocError>
     requires { 0 < length brackets.now.items }
     ensures { IfOk result (λ ok. open_behind (reverse brackets.old.items) (symbol_of symbol.now) ≡ (if ok then Some (reverse brackets.new.items) else None)) }

@@ -67,7 +67,7 @@ pub fn joined(alloc: Global, words: &[&str]) -> Result<String, AllocError>
     Ok(text)
 }
 
-/// Words joined by dots, behind a dot.
+/// Words joined by dots, after a dot.
 pub(crate) fn joined_behind_dot(alloc: Global, words: &[&str]) -> Result<String, AllocError>
     ensures { IfOk result (λ t. string_bytes t ≡ 46 ∷ joined (words_view words.now)) }
 {

@@ -33,7 +33,7 @@ pub(crate) fn digits(base: u32, bytes: &[u8]) -> Option<u64>
     Some(value)
 }
 
-/// A number with a digit behind it, at most `TOO_LARGE`.
+/// A number with a digit after it, at most `TOO_LARGE`.
 fn next_value(base: u32, value: u64, digit: u32) -> u64
     requires two { 2 ≤ base }
     requires base { base ≤ 16 }

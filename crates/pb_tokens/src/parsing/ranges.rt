@@ -13,7 +13,7 @@ use crate::refusal::Refusal;
 use crate::symbol::Placed;
 use std::alloc::Global;
 
-/// Where a range stands: in a message an end stands behind its range, in an enum it is in it.
+/// Where a range stands: in a message an end comes after its range, in an enum it is in it.
 #[derive(Clone, Copy, PartialEq, Eq)]
 pub enum Within {
     Message,
@@ -31,7 +31,7 @@ fn end_behind(within: Within, bound: i32) -> i32
     }
 }
 
-/// The bound behind this one, where there is one.
+/// The bound after this one, where there is one.
 fn next_bound(bound: i32) -> i32
     requires { (n : ℕ) × (bound ≡ pos n) }
     ensures { result ≡ end_behind bound }
@@ -127,7 +127,7 @@ pub fn ranges(
     Ok((ranges, here))
 }
 
-/// Reads ranges with commas between, and `;`, and gives the start and the end of each: where it stands in a message the end is behind its range, in an
+/// Reads ranges with commas between, and `;`, and gives the start and the end of each: where it stands in a message the end is after its range, in an
 /// enum in it. Where a bound does not fit 32 bits, `Rule::NumbersFit` is broken.
 pub fn ranges_line(
     alloc: Global,

@@ -11,7 +11,7 @@ use crate::refusal::Refusal;
 use crate::rule::Rule;
 use crate::symbol::{Placed, Symbol, is_keyword, is_mark, is_number, is_text, is_word};
 
-/// The symbol at an index; None where it is behind the last.
+/// The symbol at an index; None where it is after the last.
 pub fn symbol_at<'t, 'a>(symbols: &'t [Placed<'a>], at: usize) -> Option<&'t Placed<'a>>
     ensures found { IfSome result (λ p. (at < length symbols.now)
         × (symbols_from symbols.now at ≡ symbol_of p.now.symbol ∷ symbols_from symbols.now (at + 1))) }
