@@ -4,6 +4,7 @@ ghost use Rattle.std.specs.Prelude.{◌≡◌, ◌≢◌, ℕ, Bool, true, Optio
 ghost use Rattle.pb_files.specs.FileMap.{FileMap, OpensAt, WritesWhole};
 
 use pb_wire::{DeviceFault, Input};
+use std::io;
 
 /// Named files, each read from its front or written whole.
 pub trait Files {
@@ -40,4 +41,8 @@ pub trait Files {
         ensures succeeds { takes_writes self.old ≡ true → IsOk result }
         ensures steady { is_steady self.old ≡ true → is_steady self.new ≡ true }
         ensures takes_writes { takes_writes self.old ≡ true → takes_writes self.new ≡ true };
+
+    /// Why the system refuses the file of a path: why it could not be written, if a file could not, or why it cannot be opened or its first
+    /// byte cannot be read. `None` where it can, or where the files give no reasons. No clause says what a system answers.
+    fn reason(&self, path: &str) -> Option<io::Error>;
 }

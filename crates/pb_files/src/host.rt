@@ -4,7 +4,7 @@ ghost use Rattle.std.specs.Prelude.{◌≡◌, ◌≢◌, ◌↔◌, None, false
 
 use crate::files::Files;
 use pb_wire::{DeviceFault, ReadInput};
-use std::io::ErrorKind;
+use std::io::{Error, ErrorKind, Read};
 use std::{fs, rt};
 
 /// The files of the system. No clause says what they hold. A failure is counted in a number that wraps.
@@ -12,6 +12,9 @@ use std::{fs, rt};
 pub struct HostFiles<'a, R> {
     rt: &'a R,
     failures: u64,
+
+    /// Why the last file that could not be written could not, if there was one.
+    unwritten: Option<Error>,
 }
 
 impl<'a, R: rt::Files> HostFiles<'a, R> {
@@ -19,7 +22,11 @@ impl<'a, R: rt::Files> HostFiles<'a, R> {
     pub fn new(rt: &'a R) -> HostFiles<'a, R>
         ensures { result.failures ≡ 0 }
     {
-        HostFiles { rt, failures: 0 }
+        HostFiles {
+            rt,
+            failures: 0,
+            unwritten: None,
+        }
     }
 
     /// Whether an error of opening a file says that no file has this path. Any other error is a failure, also of a file that may
@@ -66,10 +73,30 @@ where
     fn write_whole(&mut self, path: &str, bytes: &[u8]) -> Result<(), DeviceFault> {
         match fs::write(self.rt, path, bytes) {
             Ok(()) => Ok(()),
-            Err(_) => {
+            Err(error) => {
                 self.failures = self.failures.wrapping_add(1);
+                self.unwritten = Some(error);
                 Err(DeviceFault)
             }
         }
+    }
+
+    fn reason(&self, path: &str) -> Option<Error> {
+        if self.unwritten.is_some() {
+            return self.unwritten;
+        }
+        match fs::open(self.rt, path) {
+            Ok(mut file) => reason_unread(&mut file),
+            Err(error) => Some(error),
+        }
+    }
+}
+
+/// Why no byte can be read, if none can.
+fn reason_unread<R: Read>(file: &mut R) -> Option<Error> {
+    let mut byte = [0u8; 1];
+    match file.read(&mut byte) {
+        Ok(_) => None,
+        Err(error) => Some(error),
     }
 }

@@ -6,6 +6,7 @@ ghost use Rattle.pb_files.specs.MemFiles.{map_of};
 use crate::files::Files;
 use pb_wire::{DeviceFault, FailurePlan, MemInput};
 use std::alloc::{AllocError, Global};
+use std::io;
 
 /// Files in memory, which are opened as they were given or written. A file that is written stays until the program
 /// ends.
@@ -97,5 +98,10 @@ impl<'a> Files for MemFiles<'a> {
             return Err(DeviceFault);
         }
         Ok(())
+    }
+
+    /// No system has these files.
+    fn reason(&self, _path: &str) -> Option<io::Error> {
+        None
     }
 }
