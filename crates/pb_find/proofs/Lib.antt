@@ -10,5 +10,7 @@ pub mod OnlyLemmas
 pub mod TargetLemmas
 -- for records that are read and looked through at once
 pub mod WalkLemmas
+-- for records that are read past: they leave what was found as it is
+pub mod PassingLemmas
 -- for `find`: what is found of an encoding is the scalar of its message
 pub mod FindLemmas

@@ -28,21 +28,13 @@ use Rattle.pb_validate.proofs.JudgeLemmas.{front_none, front_push, records_betwe
 use Rattle.pb_find.specs.declared.target.Target.{Target}
 use Rattle.pb_find.specs.Found.{found, after_record}
 use Rattle.pb_find.specs.Loops.{IsOne}
-use Rattle.pb_find.specs.Walk.{record_at, after_target, IsStranger, NoRecord}
-use Rattle.pb_find.proofs.TargetLemmas.{stranger_stays}
+use Rattle.pb_find.specs.Walk.{record_at, after_target, NoRecord}
 
 pub some_map : {A : Type 0} (r : Option A) (P Q : A → Type 0) → ((a : A) → P a → Q a) → IfSome r P → IfSome r Q
 some_map None P Q f h = tt
 some_map (Some a) P Q f h = f a h
 
 -- ---- what was found, after one more record
-
-nothing_more :
-    (pool : Types) (m : ℕ) (path : List ℕ) (t : Option Target) (x y : Option Scalar) (rs : List Record) (r : Record) → t ≡ None
-    → ((x : Option Scalar) (rs : List Record) → after_target pool m t x rs ≡ found pool path m x rs) → y ≡ found pool path m x rs
-    → y ≡ found pool path m x (rs ++ r ∷ [])
-nothing_more pool m path t x y rs r is same so_far =
-    so_far ∙ sym (same x rs) ∙ ap (λ (o : Option Target). after_target pool m o x rs) is ∙ sym (ap (λ (o : Option Target). after_target pool m o x (rs ++ r ∷ [])) is) ∙ same x (rs ++ r ∷ [])
 
 pub one_more :
     (pool : Types) (m : ℕ) (path : List ℕ) (t : Option Target) (own : Target) (x y z : Option Scalar) (rs : List Record) (r : Record) → t ≡ Some own
@@ -54,21 +46,6 @@ one_more pool m path t own x y z rs r is same so_far next =
     let before : y ≡ fold step x rs = so_far ∙ sym (same x rs) ∙ ap (λ (o : Option Target). after_target pool m o x rs) is in
     next ∙ ap (λ (w : Option Scalar). step w r) before ∙ sym (fold-append step x rs (r ∷ []))
     ∙ sym (ap (λ (o : Option Target). after_target pool m o x (rs ++ r ∷ [])) is) ∙ same x (rs ++ r ∷ [])
-
--- a record that does not concern the target
-pub stranger_more :
-    (pool : Types) (m : ℕ) (path : List ℕ) (t : Option Target) (x y : Option Scalar) (rs : List Record) (k : ℕ) (p : Payload) → IfSome t (λ o. IsStranger pool m k o)
-    → ((x : Option Scalar) (rs : List Record) → after_target pool m t x rs ≡ found pool path m x rs) → y ≡ found pool path m x rs
-    → y ≡ found pool path m x (rs ++ record_at k p ∷ [])
-stranger_more pool m path None x y rs k p apart same so_far = nothing_more pool m path None x y rs (record_at k p) refl same so_far
-stranger_more pool m path (Some own) x y rs k p apart same so_far =
-    one_more pool m path (Some own) own x y y rs (record_at k p) refl same so_far (stranger_stays pool m k own.rest.now (field_view own.field.now) y p apart.0 apart.1)
-
-pub none_found :
-    (pool : Types) (m : ℕ) (path : List ℕ) (t : Option Target) (x : Option Scalar)
-    → ((x : Option Scalar) (rs : List Record) → after_target pool m t x rs ≡ found pool path m x rs) → x ≡ found pool path m x []
-none_found pool m path None x same = same x []
-none_found pool m path (Some own) x same = same x []
 
 -- ---- no record
 

@@ -20,6 +20,7 @@
 
 mod finding;
 pub mod laws;
+mod passing;
 mod reading;
 mod scalar_ref;
 mod single;

@@ -12,7 +12,7 @@ ghost use Rattle.pb_schema.specs.Kinds.{closed_enum};
 ghost use Rattle.pb_schema.specs.Closed.{is_undeclared as undeclared};
 ghost use Rattle.pb_find.specs.Found.{is_single as single, target, shares_oneof, counts_for, is_rival as rival, found};
 ghost use Rattle.pb_find.specs.Loops.{payload_of, record_of};
-ghost use Rattle.pb_find.specs.Walk.{after_target, IsStranger};
+ghost use Rattle.pb_find.specs.Walk.{after_target};
 
 use pb_schema::{Field, Kind, MessageId, Pool, Shape};
 use pb_wire::Payload;
@@ -114,25 +114,6 @@ pub(crate) fn is_fellow(pool: &Pool, message_type: MessageId, shape: Shape, numb
         Shape::OneofMember(entry) => entry == oneof,
         _ => false,
     }
-}
-
-/// The target, where a record of a number may change what is found of it: one of its field, or of another member of its oneof.
-#[inline(always)]
-pub(crate) fn concerned<'p>(
-    pool: &Pool,
-    message_type: MessageId,
-    target: Option<Target<'p>>,
-    number: u32,
-) -> Option<Target<'p>>
-    requires { message_type.0 < length pool.now.messages }
-    ensures own { IfSome result (λ t. target.entry ≡ Some t) }
-    ensures others { result ≡ None → IfSome target.entry (λ t. IsStranger pool.now message_type.0 number t) }
-{
-    let own = target?;
-    if own.field.number == number || is_fellow(pool, message_type, own.field.shape, number) {
-        return Some(own);
-    }
-    None
 }
 
 /// Whether a record of another number counts for another member of a field's oneof.

@@ -10,12 +10,13 @@ ghost use Rattle.pb_schema.specs.Context.{a_message, schema_of};
 ghost use Rattle.pb_validate.specs.Here.{here};
 ghost use Rattle.pb_validate.specs.Judging.{opened, ReadsAll};
 ghost use Rattle.pb_find.specs.Found.{target as target_at, found as found_by, after_record};
-ghost use Rattle.pb_find.specs.Walk.{ReadsOne, NoRecord};
+ghost use Rattle.pb_find.specs.Walk.{LooksThrough, ReadsOne, NoRecord};
 ghost use Rattle.pb_find.specs.View.{found_view};
 
+use crate::passing::{past_one, past_strangers};
 use crate::scalar_ref::ScalarRef;
 use crate::single::{other_found, scalar_found};
-use crate::target::{Target, concerned, target_of};
+use crate::target::{Target, target_of};
 use pb_schema::{MessageId, Pool};
 use pb_validate::{RecordTag, payload_at, record_end, tag_at};
 use std::alloc::Global;
@@ -41,7 +42,10 @@ fn goes_on(bytes: &[u8], at: usize, group: Option<u32>) -> bool
 
 /// Reads records up to their end: where that is, and what is found at a path in them, after others in which this was found. None where they
 /// have a fault.
+///
+/// Most records do not concern the path. A loop of its own reads past them.
 #[cycle(walking)]
+#[inline(always)]
 pub(crate) fn walk<'a>(
     alloc: Global,
     pool: &Pool,
@@ -57,15 +61,13 @@ pub(crate) fn walk<'a>(
     requires small { length bytes.now < 2 ^ 31 }
     requires at_in_bounds { at ≤ length bytes.now }
     ensures within { IfSome result (λ r. (at ≤ r.0) × (r.0 ≤ length bytes.now)) }
-    ensures some { IfSome result (λ r. (rs : List Record)
-        × ReadsAll (schema_of pool.now) (opened level.group (a_message level.message_type.0)) level.levels
-        (here bytes.now at None) rs (here bytes.now r.0 None)
-        × (found_view r.1 ≡ found_by pool.now path.now level.message_type.0 (found_view before.entry) rs)) }
+    ensures some { IfSome result (λ r. LooksThrough pool.now level.message_type.0 level.group level.levels
+        (here bytes.now at None) (here bytes.now r.0 None) path.now (found_view before.entry) (found_view r.1)) }
     ensures none { result ≡ None
         → IsRead (schema_of pool.now) (opened level.group (a_message level.message_type.0)) level.levels (here bytes.now at None) → ⊥ }
 {
     let target = target_of(pool, level.message_type, path);
-    let mut here = at;
+    let mut here = past_strangers(alloc, pool, bytes, at, level, target);
     let mut found = before;
     'records: while goes_on(bytes, here, level.group) {
         let Ok(tag) = tag_at(bytes, here, level.group, None) else {
@@ -74,14 +76,14 @@ pub(crate) fn walk<'a>(
         if tag.wire_type == 4 {
             return Some((tag.end, found));
         }
-        match concerned(pool, level.message_type, target, tag.number) {
+        match target {
             None => {
-                let past = record_end(alloc, pool, level.message_type, level.levels, bytes, tag)?;
+                let past = past_one(alloc, pool, bytes, tag, level)?;
                 here = past;
             }
-            Some(target) => {
-                let (end, after) = target_found(alloc, pool, bytes, tag, level, target, found)?;
-                here = end;
+            Some(own) => {
+                let (end, after) = target_found(alloc, pool, bytes, tag, level, own, found)?;
+                here = past_strangers(alloc, pool, bytes, end, level, target);
                 found = after;
             }
         }
@@ -89,9 +91,35 @@ pub(crate) fn walk<'a>(
     Some((here, found))
 }
 
+/// As `walk`, of what is nested.
+#[cycle(walking)]
+#[inline(never)]
+fn walk_inside<'a>(
+    alloc: Global,
+    pool: &Pool,
+    bytes: &'a [u8],
+    at: usize,
+    level: Level,
+    path: &[u32],
+    before: Option<ScalarRef<'a>>,
+) -> Option<(usize, Option<ScalarRef<'a>>)>
+    requires rules { IsPool pool.now }
+    requires of_pool { level.message_type.0 < length pool.now.messages }
+    requires levels { level.levels ≤ 100 }
+    requires small { length bytes.now < 2 ^ 31 }
+    requires at_in_bounds { at ≤ length bytes.now }
+    ensures within { IfSome result (λ r. (at ≤ r.0) × (r.0 ≤ length bytes.now)) }
+    ensures some { IfSome result (λ r. LooksThrough pool.now level.message_type.0 level.group level.levels
+        (here bytes.now at None) (here bytes.now r.0 None) path.now (found_view before.entry) (found_view r.1)) }
+    ensures none { result ≡ None
+        → IsRead (schema_of pool.now) (opened level.group (a_message level.message_type.0)) level.levels (here bytes.now at None) → ⊥ }
+{
+    walk(alloc, pool, bytes, at, level, path, before)
+}
+
 /// Reads a record after its tag, where a path leads to a field: where it ends, and what is found after it. None where it has a fault.
 ///
-/// Few records concern that field. Apart from `walk`, it leaves registers to the loop over all records.
+/// Few records concern that field. Apart from `walk`, its code is not in each caller.
 #[cycle(walking)]
 #[inline(never)]
 fn target_found<'a>(
@@ -169,7 +197,7 @@ fn own_found<'a>(
             group: Some(tag.number),
             levels,
         };
-        return walk(alloc, pool, bytes, tag.end, group, own.rest, before);
+        return walk_inside(alloc, pool, bytes, tag.end, group, own.rest, before);
     }
     let Ok((start, end)) = payload_at(bytes, tag.end, None) else {
         return None;
@@ -179,7 +207,7 @@ fn own_found<'a>(
         group: None,
         levels,
     };
-    let (_, found) = walk(
+    let (_, found) = walk_inside(
         alloc,
         pool,
         &bytes[start..end],

@@ -1,4 +1,4 @@
-use Rattle.std.proofs.Common.{◌≡◌, ◌∙◌, ◌+◌, ◌-◌, ◌*◌, ◌<◌, ◌^◌, ℕ, List, ap, sym, subst, refl, rules, arith, [], Some, None, length, length-drop, take, drop}
+use Rattle.std.proofs.Common.{◌≡◌, ◌∙◌, ◌+◌, ◌-◌, ◌*◌, ◌<◌, ◌^◌, ℕ, List, ap, sym, subst, refl, rules, arith, [], ◌∷◌, Some, None, length, length-drop, take, drop}
 use Rattle.std.proofs.lemmas.List.{length-take}
 use Rattle.pb_wire.specs.Record.{len, group, group_of}
 use Rattle.pb_wire.specs.Fault.{HasTag}
@@ -9,20 +9,22 @@ use Rattle.pb_schema.specs.Context.{a_message, schema_of}
 use Rattle.pb_value.proofs.GroupLemmas.{records_in-group_of}
 use Rattle.pb_value.proofs.JudgeLemmas.{kind_named}
 use Rattle.pb_validate.specs.Here.{here}
-use Rattle.pb_validate.proofs.JudgeLemmas.{front_none, front_push}
+use Rattle.pb_validate.proofs.JudgeLemmas.{front_push}
 use Rattle.pb_find.specs.Found.{found}
 use Rattle.pb_find.specs.View.{found_view}
 use Rattle.pb_find.proofs.TargetLemmas.{target_is, own_message, own_other_type, reads_message, reads_group, message_type_of}
-use Rattle.pb_find.proofs.WalkLemmas.{some_map, stranger_more, one_more, none_found, not_read, no_tag, message_value, all_of, group_value_of, no_group, no_message, no_cut_message}
+use Rattle.pb_find.specs.Walk.{record_at}
+use Rattle.pb_find.proofs.PassingLemmas.{front_join, nothing_more, nothing_yet, no_target}
+use Rattle.pb_find.proofs.WalkLemmas.{some_map, one_more, not_read, no_tag, message_value, all_of, group_value_of, no_group, no_message, no_cut_message}
 use Rattle.pb_find.proofs.walking.+walking.Goals as goal
 
 pub walk-records-init : goal.walk-records-init
-walk-records-init t c = (
-  omega arith,
-  c.requires.at_in_bounds,
-  [],
-  front_none (schema_of c.args.pool.now) (a_message c.args.level.message_type.0) c.args.level.levels (here c.args.bytes.now c.args.at None),
-  none_found c.args.pool.now c.args.level.message_type.0 c.args.path.now c.target_of-target.result (found_view c.args.before) c.target_of-target.ensures.found,
+walk-records-init t c = let passed = c.past_strangers-here.ensures.passed in (
+  c.past_strangers-here.ensures.within.0,
+  c.past_strangers-here.ensures.within.1,
+  passed.0,
+  passed.1,
+  nothing_yet c.args.pool.now c.args.level.message_type.0 c.args.path.now c.target_of-target.result (found_view c.args.before) passed.0 c.target_of-target.ensures.found passed.2,
   c.target_of-target.ensures.found,
   c.target_of-target.ensures.own,
   c.target_of-target.ensures.shorter,
@@ -47,8 +49,8 @@ walk-records-preserved-in-None t c =
       ended.1,
       _,
       front_push c.records.invariant.2 value.0 c.records.invariant.3 c.in-Ok.ensures.ok value.1,
-      stranger_more c.args.pool.now c.args.level.message_type.0 c.args.path.now _ (found_view c.args.before) (found_view c.records.found) c.records.invariant.2 c.in-Ok.tag.number value.0
-          (c.concerned.ensures.others c.in-None.is) c.records.invariant.5 c.records.invariant.4,
+      nothing_more c.args.pool.now c.args.level.message_type.0 c.args.path.now _ (found_view c.args.before) (found_view c.records.found) c.records.invariant.2 (record_at c.in-Ok.tag.number value.0 ∷ [])
+          c.records.invariant.5 c.records.invariant.4 (no_target c.args.pool.now c.args.level.message_type.0 _ _ c.in-None.is),
       c.records.invariant.5,
       c.records.invariant.6,
       c.records.invariant.7,
@@ -56,9 +58,8 @@ walk-records-preserved-in-None t c =
 
 pub walk-target_found-requires : goal.walk-target_found-requires
 walk-target_found-requires t c =
-    let own = rw c.in-Some.is at c.concerned.ensures.own in
-    let shorter = rw own at c.records.invariant.7 in
-    let less : 3 * length c.in-Some.target.rest.now + 2 < 3 * length c.args.path.now = omega (arith, shorter) in (
+    let shorter = rw c.in-Some.is at c.records.invariant.7 in
+    let less : 4 * length c.in-Some.own.rest.now + 3 < 4 * length c.args.path.now = omega (arith, shorter) in (
       search (rules, less),
       (
         c.requires.rules,
@@ -72,7 +73,7 @@ walk-target_found-requires t c =
                 c.in-Ok.ensures.within.1,
                 (
                   subst (λ (n : ℕ). HasTag (here c.args.bytes.now n None) c.in-Ok.tag.number c.in-Ok.tag.wire_type (here c.args.bytes.now c.in-Ok.tag.end None)) (sym c.in-Ok.ensures.within.2) c.in-Ok.ensures.ok,
-                  (c.if-tag-eq4.false, rw own at c.records.invariant.6),
+                  (c.if-tag-eq4.false, rw c.in-Some.is at c.records.invariant.6),
                 ),
               ),
             ),
@@ -90,13 +91,16 @@ pub walk-records-preserved : goal.walk-records-preserved
 walk-records-preserved t c =
     let moved = c.in-Ok.ensures.within in
     let ended = c.in_ok-end-in-Some.ensures.within in
-    let value = c.in_ok-end-in-Some.ensures.some in (
-      let h = c.records.invariant.0 in omega (arith, h, moved, ended),
-      ended.1,
+    let value = c.in_ok-end-in-Some.ensures.some in
+    let passed = c.past_strangers-here-in-Some.ensures.passed in
+    let past = c.past_strangers-here-in-Some.ensures.within in (
+      let h = c.records.invariant.0 in omega (arith, h, moved, ended, past),
+      past.1,
       _,
-      front_push c.records.invariant.2 value.0 c.records.invariant.3 c.in-Ok.ensures.ok value.1,
-      one_more c.args.pool.now c.args.level.message_type.0 c.args.path.now _ c.in-Some.target (found_view c.args.before) (found_view c.records.found) _ c.records.invariant.2 _
-          (rw c.in-Some.is at c.concerned.ensures.own) c.records.invariant.5 c.records.invariant.4 value.2,
+      front_join _ _ (front_push c.records.invariant.2 value.0 c.records.invariant.3 c.in-Ok.ensures.ok value.1) passed.1,
+      nothing_more c.args.pool.now c.args.level.message_type.0 c.args.path.now _ (found_view c.args.before) _ _ _ c.records.invariant.5
+          (one_more c.args.pool.now c.args.level.message_type.0 c.args.path.now _ c.in-Some.own (found_view c.args.before) (found_view c.records.found) _ c.records.invariant.2 _
+          c.in-Some.is c.records.invariant.5 c.records.invariant.4 value.2) passed.2,
       c.records.invariant.5,
       c.records.invariant.6,
       c.records.invariant.7,
@@ -114,10 +118,10 @@ own_found-returns-then-tag-wire_type-clause-some t c =
           c.requires.rules (λ e. c.if-tag-wire_type.true (sym v.1.type ∙ e ∙ sym c.wire_type.ensures)),
     )
 
-pub own_found-walk-requires : goal.own_found-walk-requires
-own_found-walk-requires t c =
+pub own_found-walk_inside-requires : goal.own_found-walk_inside-requires
+own_found-walk_inside-requires t c =
     let is = target_is c.args.pool.now c.args.level.message_type.0 c.args.own.field.now.number (field_view c.args.own.field.now) c.requires.own in
-    let less : 3 * length c.args.own.rest.now < 3 * length c.args.own.rest.now + 1 = omega arith in
+    let less : 4 * length c.args.own.rest.now + 1 < 4 * length c.args.own.rest.now + 2 = omega arith in
     let most = c.requires.levels in (
       search (rules, less),
       (
@@ -137,7 +141,7 @@ own_found-returns-then-tag-eq3-clause-some t c =
     let inner : message_of_kind c.args.own.field.now.kind ≡ Some c.in-Some.inner.0 = sym c.in-Some.ensures.named in
     let read : (schema_of c.args.pool.now).group_context (a_message c.args.level.message_type.0) c.args.tag.number ≡ a_message c.in-Some.inner.0 =
     rw c.requires.number (reads_group c.args.pool.now c.args.level.message_type.0 (field_view c.args.own.field.now) is.0 is.1 c.in-Some.inner.0 c.args.tag.wire_type inner fit c.if-tag-eq3.true) in
-    some_map c.walk.result _ _
+    some_map c.walk_inside.result _ _
     (λ r h. (
       group (group_of h.0),
       group_value_of c.args.pool.now c.args.level.message_type.0 c.in-Some.inner.0 c.args.level.levels c.args.tag.number c.args.tag.wire_type (here c.args.bytes.now c.args.tag.end None) (here c.args.bytes.now r.0 None) h.0
@@ -146,7 +150,7 @@ own_found-returns-then-tag-eq3-clause-some t c =
           ∙ own_message c.args.pool.now c.args.level.message_type.0 c.args.tag.number c.args.own.rest.now (field_view c.args.own.field.now) (found_view c.args.before) (group (group_of h.0)) c.requires.own
           c.requires.number c.in-Some.inner.0 inner (sym c.if-tag-eq3.true ∙ fit),
     ))
-    c.walk.ensures.some
+    c.walk_inside.ensures.some
 
 pub own_found-returns-then-tag-eq3-clause-none : goal.own_found-returns-then-tag-eq3-clause-none
 own_found-returns-then-tag-eq3-clause-none t c =
@@ -156,7 +160,7 @@ own_found-returns-then-tag-eq3-clause-none t c =
     let read : (schema_of c.args.pool.now).group_context (a_message c.args.level.message_type.0) c.args.tag.number ≡ a_message c.in-Some.inner.0 =
     rw c.requires.number (reads_group c.args.pool.now c.args.level.message_type.0 (field_view c.args.own.field.now) is.0 is.1 c.in-Some.inner.0 c.args.tag.wire_type inner fit c.if-tag-eq3.true) in
     λ e. no_group c.args.pool.now c.args.level.message_type.0 c.in-Some.inner.0 c.args.level.levels c.args.tag.number c.args.tag.wire_type (here c.args.bytes.now c.args.tag.end None) c.if-tag-eq3.true c.requires.is_tag.number read
-    (c.walk.ensures.none e)
+    (c.walk_inside.ensures.none e)
 
 pub own_found-returns-in_default-payload_at-clause-none : goal.own_found-returns-in_default-payload_at-clause-none
 own_found-returns-in_default-payload_at-clause-none t c =
@@ -165,10 +169,10 @@ own_found-returns-in_default-payload_at-clause-none t c =
     λ _. no_cut_message c.args.pool.now c.args.level.message_type.0 c.args.level.levels c.args.tag.number c.args.tag.wire_type (here c.args.bytes.now c.args.tag.end None) _
     (message_type_of c.args.own.field.now.kind c.in-Some.inner.0 c.args.tag.wire_type inner fit c.if-tag-eq3.false) c.in_default-payload_at.ensures.fault
 
-pub own_found-walk-requires-2 : goal.own_found-walk-requires-2
-own_found-walk-requires-2 t c =
+pub own_found-walk_inside-requires-2 : goal.own_found-walk_inside-requires-2
+own_found-walk_inside-requires-2 t c =
     let is = target_is c.args.pool.now c.args.level.message_type.0 c.args.own.field.now.number (field_view c.args.own.field.now) c.requires.own in
-    let less : 3 * length c.args.own.rest.now < 3 * length c.args.own.rest.now + 1 = omega arith in
+    let less : 4 * length c.args.own.rest.now + 1 < 4 * length c.args.own.rest.now + 2 = omega arith in
     let most = c.requires.levels in
     let taken = length-take (c.in-Ok.end - c.in-Ok.start) (drop c.in-Ok.start c.args.bytes.now) in
     let left = length-drop c.in-Ok.start c.args.bytes.now in

@@ -12,13 +12,16 @@ use Rattle.pb_find.specs.View.{found_view}
 use Rattle.pb_find.proofs.walking.+walking.Given as goal
 
 abbrev pub decreases-walk : goal.decreases-walk
-decreases-walk l = 3 * length l.path.now
+decreases-walk l = 4 * length l.path.now
+
+abbrev pub decreases-walk_inside : goal.decreases-walk_inside
+decreases-walk_inside l = 4 * length l.path.now + 1
 
 abbrev pub decreases-own_found : goal.decreases-own_found
-decreases-own_found l = 3 * length l.own.rest.now + 1
+decreases-own_found l = 4 * length l.own.rest.now + 2
 
 abbrev pub decreases-target_found : goal.decreases-target_found
-decreases-target_found l = 3 * length l.target.rest.now + 2
+decreases-target_found l = 4 * length l.target.rest.now + 3
 
 abbrev pub invariant-walk-records : goal.invariant-walk-records
 invariant-walk-records l =

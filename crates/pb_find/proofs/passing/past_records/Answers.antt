@@ -1,0 +1,22 @@
+use Rattle.std.proofs.Common.{None, arith}
+use Rattle.pb_validate.specs.Here.{here}
+use Rattle.pb_find.proofs.PassingLemmas.{passes_none, passes_more}
+use Rattle.pb_find.proofs.passing.past_records.Goals as goal
+
+pub records-init : goal.records-init
+records-init c = (
+  omega arith,
+  c.requires.at_in_bounds,
+  passes_none c.args.pool.now c.args.level.message_type.0 c.args.level.levels c.args.field c.args.shape (here c.args.bytes.now c.args.at None),
+)
+
+pub records-preserved : goal.records-preserved
+records-preserved c =
+    let moved = c.in-Ok.ensures.within in
+    let ended = c.in-Some.ensures.within in (
+      let h = c.records.invariant.0 in omega (arith, h, moved, ended),
+      ended.1,
+      passes_more c.args.pool.now c.args.level.message_type.0 c.args.level.levels c.args.field c.in-Ok.tag.number c.in-Ok.tag.wire_type c.args.shape
+          (here c.args.bytes.now c.args.at None) (here c.args.bytes.now c.records.here None) (here c.args.bytes.now c.in-Ok.tag.end None) (here c.args.bytes.now c.in-Some.end None)
+          c.records.invariant.2 c.in-Ok.ensures.ok c.in-Some.ensures.some (c.concerns.ensures c.if-concerns.false),
+    )
