@@ -1,4 +1,4 @@
-//! Tests of `find`: worked cases, faults, and each path of messages beside `decode`.
+//! Tests of `find`: worked cases, faults, and each path of messages, of random ones too, beside `decode`.
 #![tactic(auto)]
 
 #[cfg(test)]
@@ -6,9 +6,13 @@ mod alike;
 #[cfg(test)]
 mod answers;
 #[cfg(test)]
+mod chance;
+#[cfg(test)]
 mod first_call;
 #[cfg(test)]
 mod paths;
+#[cfg(test)]
+mod random;
 #[cfg(test)]
 mod rows;
 #[cfg(test)]

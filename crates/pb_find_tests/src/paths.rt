@@ -47,7 +47,7 @@ fn scalar_at<'a>(message: &MessageRef<'a>, path: &[u32]) -> Option<ScalarRef<'a>
 const MOST: u32 = 12;
 
 /// Whether `find` answers at a path what look-ups in the message of the bytes do.
-fn is_found(
+pub(crate) fn is_found(
     schema: &Schema,
     bytes: &[u8],
     message: &MessageRef<'_>,

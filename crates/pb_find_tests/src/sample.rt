@@ -15,7 +15,7 @@
 
 ghost use Rattle.std.specs.Prelude.{◌<◌, length};
 
-use pb_decode::{DecodeError, decode};
+use pb_decode::{DecodeError, decode, validate};
 use pb_find::{ScalarRef, find};
 use pb_samples::{EnumRow, FIELDS_OF_T, FieldRow, FileRow, PACKED, TypeRow, pool_of};
 use pb_schema::{EnumId, Kind, MessageId, Pool, Shape};
@@ -105,6 +105,10 @@ impl Schema {
         limits: Limits,
     ) -> Result<DynamicMessage<'p>, DecodeError> {
         decode(self.alloc, &self.pool, self.kind, bytes, limits)
+    }
+
+    pub(crate) fn validate(&self, bytes: &[u8], limits: Limits) -> Result<(), DecodeError> {
+        validate(self.alloc, &self.pool, self.kind, bytes, limits)
     }
 }
 
