@@ -25,5 +25,5 @@ site_line g byte = codes "  at byte " ++ decimal (g.offset + byte) ++ codes " of
 -- where the byte is, a line for each step of the path, what was expected, and the bytes around
 abbrev pub IsExplained : Types → Parent → Given → Refused → List ℕ → Type 0
 IsExplained pool parent g r lines =
-    (steps : List ℕ) × AreStepLines pool parent r.path.now steps
+    (steps : List ℕ) × AreStepLines pool parent g r.path.now steps
     × (lines ≡ site_line g r.byte ++ steps ++ expected_line r.cause ++ window_lines g.bytes.now r.byte)

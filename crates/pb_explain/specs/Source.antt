@@ -1,5 +1,6 @@
 -- Where a byte of a source is, by line and column.
-use Rattle.std.specs.Prelude.{◌≡◌, ◌≢◌, ◌⊎◌, ℕ, ◌+◌, ◌≤◌, ◌==◌, ◌||◌, nat_lt, nat_le, List, [], ◌∷◌, ◌++◌, Bool, codes, decimal, drop, filter, flat_map, length, take, if◌then◌else◌}
+use Rattle.std.specs.Prelude.{◌≡◌, ◌≢◌, ◌⊎◌, ℕ, ◌+◌, ◌≤◌, ◌==◌, ◌||◌, nat_lt, nat_le}
+use Rattle.std.specs.Prelude.{List, [], ◌∷◌, ◌++◌, Bool, codes, decimal, drop, filter, flat_map, length, take, if◌then◌else◌}
 use Rattle.std.specs.List.{AllByRecursion}
 
 -- how many line feeds there are

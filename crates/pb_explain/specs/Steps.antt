@@ -9,6 +9,9 @@ use Rattle.pb_schema.specs.declared.types.Shape.{Shape}
 use Rattle.pb_schema.specs.declared.types.Shape.TheVariants as shape
 use Rattle.pb_schema.specs.Types.{FieldView, Types, field_numbered, message_fields}
 use Rattle.pb_listing.specs.TypesListing.{kind_text}
+use Rattle.pb_explain.specs.Records.{IsFoundIn, payload_in, span_in}
+use Rattle.pb_explain.specs.declared.find.Found.{Found}
+use Rattle.pb_explain.specs.declared.parts.Given.{Given}
 use Rattle.pb_explain.specs.declared.parts.Parent.{Parent}
 use Rattle.pb_explain.specs.declared.parts.Parent.TheVariants.{Untyped, Message, Entry}
 use Rattle.pb_explain.specs.declared.parts.Span.{Span}
@@ -76,13 +79,17 @@ span_text (Some s) = span_of s.first s.last
 abbrev pub step_line : Types → Parent → PathStep → Option Span → List ℕ
 step_line pool p s span = codes "  " ++ step_text s ++ label_of pool p s.number ++ span_text span
 
--- these lines are those of the steps, outermost first, and the last step leads to what records are in there
-pub data Leads (pool : Types) (start : Parent) : List PathStep → Parent → List ℕ → Type 0 where
-  nowhere : {path : List PathStep} {inside : Parent} {lines : List ℕ} → path ≡ [] → inside ≡ start → lines ≡ [] → Leads pool start path inside lines
+-- These lines are those of the steps, outermost first. The last step leads to what records are in there, and to where in the bytes they begin, if its
+-- record was found.
+pub data Leads (pool : Types) (start : Parent) (g : Given) : List PathStep → Parent → Option ℕ → List ℕ → Type 0 where
+  nowhere :
+      {path : List PathStep} {inside : Parent} {at : Option ℕ} {lines : List ℕ} → path ≡ [] → inside ≡ start → at ≡ Some g.start → lines ≡ []
+      → Leads pool start g path inside at lines
   further :
-      {path before : List PathStep} {parent inside : Parent} {above lines : List ℕ} (s : PathStep) (span : Option Span) → Leads pool start before parent above
-      → path ≡ before ++ s ∷ [] → inside ≡ parent_inside pool parent s.number → lines ≡ above ++ step_line pool parent s span
-      → Leads pool start path inside lines
+      {path before : List PathStep} {parent inside : Parent} {from at : Option ℕ} {above lines : List ℕ} (s : PathStep) (found : Option Found)
+      → Leads pool start g before parent from above → IsFoundIn g.bytes.now from s found → path ≡ before ++ s ∷ []
+      → inside ≡ parent_inside pool parent s.number → at ≡ payload_in found → lines ≡ above ++ step_line pool parent s (span_in g.offset found)
+      → Leads pool start g path inside at lines
 
-abbrev pub AreStepLines : Types → Parent → List PathStep → List ℕ → Type 0
-AreStepLines pool start path lines = (inside : Parent) × Leads pool start path inside lines
+abbrev pub AreStepLines : Types → Parent → Given → List PathStep → List ℕ → Type 0
+AreStepLines pool start g path lines = (inside : Parent) × (at : Option ℕ) × Leads pool start g path inside at lines

@@ -4,6 +4,7 @@ ghost use Rattle.std.specs.Prelude.{◌≡◌, ◌++◌, ℕ, List, codes, decim
 ghost use Rattle.pb_schema.specs.View.{field_view};
 ghost use Rattle.pb_wire.specs.PathText.{step_text};
 ghost use Rattle.pb_output.specs.Sink.{Puts};
+ghost use Rattle.pb_explain.specs.Records.{IsFoundIn, payload_in, span_in};
 ghost use Rattle.pb_explain.specs.Steps.{AreStepLines, entry_label, field_label, field_of, inside_entry, inside_field, inside_kind};
 ghost use Rattle.pb_explain.specs.Steps.{bounds_text, label_of, parent_inside, span_of, span_text, start_text, step_line, type_label};
 
@@ -51,7 +52,8 @@ pub fn put_steps<O: Output>(
     given: Given<'_>,
     path: &[PathStep],
 )
-    ensures { (lines : List ℕ) × AreStepLines pool.now parent path.now lines × Puts O.written O.failures out.old out.new sink.old sink.new lines }
+    ensures { (lines : List ℕ) × AreStepLines pool.now parent given.entry path.now lines
+        × Puts O.written O.failures out.old out.new sink.old sink.new lines }
 {
     let mut inside = parent;
     let mut at = Some(given.start);
@@ -70,16 +72,23 @@ pub fn put_steps<O: Output>(
     }
 }
 
-fn find_at(bytes: &[u8], at: Option<usize>, step: PathStep) -> Option<Found> {
+/// The record of a step in a payload that begins at an index, if that was found.
+fn find_at(bytes: &[u8], at: Option<usize>, step: PathStep) -> Option<Found>
+    ensures { IsFoundIn bytes.now at step result }
+{
     find_record(bytes, at?, step)
 }
 
-fn payload_of(found: Option<Found>) -> Option<usize> {
+fn payload_of(found: Option<Found>) -> Option<usize>
+    ensures { result ≡ payload_in found }
+{
     Some(found?.payload)
 }
 
 /// The bytes of a record, counted in the whole input.
-fn find_span(offset: u64, found: Option<Found>) -> Option<Span> {
+fn find_span(offset: u64, found: Option<Found>) -> Option<Span>
+    ensures { result ≡ span_in offset found }
+{
     let found = found?;
     let last = match found.end {
         Some(end) => Some(offset.saturating_add(end as u64).saturating_sub(1)),

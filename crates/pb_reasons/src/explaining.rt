@@ -11,9 +11,40 @@ use pb_files::{Files, Refusal, read_file};
 use pb_source::SourceFault;
 use pb_wire::{Limits, MemOutput};
 use std::alloc::Global;
+use std::io;
 
 /// Writes the lines about a refusal. Files are read again, up to the bytes that are shown; one that cannot be read again is left out.
 pub fn explain<F: Files>(
+    alloc: Global,
+    subject: Subject<'_>,
+    refusal: &Refusal<'_>,
+    files: &mut F,
+    lines: &mut MemOutput,
+) {
+    match refusal {
+        Refusal::Fault { .. }
+        | Refusal::Frame { .. }
+        | Refusal::Frames { .. }
+        | Refusal::Set { .. } => explain_bytes(alloc, subject, refusal, files, lines),
+        Refusal::SetFile { .. } | Refusal::Link { .. } => explain_declaration(
+            alloc, subject, refusal, files, lines,
+        ),
+        Refusal::Source { .. } | Refusal::JsonText { .. } => explain_text(
+            alloc, subject, refusal, files, lines,
+        ),
+        Refusal::Device(path) => explain_device(alloc, path, files, lines),
+        Refusal::File(path) => explain_device(alloc, path.as_str(), files, lines),
+        Refusal::UnknownType(_)
+        | Refusal::TooLarge
+        | Refusal::FrameJson { .. }
+        | Refusal::Json { .. }
+        | Refusal::Breaks
+        | Refusal::Memory => {}
+    }
+}
+
+/// Writes the lines about bytes of messages or of a descriptor set that are refused.
+fn explain_bytes<F: Files>(
     alloc: Global,
     subject: Subject<'_>,
     refusal: &Refusal<'_>,
@@ -39,6 +70,19 @@ pub fn explain<F: Files>(
             let at = At::new(*byte, path, *cause);
             explain_set_bytes(alloc, subject, at, files, lines)
         }
+        _ => {}
+    }
+}
+
+/// Writes the lines about a file of a set that is refused, or a declaration that does not link.
+fn explain_declaration<F: Files>(
+    alloc: Global,
+    subject: Subject<'_>,
+    refusal: &Refusal<'_>,
+    files: &mut F,
+    lines: &mut MemOutput,
+) {
+    match refusal {
         Refusal::SetFile { file, cause } => explain_set_file(
             alloc, subject, *file, *cause, files, lines,
         ),
@@ -50,6 +94,19 @@ pub fn explain<F: Files>(
             let unlinked = Unlinked::new(file.as_str(), full_name.as_str(), *cause);
             explain_unlinked(alloc, subject, unlinked, files, lines)
         }
+        _ => {}
+    }
+}
+
+/// Writes the lines about a byte of a source or of JSON.
+fn explain_text<F: Files>(
+    alloc: Global,
+    subject: Subject<'_>,
+    refusal: &Refusal<'_>,
+    files: &mut F,
+    lines: &mut MemOutput,
+) {
+    match refusal {
         Refusal::Source { file, byte, cause } => {
             let fault = SourceFault {
                 byte: *byte,
@@ -60,14 +117,7 @@ pub fn explain<F: Files>(
         Refusal::JsonText { byte, cause: _ } => explain_json_text(
             alloc, subject, *byte, files, lines,
         ),
-        Refusal::Device(path) => explain_device(path, files, lines),
-        Refusal::File(path) => explain_device(path.as_str(), files, lines),
-        Refusal::UnknownType(_)
-        | Refusal::TooLarge
-        | Refusal::FrameJson { .. }
-        | Refusal::Json { .. }
-        | Refusal::Breaks
-        | Refusal::Memory => {}
+        _ => {}
     }
 }
 
@@ -112,10 +162,14 @@ fn explain_json_text<F: Files>(
     put_source(&text, byte, lines);
 }
 
-/// Says whether the file of a path can be opened.
-fn explain_device<F: Files>(path: &str, files: &mut F, lines: &mut MemOutput) {
+/// Says why the file of a path is refused: by the system's reason, or else by whether the file can be opened.
+fn explain_device<F: Files>(alloc: Global, path: &str, files: &mut F, lines: &mut MemOutput) {
     if path == "-" {
         put(lines, b"  standard output takes no more\n");
+        return;
+    }
+    if let Some(error) = files.reason(path) {
+        put_reason(alloc, &error, lines);
         return;
     }
     match files.open(path) {
@@ -125,5 +179,12 @@ fn explain_device<F: Files>(path: &str, files: &mut F, lines: &mut MemOutput) {
         ),
         Ok(None) => put(lines, b"  no file has this path\n"),
         Err(_) => put(lines, b"  the file cannot be opened\n"),
+    }
+}
+
+/// Writes the reason of the system.
+fn put_reason(alloc: Global, error: &io::Error, lines: &mut MemOutput) {
+    if let Ok(reason) = format!(in alloc; "  the system says: {error}\n") {
+        put(lines, reason.as_str().as_bytes());
     }
 }

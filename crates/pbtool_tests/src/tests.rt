@@ -13,6 +13,7 @@ mod json;
 mod keep_going;
 mod lenient;
 mod nested;
+mod reasons;
 mod refused_sets;
 mod refused_sources;
 mod typed;

@@ -1,8 +1,5 @@
 use Rattle.std.proofs.Common.{refl}
 use Rattle.pb_output.proofs.SinkLemmas.{puts_then}
-use Rattle.pb_explain.specs.Expected.{expected_line}
-use Rattle.pb_explain.specs.Explained.{site_line}
-use Rattle.pb_explain.specs.Window.{window_lines}
 use Rattle.pb_explain.proofs.fault.put_fault.Goals as goal
 
 pub returns : goal.returns
