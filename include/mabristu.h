@@ -329,7 +329,8 @@ struct mb_message {
  * handle that holds it. Where the answer is another than MB_DONE the handle of the message is as it was. */
 uint32_t mb_message_new(struct mb_pool *pool, uint32_t type, struct mb_message *message);
 
-/* Decodes the bytes as a message of the type, as mb_check checks them, in place of what the handle of the message held. */
+/* Decodes the bytes as a message of the type, as mb_check checks them, in place of what the handle of the message held. Of bytes that are canonical
+ * already, as most in a pipeline are, a copy is held, and fields are built of it by the first call that needs them, which may answer MB_MEMORY. */
 uint32_t mb_message_decode(struct mb_pool *pool, uint32_t type, const uint8_t *bytes, size_t bytes_len, uint32_t max_bytes, uint8_t max_depth,
                            struct mb_message *message, struct mb_fault *fault, struct mb_step *path, size_t path_len);
 

@@ -1,5 +1,5 @@
 -- What is reported of a comparison of two types.
-use Rattle.std.specs.Prelude.{◌≡◌, ℕ, List, map, flat_map}
+use Rattle.std.specs.Prelude.{ℕ, List, map, flat_map}
 use Rattle.pb_schema.specs.Types.{Types}
 use Rattle.pb_compat.specs.Pairs.{IsComparison}
 use Rattle.pb_compat.specs.declared.difference.ComparedTypes.{ComparedTypes}

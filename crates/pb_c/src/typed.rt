@@ -9,7 +9,7 @@ ghost use Rattle.pb_c.specs.Reporting.{IsLaid, Tells};
 ghost use Rattle.pb_c.specs.Typed.{ByFault};
 
 pub(crate) mod canon;
-mod canonical;
+pub(crate) mod canonical;
 pub(crate) mod check;
 pub(crate) mod find;
 pub(crate) mod frames;

@@ -10,12 +10,12 @@ use super::handle::{MessageHandle, put, take};
 use super::own::OwnMessage;
 use crate::reporting::{ABSENT, BAD_PLACE, BAD_VALUE, DONE, EMPTY, MEMORY};
 use pb_c_changes::{PlainChange, Put, Unchanged, change};
+use pb_c_held::{Held, take_body};
 use pb_c_values::PlainValue;
 use pb_place::ChangeError;
-use pb_value::parts::{empty_body, from_well_formed};
+use pb_value::parts::from_well_formed;
 use pb_value::{DynamicMessage, ValueError};
 use std::alloc::Global;
-use std::mem;
 
 /// The answer for a cause.
 fn cause_answer(cause: ValueError) -> u32
@@ -68,11 +68,13 @@ fn change_own(
     ensures changed { IsChanged (ends strings.now place.now plain) (Some own.old) (Some own.new) result }
     ensures answers { IsChangeAnswer result }
 {
-    let body = mem::replace(&mut own.body, empty_body(alloc));
+    let Some(body) = take_body(alloc, &own.pool, own.message_type, &mut own.held) else {
+        return MEMORY;
+    };
     let mut message = from_well_formed(alloc, &own.pool, own.message_type, body);
     let answer = change_message(alloc, &mut message, place, strings, plain);
     let _well_formed = message.body();
-    own.body = message.into_body();
+    own.held = Held::Fields(message.into_body());
     answer
 }
 

@@ -1,21 +1,25 @@
 //! A copy of a message that a handle holds.
 
 ghost use Rattle.std.specs.Prelude.{◌≡◌, ◌≢◌, ◌<◌, ◌≤◌, ◌^◌, ◌↔◌, ◌⊎◌, None, Some, length, Err, IfOk, IfErr};
+ghost use Rattle.pb_wire.specs.Inside.{records_spelled};
 ghost use Rattle.pb_value.specs.Dynamic.{Dynamic};
+ghost use Rattle.pb_value.specs.Value.{value};
+ghost use Rattle.pb_canonical.specs.Canonical.{IsCanonical};
 ghost use Rattle.pb_encode.specs.Encoding.{bytes_of};
+ghost use Rattle.pb_c.specs.Typed.{message_of};
 
 use super::handle::{MessageHandle, hold, put, take};
-use super::own::{OwnMessage, boxed};
+use super::own::{OwnMessage, boxed, bytes_boxed};
 use crate::reporting::{DONE, EMPTY, MEMORY};
 use crate::typed::TOO_LARGE;
+use pb_c_held::{Held, canonical_bytes, take_body};
 use pb_decode::decode;
 use pb_encode::{EncodeError, encode};
-use pb_schema::Pool;
+use pb_schema::{MessageId, Pool};
 use pb_value::DynamicMessage;
-use pb_value::parts::{empty_body, from_well_formed};
+use pb_value::parts::from_well_formed;
 use pb_wire::Limits;
 use std::alloc::Global;
-use std::mem;
 use std::sync::Arc;
 
 /// The canonical bytes of a message, or what a call answers.
@@ -81,6 +85,25 @@ fn copy_boxed(
     }
 }
 
+/// A box of the message that canonical bytes are, of which a copy is held, or what a call answers.
+pub(super) fn bytes_copied(
+    alloc: Global,
+    pool: &Arc<Pool>,
+    message_type: MessageId,
+    bytes: &[u8],
+) -> Result<Box<OwnMessage, Global>, u32>
+    requires within { message_type.0 < length pool.now.value.messages }
+    requires canonical { IsCanonical pool.now.value message_type.0 bytes.now }
+    ensures value { IfOk result (λ b. b.value
+        ≡ message_of pool.now.value message_type.0 (value pool.now.value message_type.0 (records_spelled bytes.now))) }
+    ensures memory { IfErr result (λ a. a ≡ MEMORY) }
+{
+    match bytes_boxed(alloc, pool, message_type, bytes) {
+        Ok(message) => Ok(message),
+        Err(_) => Err(MEMORY),
+    }
+}
+
 /// A box of a copy of a message that is owned.
 fn copy_own(alloc: Global, own: &mut OwnMessage) -> Result<Box<OwnMessage, Global>, u32>
     ensures same { IfOk result (λ b. b.value ≡ own.old) }
@@ -88,10 +111,15 @@ fn copy_own(alloc: Global, own: &mut OwnMessage) -> Result<Box<OwnMessage, Globa
     ensures answers { IfErr result (λ a. (a ≡ TOO_LARGE) ⊎ (a ≡ MEMORY)) }
     ensures kept { own.new ≡ own.old }
 {
-    let body = mem::replace(&mut own.body, empty_body(alloc));
+    if let Some(bytes) = canonical_bytes(&own.held) {
+        return bytes_copied(alloc, &own.pool, own.message_type, bytes);
+    }
+    let Some(body) = take_body(alloc, &own.pool, own.message_type, &mut own.held) else {
+        return Err(MEMORY);
+    };
     let message = from_well_formed(alloc, &own.pool, own.message_type, body);
     let made = copy_boxed(alloc, &own.pool, &message);
-    own.body = message.into_body();
+    own.held = Held::Fields(message.into_body());
     made
 }
 

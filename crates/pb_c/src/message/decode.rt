@@ -10,17 +10,19 @@ ghost use Rattle.pb_c.specs.Held.{types_held};
 ghost use Rattle.pb_c.specs.Reporting.{AreLimits, Tells, bounds};
 ghost use Rattle.pb_c.specs.Typed.{HasType, LacksType, message_of};
 
+use super::copy::bytes_copied;
 use super::handle::{MessageHandle, hold};
 use super::own::{OwnMessage, boxed};
 use crate::handle::{PoolHandle, put, take};
 use crate::reporting::{BAD_LIMITS, DONE, EMPTY, FAULT, FaultReport, MEMORY, NO_TYPE, Step};
+use crate::typed::canonical::is_known_canonical;
 use crate::typed::read_message;
-use pb_schema::Pool;
+use pb_schema::{MessageId, Pool};
 use pb_wire::Limits;
 use std::alloc::Global;
 use std::sync::Arc;
 
-/// The message of the bytes, by its type's number. Where there is none, a fault is reported, and the error is what a call answers.
+/// The message of the bytes, by its type's number: the bytes themselves, where they are canonical, and else the fields. Where there is none, a fault is reported, and the error is what a call answers.
 fn decode_message(
     alloc: Global,
     pool: &Arc<Pool>,
@@ -40,6 +42,9 @@ fn decode_message(
     ensures refused { number < length pool.now.value.messages → (f : Fault) → IsFaultOf pool.now.value number limits bytes.now f
         → IsErrAnd result (λ a. ((a ≡ FAULT) × Tells f fault.new path.old path.new) ⊎ (a ≡ MEMORY)) }
 {
+    if is_known_canonical(alloc, pool, number, bytes, limits) {
+        return bytes_copied(alloc, pool, MessageId(number as usize), bytes);
+    }
     match read_message(alloc, pool, number, bytes, limits, fault, path) {
         Ok(message) => match boxed(alloc, pool, message) {
             Ok(message) => Ok(message),
@@ -51,6 +56,9 @@ fn decode_message(
 
 /// Decodes the bytes as a message of the type of this number in the pool, in place of what the handle of the message held. The message holds
 /// the pool too, which is freed with the last handle that holds it.
+///
+/// Canonical bytes, as most in a pipeline are, are checked and copied: fields are built of them by the first call that needs them, which
+/// answers MEMORY where there is none for that.
 ///
 /// Answers as `mb_check` does, and MEMORY also where there is none for the message. The handle of the message is changed at DONE alone.
 #[unsafe(no_mangle)]

@@ -3,13 +3,15 @@
 ghost use Rattle.std.specs.Prelude.{◌≡◌, ◌≢◌, ◌<◌, ◌≤◌, ◌^◌, ◌↔◌, ◌⊎◌, None, Some, length};
 ghost use Rattle.pb_value.specs.Dynamic.{Dynamic};
 ghost use Rattle.pb_encode.specs.Encoding.{bytes_of};
+ghost use Rattle.pb_encode.specs.Sizes.{capped};
 ghost use Rattle.pb_c.specs.Reporting.{IsLaid};
 
 use super::handle::{MessageHandle, put, take};
 use super::own::OwnMessage;
 use crate::reporting::{DONE, EMPTY, MEMORY};
-use crate::typed::TOO_LARGE;
 use crate::typed::canon::write_canonical;
+use crate::typed::{TOO_LARGE, write_out};
+use pb_c_held::{Held, canonical_bytes, take_body};
 use pb_encode::encoded_len;
 use pb_value::parts::{empty_body, from_well_formed};
 use pb_wire::MAX_BYTES;
@@ -24,25 +26,51 @@ fn encode_own(alloc: Global, own: &mut OwnMessage, out: &mut [u8], size: &mut us
     ensures answers { (result ≡ DONE) ⊎ (result ≡ TOO_LARGE) ⊎ (result ≡ MEMORY) }
     ensures same { own.new ≡ own.old }
 {
-    let body = mem::replace(&mut own.body, empty_body(alloc));
+    let _types = own.pool.messages();
+    if let Some(bytes) = canonical_bytes(&own.held) {
+        write_out(bytes, out, size);
+        return DONE;
+    }
+    let Some(body) = take_body(alloc, &own.pool, own.message_type, &mut own.held) else {
+        return MEMORY;
+    };
     let message = from_well_formed(alloc, &own.pool, own.message_type, body);
     let answer = write_canonical(&message, out, size);
-    own.body = message.into_body();
+    own.held = Held::Fields(message.into_body());
     answer
 }
 
-/// Counts the canonical bytes of the message.
-fn count_own(alloc: Global, own: &mut OwnMessage, size: &mut usize) -> u32
+/// Counts the canonical bytes of a message that is owned, up to the greatest number.
+fn count_own(alloc: Global, own: &mut OwnMessage) -> u128
+    ensures counted { result ≡ capped (length (bytes_of own.old)) }
+    ensures same { own.new ≡ own.old }
+{
+    let _types = own.pool.messages();
+    let nothing = Held::Fields(empty_body(alloc));
+    match mem::replace(&mut own.held, nothing) {
+        Held::Bytes(bytes) => {
+            let count = bytes.len() as u128;
+            own.held = Held::Bytes(bytes);
+            count
+        }
+        Held::Fields(body) => {
+            let message = from_well_formed(alloc, &own.pool, own.message_type, body);
+            let count = encoded_len(&message);
+            own.held = Held::Fields(message.into_body());
+            count
+        }
+    }
+}
+
+/// Reports how many canonical bytes a message that is owned has.
+fn report_count(alloc: Global, own: &mut OwnMessage, size: &mut usize) -> u32
     ensures counted { result ≡ DONE → (length (bytes_of own.old) < 2 ^ 31) × (size.new ≡ length (bytes_of own.old)) }
     ensures too_large { result ≡ TOO_LARGE → 2 ^ 31 ≤ length (bytes_of own.old) }
     ensures uncounted { result ≢ DONE → size.new ≡ size.old }
     ensures answers { (result ≡ DONE) ⊎ (result ≡ TOO_LARGE) }
     ensures same { own.new ≡ own.old }
 {
-    let body = mem::replace(&mut own.body, empty_body(alloc));
-    let message = from_well_formed(alloc, &own.pool, own.message_type, body);
-    let count = encoded_len(&message);
-    own.body = message.into_body();
+    let count = count_own(alloc, own);
     if count > u128::from(MAX_BYTES) {
         return TOO_LARGE;
     }
@@ -98,7 +126,7 @@ pub extern "C" fn mb_message_encoded_length(
     let Some(mut own) = take(alloc, message) else {
         return EMPTY;
     };
-    let answer = count_own(alloc, &mut own, size);
+    let answer = report_count(alloc, &mut own, size);
     put(message, own);
     answer
 }

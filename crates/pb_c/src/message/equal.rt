@@ -11,11 +11,11 @@ use super::handle::{MessageHandle, put, take};
 use super::own::OwnMessage;
 use crate::reporting::{DONE, EMPTY, MEMORY};
 use crate::typed::TOO_LARGE;
+use pb_c_held::{Held, take_body};
 use pb_encode::encoded_len;
 use pb_value::DynamicMessage;
-use pb_value::parts::{empty_body, from_well_formed};
+use pb_value::parts::from_well_formed;
 use std::alloc::Global;
-use std::mem;
 
 /// Whether two messages are of one type of equal pools.
 fn are_alike(message: &DynamicMessage<'_>, other: &DynamicMessage<'_>) -> bool
@@ -93,6 +93,28 @@ fn report_equal(message: &DynamicMessage<'_>, other: &DynamicMessage<'_>, equal:
     }
 }
 
+/// Reports whether a message is equal to one that is owned.
+fn equal_to(
+    alloc: Global,
+    message: &DynamicMessage<'_>,
+    other: &mut OwnMessage,
+    equal: &mut u32,
+) -> u32
+    ensures decided { result ≡ DONE → Marks equal.new (message.now ≡ other.old) }
+    ensures undecided { result ≢ DONE → equal.new ≡ equal.old }
+    ensures too_large { result ≡ TOO_LARGE → (2 ^ 31 ≤ length (bytes_of message.now)) ⊎ (2 ^ 31 ≤ length (bytes_of other.old)) }
+    ensures answers { (result ≡ DONE) ⊎ (result ≡ TOO_LARGE) ⊎ (result ≡ MEMORY) }
+    ensures same { other.new ≡ other.old }
+{
+    let Some(body) = take_body(alloc, &other.pool, other.message_type, &mut other.held) else {
+        return MEMORY;
+    };
+    let second = from_well_formed(alloc, &other.pool, other.message_type, body);
+    let answer = report_equal(message, &second, equal);
+    other.held = Held::Fields(second.into_body());
+    answer
+}
+
 /// Reports whether two messages that are owned are equal.
 fn equal_own(alloc: Global, own: &mut OwnMessage, other: &mut OwnMessage, equal: &mut u32) -> u32
     ensures decided { result ≡ DONE → Marks equal.new (own.old ≡ other.old) }
@@ -101,13 +123,12 @@ fn equal_own(alloc: Global, own: &mut OwnMessage, other: &mut OwnMessage, equal:
     ensures answers { (result ≡ DONE) ⊎ (result ≡ TOO_LARGE) ⊎ (result ≡ MEMORY) }
     ensures same { (own.new ≡ own.old) × (other.new ≡ other.old) }
 {
-    let body = mem::replace(&mut own.body, empty_body(alloc));
+    let Some(body) = take_body(alloc, &own.pool, own.message_type, &mut own.held) else {
+        return MEMORY;
+    };
     let message = from_well_formed(alloc, &own.pool, own.message_type, body);
-    let other_body = mem::replace(&mut other.body, empty_body(alloc));
-    let second = from_well_formed(alloc, &other.pool, other.message_type, other_body);
-    let answer = report_equal(&message, &second, equal);
-    own.body = message.into_body();
-    other.body = second.into_body();
+    let answer = equal_to(alloc, &message, other, equal);
+    own.held = Held::Fields(message.into_body());
     answer
 }
 

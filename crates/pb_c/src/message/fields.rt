@@ -9,11 +9,11 @@ use super::handle::{MessageHandle, put, take};
 use super::miss::miss_number;
 use super::own::OwnMessage;
 use crate::reporting::{ABSENT, BAD_PLACE, DONE, EMPTY, MEMORY};
+use pb_c_held::{Held, take_body};
 use pb_c_values::{PlainValue, fields_at};
 use pb_value::DynamicMessage;
-use pb_value::parts::{empty_body, from_well_formed};
+use pb_value::parts::from_well_formed;
 use std::alloc::Global;
-use std::mem;
 
 /// Writes the numbers of the fields that are set at a place.
 fn write_fields(
@@ -53,10 +53,12 @@ fn fields_own(
     ensures answers { (result ≡ DONE) ⊎ (result ≡ ABSENT) ⊎ (result ≡ BAD_PLACE) ⊎ (result ≡ MEMORY) }
     ensures same { own.new ≡ own.old }
 {
-    let body = mem::replace(&mut own.body, empty_body(alloc));
+    let Some(body) = take_body(alloc, &own.pool, own.message_type, &mut own.held) else {
+        return MEMORY;
+    };
     let message = from_well_formed(alloc, &own.pool, own.message_type, body);
     let answer = write_fields(alloc, &message, place, keys, numbers, count);
-    own.body = message.into_body();
+    own.held = Held::Fields(message.into_body());
     answer
 }
 

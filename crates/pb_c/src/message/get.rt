@@ -1,18 +1,19 @@
 //! The value at a place of a message.
 
-ghost use Rattle.std.specs.Prelude.{◌≡◌, ◌≢◌, ◌↔◌, ◌⊎◌, None, Some};
-ghost use Rattle.pb_c_values.specs.Answers.{plain_in};
+ghost use Rattle.std.specs.Prelude.{◌≡◌, ◌≢◌, ◌↔◌, ◌⊎◌, List, None, Some, IfSome};
+ghost use Rattle.pb_c_values.specs.Answers.{Answers, plain_in};
+ghost use Rattle.pb_c_values.specs.Places.{Bytes};
 ghost use Rattle.pb_c.specs.Message.Places.{IsAnswered};
 
 use super::handle::{MessageHandle, put, take};
 use super::miss::miss_number;
-use super::own::OwnMessage;
+use super::own::{OwnMessage, may_look};
 use crate::reporting::{ABSENT, BAD_PLACE, DONE, EMPTY, MEMORY};
+use pb_c_held::{Held, plain_held, take_body};
 use pb_c_values::{PlainValue, value_at};
 use pb_value::DynamicMessage;
-use pb_value::parts::{empty_body, from_well_formed};
+use pb_value::parts::from_well_formed;
 use std::alloc::Global;
-use std::mem;
 
 /// Reports the value at a place.
 fn report_value(
@@ -35,6 +36,17 @@ fn report_value(
     }
 }
 
+/// The value at a place of a message that is owned, where it is found in the bytes that are held.
+fn look(alloc: Global, own: &mut OwnMessage, place: &[PlainValue]) -> Option<PlainValue>
+    ensures found { IfSome result (λ x. (keys : List Bytes) → Answers plain_in keys place.now own.old (Some x)) }
+    ensures same { own.new ≡ own.old }
+{
+    if !may_look(own) {
+        return None;
+    }
+    plain_held(alloc, &own.pool, own.message_type, &own.held, place)
+}
+
 /// Reports the value at a place of a message that is owned.
 fn get_own(
     alloc: Global,
@@ -48,10 +60,16 @@ fn get_own(
     ensures answers { (result ≡ DONE) ⊎ (result ≡ ABSENT) ⊎ (result ≡ BAD_PLACE) ⊎ (result ≡ MEMORY) }
     ensures same { own.new ≡ own.old }
 {
-    let body = mem::replace(&mut own.body, empty_body(alloc));
+    if let Some(found) = look(alloc, own, place) {
+        *value = found;
+        return DONE;
+    }
+    let Some(body) = take_body(alloc, &own.pool, own.message_type, &mut own.held) else {
+        return MEMORY;
+    };
     let message = from_well_formed(alloc, &own.pool, own.message_type, body);
     let answer = report_value(alloc, &message, place, keys, value);
-    own.body = message.into_body();
+    own.held = Held::Fields(message.into_body());
     answer
 }
 

@@ -11,12 +11,12 @@ use super::handle::{MessageHandle, put, take};
 use super::own::OwnMessage;
 use crate::reporting::{DONE, EMPTY, MEMORY};
 use crate::typed::write_out;
+use pb_c_held::{Held, take_body};
 use pb_json::{JsonCause, JsonError, JsonForm, Layout, Names, Refusal, write_json};
 use pb_value::DynamicMessage;
-use pb_value::parts::{empty_body, from_well_formed};
+use pb_value::parts::from_well_formed;
 use pb_wire::{FailurePlan, MemOutput};
 use std::alloc::Global;
-use std::mem;
 
 /// Why a part of a message has no JSON form.
 const JSON_NO_KIND: u32 = 91;
@@ -118,10 +118,12 @@ fn json_own(
     ensures refused { (r : Refused) → refused own.old ≡ Some r → RefusesAs r result path.old path.new steps.new ⊎ (result ≡ MEMORY) }
     ensures same { own.new ≡ own.old }
 {
-    let body = mem::replace(&mut own.body, empty_body(alloc));
+    let Some(body) = take_body(alloc, &own.pool, own.message_type, &mut own.held) else {
+        return MEMORY;
+    };
     let message = from_well_formed(alloc, &own.pool, own.message_type, body);
     let answer = write_as_json(&message, form, out, size, path, steps);
-    own.body = message.into_body();
+    own.held = Held::Fields(message.into_body());
     answer
 }
 

@@ -9,11 +9,11 @@ use super::handle::{MessageHandle, put, take};
 use super::miss::miss_number;
 use super::own::OwnMessage;
 use crate::reporting::{ABSENT, BAD_PLACE, DONE, EMPTY, MEMORY, lay_over};
+use pb_c_held::{Held, take_body};
 use pb_c_values::{PlainValue, key_at, key_bytes, key_value};
 use pb_value::DynamicMessage;
-use pb_value::parts::{empty_body, from_well_formed};
+use pb_value::parts::from_well_formed;
 use std::alloc::Global;
-use std::mem;
 
 /// Reports a key of the map at a place.
 fn report_key(
@@ -54,10 +54,12 @@ fn key_own(
     ensures answers { (result ≡ DONE) ⊎ (result ≡ ABSENT) ⊎ (result ≡ BAD_PLACE) ⊎ (result ≡ MEMORY) }
     ensures same { own.new ≡ own.old }
 {
-    let body = mem::replace(&mut own.body, empty_body(alloc));
+    let Some(body) = take_body(alloc, &own.pool, own.message_type, &mut own.held) else {
+        return MEMORY;
+    };
     let message = from_well_formed(alloc, &own.pool, own.message_type, body);
     let answer = report_key(alloc, &message, place, keys, index, key, out);
-    own.body = message.into_body();
+    own.held = Held::Fields(message.into_body());
     answer
 }
 

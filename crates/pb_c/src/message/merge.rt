@@ -14,12 +14,12 @@ use super::handle::{MessageHandle, put, take};
 use super::own::OwnMessage;
 use crate::reporting::{BAD_LIMITS, DONE, EMPTY, FAULT, FaultReport, MEMORY, Step};
 use crate::typed::{TOO_LARGE, tell_error};
+use pb_c_held::{Held, take_body};
 use pb_decode::decode_onto;
 use pb_value::DynamicMessage;
-use pb_value::parts::{empty_body, from_well_formed};
+use pb_value::parts::from_well_formed;
 use pb_wire::Limits;
 use std::alloc::Global;
-use std::mem;
 
 /// The message with the bytes decoded onto it, which is given up. Where there is none, a fault is reported, and the error is what a call
 /// answers.
@@ -119,11 +119,13 @@ fn merge_own(
     ensures refused { (f : Fault) → IsFaultOn limits bytes.now own.old f
         → ((result ≡ FAULT) × Tells f fault.new path.old path.new) ⊎ (result ≡ TOO_LARGE) ⊎ (result ≡ MEMORY) }
 {
-    let body = mem::replace(&mut own.body, empty_body(alloc));
+    let Some(body) = take_body(alloc, &own.pool, own.message_type, &mut own.held) else {
+        return MEMORY;
+    };
     let mut message = from_well_formed(alloc, &own.pool, own.message_type, body);
     let answer = merge_message(&mut message, bytes, limits, fault, path);
     let _well_formed = message.body();
-    own.body = message.into_body();
+    own.held = Held::Fields(message.into_body());
     answer
 }
 

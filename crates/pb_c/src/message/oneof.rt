@@ -8,11 +8,11 @@ use super::handle::{MessageHandle, put, take};
 use super::miss::miss_number;
 use super::own::OwnMessage;
 use crate::reporting::{ABSENT, BAD_PLACE, DONE, EMPTY, MEMORY};
+use pb_c_held::{Held, take_body};
 use pb_c_values::{PlainValue, oneof_at};
 use pb_value::DynamicMessage;
-use pb_value::parts::{empty_body, from_well_formed};
+use pb_value::parts::from_well_formed;
 use std::alloc::Global;
-use std::mem;
 
 /// Reports the member of a oneof at a place.
 fn report_member(
@@ -50,10 +50,12 @@ fn oneof_own(
     ensures answers { (result ≡ DONE) ⊎ (result ≡ ABSENT) ⊎ (result ≡ BAD_PLACE) ⊎ (result ≡ MEMORY) }
     ensures same { own.new ≡ own.old }
 {
-    let body = mem::replace(&mut own.body, empty_body(alloc));
+    let Some(body) = take_body(alloc, &own.pool, own.message_type, &mut own.held) else {
+        return MEMORY;
+    };
     let message = from_well_formed(alloc, &own.pool, own.message_type, body);
     let answer = report_member(alloc, &message, place, keys, oneof, number);
-    own.body = message.into_body();
+    own.held = Held::Fields(message.into_body());
     answer
 }
 

@@ -1,19 +1,29 @@
 //! What the handle of a message holds.
 
-ghost use Rattle.std.specs.Prelude.{◌≡◌, IfOk};
+ghost use Rattle.std.specs.Prelude.{◌≡◌, ◌<◌, length, IfOk};
+ghost use Rattle.pb_wire.specs.Inside.{records_spelled};
+ghost use Rattle.pb_value.specs.Value.{value};
+ghost use Rattle.pb_canonical.specs.Canonical.{IsCanonical};
+ghost use Rattle.pb_c.specs.Typed.{message_of};
 
+use pb_c_held::{Held, bytes_to_hold};
 use pb_schema::{MessageId, Pool};
-use pb_value::{Body, DynamicMessage};
+use pb_value::DynamicMessage;
 use std::alloc::{AllocError, Global};
 use std::marker::Model;
 use std::sync::Arc;
+
+/// How many scalars are looked for in the bytes of a message before its fields are built: about as many as take the time of that.
+const LOOKUPS: u8 = 8;
 
 /// A well-formed message, and the pool of its type, which handles share.
 #[derive(Drop)]
 pub struct OwnMessage {
     pub(super) pool: Arc<Pool>,
     pub(super) message_type: MessageId,
-    pub(super) body: Body,
+    pub(super) held: Held,
+    /// How many more scalars are looked for in bytes that are held.
+    pub(super) lookups: u8,
 }
 
 impl Model for OwnMessage {
@@ -25,13 +35,12 @@ impl Model for OwnMessage {
 
     ghost coded = { Prim.hlevel (codes, message_code) };
 
-    ghost use Rattle.pb_value.specs.View.{body_view};
-    ghost use Rattle.pb_value.specs.WellFormed.{IsWellFormed};
+    ghost use Rattle.pb_c_held.specs.Holds.{IsHeld, message_held};
     ghost use Rattle.std.specs.Prelude.{length, ◌<◌};
 
-    ghost view = { λ m. record { pool = m.pool.value; kind = m.message_type.0; body = body_view m.body } };
+    ghost view = { λ m. message_held m.pool.value m.message_type.0 m.held };
 
-    ghost invariant = { λ m. (m.message_type.0 < length m.pool.value.messages) × IsWellFormed m.pool.value m.message_type.0 (body_view m.body) };
+    ghost invariant = { λ m. (m.message_type.0 < length m.pool.value.messages) × IsHeld m.pool.value m.message_type.0 m.held };
 }
 
 /// A box of a message of this pool.
@@ -46,13 +55,50 @@ pub(super) fn boxed(
     let message_type = message.message_type();
     let _well_formed = message.body();
     let pool = Arc::try_clone(pool)?;
-    let body = message.into_body();
+    let held = Held::Fields(message.into_body());
     Ok(Box::new(
         alloc,
         OwnMessage {
             pool,
             message_type,
-            body,
+            held,
+            lookups: 0,
         },
     )?)
+}
+
+/// A box of the message of a type of this pool that canonical bytes are, of which a copy is held.
+pub(super) fn bytes_boxed(
+    alloc: Global,
+    pool: &Arc<Pool>,
+    message_type: MessageId,
+    bytes: &[u8],
+) -> Result<Box<OwnMessage, Global>, AllocError>
+    requires within { message_type.0 < length pool.now.value.messages }
+    requires canonical { IsCanonical pool.now.value message_type.0 bytes.now }
+    ensures value { IfOk result (λ b. b.value
+        ≡ message_of pool.now.value message_type.0 (value pool.now.value message_type.0 (records_spelled bytes.now))) }
+{
+    let pool = Arc::try_clone(pool)?;
+    let held = bytes_to_hold(alloc, bytes)?;
+    Ok(Box::new(
+        alloc,
+        OwnMessage {
+            pool,
+            message_type,
+            held,
+            lookups: LOOKUPS,
+        },
+    )?)
+}
+
+/// Whether one more scalar is to be looked for in the bytes of a message, if these are held.
+pub(super) fn may_look(own: &mut OwnMessage) -> bool
+    ensures same { own.new ≡ own.old }
+{
+    if own.lookups == 0 {
+        return false;
+    }
+    own.lookups -= 1;
+    true
 }

@@ -1,19 +1,21 @@
 //! The string or the bytes at a place of a message.
 
-ghost use Rattle.std.specs.Prelude.{◌≡◌, ◌≢◌, ◌↔◌, ◌⊎◌, None, Some};
-ghost use Rattle.pb_c_values.specs.Answers.{bytes_in};
+ghost use Rattle.std.specs.Prelude.{◌≡◌, ◌≢◌, ◌↔◌, ◌⊎◌, ℕ, List, None, Some, true, false};
+ghost use Rattle.pb_c_values.specs.Answers.{Answers, bytes_in};
+ghost use Rattle.pb_c_values.specs.Places.{Bytes};
 ghost use Rattle.pb_c.specs.Reporting.{IsLaid};
 ghost use Rattle.pb_c.specs.Message.Places.{IsAnswered};
 
 use super::handle::{MessageHandle, put, take};
 use super::miss::miss_number;
-use super::own::OwnMessage;
-use crate::reporting::{ABSENT, BAD_PLACE, DONE, EMPTY, MEMORY, lay_over};
+use super::own::{OwnMessage, may_look};
+use crate::reporting::{ABSENT, BAD_PLACE, DONE, EMPTY, MEMORY};
+use crate::typed::write_out;
+use pb_c_held::{Held, bytes_held, take_body};
 use pb_c_values::{PlainValue, bytes_at};
 use pb_value::DynamicMessage;
-use pb_value::parts::{empty_body, from_well_formed};
+use pb_value::parts::from_well_formed;
 use std::alloc::Global;
-use std::mem;
 
 /// Writes the string or the bytes at a place.
 fn write_bytes(
@@ -30,12 +32,34 @@ fn write_bytes(
 {
     match bytes_at(alloc, message.view(), place, keys) {
         Ok(bytes) => {
-            lay_over(bytes, out);
-            *size = bytes.len();
+            write_out(bytes, out, size);
             DONE
         }
         Err(miss) => miss_number(miss),
     }
+}
+
+/// Writes the string or the bytes at a place of a message that is owned, where they are found in the bytes that are held.
+fn write_found(
+    alloc: Global,
+    own: &mut OwnMessage,
+    place: &[PlainValue],
+    out: &mut [u8],
+    size: &mut usize,
+) -> bool
+    ensures found { result ≡ true → (b : List ℕ) × ((keys : List Bytes) → Answers bytes_in keys place.now own.old (Some b))
+        × IsLaid b out.old out.new size.new }
+    ensures unwritten { result ≡ false → (out.new ≡ out.old) × (size.new ≡ size.old) }
+    ensures same { own.new ≡ own.old }
+{
+    if !may_look(own) {
+        return false;
+    }
+    if let Some(found) = bytes_held(alloc, &own.pool, own.message_type, &own.held, place) {
+        write_out(found, out, size);
+        return true;
+    }
+    false
 }
 
 /// Writes the string or the bytes at a place of a message that is owned.
@@ -52,10 +76,15 @@ fn read_own(
     ensures answers { (result ≡ DONE) ⊎ (result ≡ ABSENT) ⊎ (result ≡ BAD_PLACE) ⊎ (result ≡ MEMORY) }
     ensures same { own.new ≡ own.old }
 {
-    let body = mem::replace(&mut own.body, empty_body(alloc));
+    if write_found(alloc, own, place, out, size) {
+        return DONE;
+    }
+    let Some(body) = take_body(alloc, &own.pool, own.message_type, &mut own.held) else {
+        return MEMORY;
+    };
     let message = from_well_formed(alloc, &own.pool, own.message_type, body);
     let answer = write_bytes(alloc, &message, place, keys, out, size);
-    own.body = message.into_body();
+    own.held = Held::Fields(message.into_body());
     answer
 }
 

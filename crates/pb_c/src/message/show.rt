@@ -9,9 +9,9 @@ use super::handle::{MessageHandle, put, take};
 use super::own::OwnMessage;
 use crate::reporting::{DONE, EMPTY, MEMORY};
 use crate::typed::show::write_listing;
-use pb_value::parts::{empty_body, from_well_formed};
+use pb_c_held::{Held, take_body};
+use pb_value::parts::from_well_formed;
 use std::alloc::Global;
-use std::mem;
 
 /// Writes the listing of the message.
 fn show_own(alloc: Global, own: &mut OwnMessage, out: &mut [u8], size: &mut usize) -> u32
@@ -20,10 +20,12 @@ fn show_own(alloc: Global, own: &mut OwnMessage, out: &mut [u8], size: &mut usiz
     ensures answers { (result ≡ DONE) ⊎ (result ≡ MEMORY) }
     ensures same { own.new ≡ own.old }
 {
-    let body = mem::replace(&mut own.body, empty_body(alloc));
+    let Some(body) = take_body(alloc, &own.pool, own.message_type, &mut own.held) else {
+        return MEMORY;
+    };
     let message = from_well_formed(alloc, &own.pool, own.message_type, body);
     let answer = write_listing(alloc, &message, out, size);
-    own.body = message.into_body();
+    own.held = Held::Fields(message.into_body());
     answer
 }
 

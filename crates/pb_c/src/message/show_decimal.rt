@@ -7,12 +7,12 @@ use super::handle::{MessageHandle, put, take};
 use super::own::OwnMessage;
 use crate::reporting::{DONE, EMPTY, MEMORY};
 use crate::typed::write_out;
+use pb_c_held::{Held, take_body};
 use pb_listing::{FloatForm, write_message_as};
 use pb_value::DynamicMessage;
-use pb_value::parts::{empty_body, from_well_formed};
+use pb_value::parts::from_well_formed;
 use pb_wire::{FailurePlan, MemOutput};
 use std::alloc::Global;
-use std::mem;
 
 /// Writes the listing of a message with floats in decimal. It is made in memory first, so nothing is written where that runs out.
 pub(crate) fn write_decimal(
@@ -42,10 +42,12 @@ fn decimal_own(alloc: Global, own: &mut OwnMessage, out: &mut [u8], size: &mut u
     ensures answers { (result ≡ DONE) ⊎ (result ≡ MEMORY) }
     ensures same { own.new ≡ own.old }
 {
-    let body = mem::replace(&mut own.body, empty_body(alloc));
+    let Some(body) = take_body(alloc, &own.pool, own.message_type, &mut own.held) else {
+        return MEMORY;
+    };
     let message = from_well_formed(alloc, &own.pool, own.message_type, body);
     let answer = write_decimal(alloc, &message, out, size);
-    own.body = message.into_body();
+    own.held = Held::Fields(message.into_body());
     answer
 }
 

@@ -10,11 +10,11 @@ use super::miss::miss_number;
 use super::own::OwnMessage;
 use crate::reporting::{ABSENT, BAD_PLACE, DONE, EMPTY, MEMORY};
 use crate::typed::write_out;
+use pb_c_held::{Held, take_body};
 use pb_c_values::{PlainValue, unknown_at};
 use pb_value::DynamicMessage;
-use pb_value::parts::{empty_body, from_well_formed};
+use pb_value::parts::from_well_formed;
 use std::alloc::Global;
-use std::mem;
 
 /// Writes the unknown records at a place.
 fn write_unknown(
@@ -52,10 +52,12 @@ fn unknown_own(
     ensures answers { (result ≡ DONE) ⊎ (result ≡ ABSENT) ⊎ (result ≡ BAD_PLACE) ⊎ (result ≡ MEMORY) }
     ensures same { own.new ≡ own.old }
 {
-    let body = mem::replace(&mut own.body, empty_body(alloc));
+    let Some(body) = take_body(alloc, &own.pool, own.message_type, &mut own.held) else {
+        return MEMORY;
+    };
     let message = from_well_formed(alloc, &own.pool, own.message_type, body);
     let answer = write_unknown(alloc, &message, place, keys, out, size);
-    own.body = message.into_body();
+    own.held = Held::Fields(message.into_body());
     answer
 }
 

@@ -25,6 +25,7 @@ pub(crate) fn is_known_canonical(
     limits: Limits,
 ) -> bool
     ensures within { result ≡ true → number < length pool.now.messages }
+    ensures canonical { result ≡ true → IsCanonical pool.now number bytes.now }
     ensures value { result ≡ true → (v : Message) × Text pool.now number limits bytes.now v }
     ensures only { result ≡ true → (v : Message) → Text pool.now number limits bytes.now v
         → (bytes.now ≡ canon_bytes pool.now number v) × (length (canon_bytes pool.now number v) < 2 ^ 31) }

@@ -6,7 +6,7 @@ use Rattle.pb_c.proofs.message.change.change_own.Goals as goal
 
 pub returns-clause-changed : goal.returns-clause-changed
 returns-clause-changed c =
-    let made = c.from_well_formed-message.ensures in let seen = c.own.view_is in let pool = c.deref.ensures in let body = c.replace-body.ensures.value in
+    let made = c.from_well_formed-message.ensures in let seen = c.own.view_is in let pool = c.deref-2.ensures in let body = c.in-Some.ensures.body in
     let same : c.from_well_formed-message.result ≡ c.args.own.now = cc in
     let kept = c.change_message-answer.ensures.same_type in let kept_pool = kept.0 in let kept_kind = kept.1 in
     let made_pool = ap (λ d. d.pool) made in let made_kind = ap (λ d. d.kind) made in

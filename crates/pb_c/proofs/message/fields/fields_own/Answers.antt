@@ -4,6 +4,6 @@ use Rattle.pb_c.proofs.message.fields.fields_own.Goals as goal
 
 pub returns-clause-answered : goal.returns-clause-answered
 returns-clause-answered c =
-    let made = c.from_well_formed-message.ensures in let seen = c.own.view_is in let pool = c.deref.ensures in let body = c.replace-body.ensures.value in
+    let made = c.from_well_formed-message.ensures in let seen = c.own.view_is in let pool = c.deref-2.ensures in let body = c.in-Some.ensures.body in
     let same : c.from_well_formed-message.result ≡ c.args.own.now = cc in
     rw same at c.write_fields-answer.ensures.answered

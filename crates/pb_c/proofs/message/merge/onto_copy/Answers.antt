@@ -1,5 +1,5 @@
 -- What the bytes make of the message is what was decoded onto it, and their fault is the one that is reported, or memory ran out.
-use Rattle.std.proofs.Common.{◌≡◌, inl, inr, refl}
+use Rattle.std.proofs.Common.{◌≡◌, refl}
 use Rattle.pb_c.specs.Reporting.{Tells}
 use Rattle.pb_c.proofs.Making.{the_message}
 use Rattle.pb_c.proofs.Refusals.{of_bytes, the_fault_of}

@@ -1,5 +1,5 @@
 -- What is reported is what was found.
-use Rattle.std.proofs.Common.{length, refl}
+use Rattle.std.proofs.Common.{refl}
 use Rattle.pb_c_values.specs.Answers.{bytes_in}
 use Rattle.pb_c.specs.Reporting.{IsLaid}
 use Rattle.pb_c.proofs.PlaceAnswers.{done, missed}
@@ -7,8 +7,8 @@ use Rattle.pb_c.proofs.message.read.write_bytes.Goals as goal
 
 pub returns-in-Ok-clause-answered : goal.returns-in-Ok-clause-answered
 returns-in-Ok-clause-answered c =
-    done bytes_in c.args.keys.now c.args.place.now c.args.message.now 0 (λ b. IsLaid b c.args.out.now c.lay_over.new.room (length c.in-Ok.bytes.now)) c.in-Ok.bytes.now (rw c.view.ensures at c.in-Ok.ensures)
-    (record { laid = c.lay_over.ensures; whole = refl }) refl
+    done bytes_in c.args.keys.now c.args.place.now c.args.message.now 0 (λ b. IsLaid b c.args.out.now c.write_out.new.out c.write_out.new.size) c.in-Ok.bytes.now (rw c.view.ensures at c.in-Ok.ensures)
+    c.write_out.ensures refl
 
 pub returns-in-Err-clause-answered : goal.returns-in-Err-clause-answered
 returns-in-Err-clause-answered c =

@@ -1,7 +1,5 @@
 -- What went out whole is what was listed.
-use Rattle.std.proofs.Common.{◌≡◌, List, ℕ, subst, sym}
-use Rattle.pb_listing.specs.ListingAs.{IsListing}
-use Rattle.pb_listing.specs.declared.form.FloatForm.TheVariants.{Decimal}
+use Rattle.std.proofs.Common.{◌≡◌, List, ℕ, subst}
 use Rattle.pb_c.specs.Reporting.{IsLaid}
 use Rattle.pb_c.proofs.message.show_decimal.write_decimal.Goals as goal
 

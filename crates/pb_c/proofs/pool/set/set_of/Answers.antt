@@ -1,5 +1,5 @@
 -- The set that is written is that of the pool's declarations, which link to its types.
-use Rattle.std.proofs.Common.{◌≡◌, ◌≤◌, ◌<◌, ◌^◌, List, ap, length, map, subst, ◌∙◌}
+use Rattle.std.proofs.Common.{◌≤◌, ◌<◌, ◌^◌, List, ap, length, map, subst, ◌∙◌}
 use Rattle.pb_value.specs.Data.{message_depth}
 use Rattle.pb_decl.specs.Decls.{DeclaredFile}
 use Rattle.pb_decl.specs.View.{file_view}

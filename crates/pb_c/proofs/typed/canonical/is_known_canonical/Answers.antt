@@ -8,6 +8,10 @@ use Rattle.pb_canonical.specs.Canonical.{IsCanonical}
 use Rattle.pb_c.proofs.Copied.{canonical_of, text_faultless}
 use Rattle.pb_c.proofs.typed.canonical.is_known_canonical.Goals as goal
 
+pub returns-clause-canonical : goal.returns-clause-canonical
+returns-clause-canonical c = λ yes.
+    subst (λ (m : ℕ). IsCanonical c.args.pool.now m c.args.bytes.now) c.in-Some.ensures.found.0 (c.is_canonical.ensures.0 c.if-not-is_canonical.false)
+
 pub returns-clause-value : goal.returns-clause-value
 returns-clause-value c = λ yes.
     subst (λ (m : ℕ). (v : Message) × Text c.args.pool.now m c.args.limits c.args.bytes.now v) c.in-Some.ensures.found.0 (c.is_within.ensures.text yes)

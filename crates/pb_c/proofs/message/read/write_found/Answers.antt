@@ -1,0 +1,10 @@
+-- The message in whose bytes was looked is the one that is held.
+use Rattle.std.proofs.Common.{◌≡◌}
+use Rattle.pb_c_held.specs.Holds.{message_held}
+use Rattle.pb_c.proofs.message.read.write_found.Goals as goal
+
+pub returns-in-Some-clause-found : goal.returns-in-Some-clause-found
+returns-in-Some-clause-found c = λ yes.
+    let seen = c.own.view_is in let pool = c.deref.ensures in let looked = c.may_look.ensures.same in
+    let same : message_held c.deref.result.now c.own.inside.message_type.0 c.own.inside.held ≡ c.args.own.now = cc in
+    (c.in-Some.found.now, rw same at c.in-Some.ensures, c.write_out.ensures)
