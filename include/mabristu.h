@@ -135,7 +135,8 @@ uint32_t mb_pool_compile(const struct mb_bytes *names, size_t names_len, const s
                          struct mb_refusal *refusal, uint8_t *text, size_t text_len);
 
 /* As mb_pool_compile, of sources of all of proto3, and of proto2: what declares no message, enum or service is read and left out, as parts
- * of an option's name in parentheses, constants in braces, default values, blocks of extend and ranges of extensions. */
+ * of an option's name in parentheses, constants in braces, default values, blocks of extend and ranges of extensions. A map in a file of
+ * proto2 whose values are of an enum is the list of its entries. */
 uint32_t mb_pool_compile_lenient(const struct mb_bytes *names, size_t names_len, const struct mb_bytes *texts, size_t texts_len, struct mb_pool *pool,
                                  struct mb_refusal *refusal, uint8_t *text, size_t text_len);
 

@@ -154,7 +154,7 @@ PyDoc_STRVAR(of_sources_doc,
 "of_sources(sources, *, lenient=False)\n--\n\nLinks sources of proto3: a mapping from their names, as imports name them, to their texts (str or bytes). What they\n"
 "import has to be among them, google/protobuf/timestamp.proto too. With lenient=True sources of proto2 are taken too, and what declares no message,\n"
 "enum or service is read and left out, as parts of an option's name in parentheses, constants in braces, default values,\n"
-"blocks of extend and ranges of extensions.");
+"blocks of extend and ranges of extensions; a map in a file of proto2 whose values are of an enum is the list of its entries.");
 
 static PyObject *pool_of_sources(PyObject *type, PyObject *args, PyObject *kwargs)
 {

@@ -417,6 +417,14 @@ class Whole(Shop):
         self.assertEqual(Pool.of_sources(source, lenient=True)["M"].field("a").number, 1)
         self.assertEqual(self.refused(Pool.of_sources, {"m.proto": 'syntax = "proto3"; message M {'}, lenient=True).cause, "Unexpected")
 
+    def test_lenient_maps_of_enums(self):
+        # A list of entries, of which two have one key; in a file of proto3 it would be a map.
+        text = "enum E { A = 0; B = 5; } message M { map<int32, E> m = 1; }"
+        listing = lambda text: Pool.of_sources({"m.proto": text}, lenient=True)["M"].decode(bytes.fromhex("0a04080110050a0408011000")).listing()
+        self.assertEqual(listing(text), "m {\n  key: 1\n  value: B\n}\nm {\n  key: 1\n  value: A\n}\n")
+        self.assertEqual(listing('syntax = "proto3"; ' + text), "m[1]: A\n")
+        self.assertEqual(self.refused(Pool.of_sources, {"m.proto": text}).cause, "NotProto3")
+
     def test_versions(self):
         of = lambda fields: Pool.of_sources({"m.proto": f'syntax = "proto3"; message M {{ {fields} }} message N {{ bytes a = 1; }}'})["M"]
         old = of("int64 a = 1; int32 b = 2; string c = 3; M m = 4; int32 e = 5; N n = 6; int32 g = 7;")

@@ -67,7 +67,8 @@ impl Pool {
     }
 
     /// As [`Pool::of_sources`], of sources of all of proto2 and proto3: what declares no message, enum or service is read and left out, as
-    /// parts of an option's name in parentheses, constants in braces, default values, blocks of `extend` and ranges of extensions.
+    /// parts of an option's name in parentheses, constants in braces, default values, blocks of `extend` and ranges of extensions. A map in
+    /// a file of proto2 whose values are of an enum is the list of its entries.
     pub fn of_sources_lenient<N: AsRef<str>, T: AsRef<[u8]>>(sources: impl IntoIterator<Item = (N, T)>) -> Result<Pool, Error> {
         Pool::compile(calls::mb_pool_compile_lenient, sources)
     }

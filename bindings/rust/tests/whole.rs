@@ -88,6 +88,16 @@ fn lenient_sources() -> Result<(), Error> {
     Ok(())
 }
 
+// A map in a file of proto2 whose values are of an enum is the list of its entries, of which two have one key.
+#[test]
+fn lenient_maps_of_enums() -> Result<(), Error> {
+    let source = "enum E { A = 0; B = 5; } message M { map<int32, E> m = 1; }";
+    let message_type = Pool::of_sources_lenient([("m.proto", source)])?.message_type("M")?;
+    let message = message_type.decode(&[10, 4, 8, 1, 16, 5, 10, 4, 8, 1, 16, 0])?;
+    assert_eq!(message.listing()?, "m {\n  key: 1\n  value: B\n}\nm {\n  key: 1\n  value: A\n}\n");
+    Ok(())
+}
+
 #[test]
 fn two_versions() -> Result<(), Error> {
     let pool = |fields: &str| Pool::of_sources([("m.proto", format!("syntax = \"proto3\"; message M {{ {fields} }}"))]);

@@ -13,7 +13,7 @@ use Rattle.pb_rules.specs.declared.error.LinkError.{LinkError}
 use Rattle.pb_rules.specs.declared.error.LinkError.TheVariants as link
 use Rattle.pb_names.proofs.BehindLemmas.{all_append}
 use Rattle.pb_files.specs.Answer.{Answer, refused}
-use Rattle.pb_command.specs.CompileAnswer.{CompileAnswer, unlinked, too_large}
+use Rattle.pb_command.specs.CompileAnswer.{CompileAnswer, IsLinkedAs, unlinked, too_large}
 use Rattle.pb_files.specs.FileMap.{FileMap, IsSaved, IsUnsaved, KeepsMap}
 use Rattle.pb_command.specs.Gathering.{Gathered, GathersUnder, Places, Origin, Outcome, gathered, given, nothing_yet, none_left, known, left_out, read, refused_inside, refused_here}
 use Rattle.pb_files.specs.Refusal.{IsToldOfLink, Refuses}
@@ -41,23 +41,24 @@ module _ (IsAt : List ℕ → Option (List ℕ) → Type 0) (Fails : List ℕ �
   each_has_source whole (refused_inside k t declares first) e all = absurd (cc)
   each_has_source whole (refused_here k t why) e all = absurd (cc)
 
-  module _ (out : List ℕ) (names : List (List ℕ)) (g : Gathered) (gathers : GathersUnder IsAt Fails p given names nothing_yet (gathered g)) where
+  module _ (out : List ℕ) (names : List (List ℕ)) (g : Gathered) (gathers : GathersUnder IsAt Fails p given names nothing_yet (gathered g))
+      (linked : List DeclaredFile) (as_read : IsLinkedAs p.reading g.files linked) where
     -- a set of them that is resolved nests no deeper than its bytes may
-    pub set_within : (files : List DeclaredFile) → Resolves g.files files → message_depth (set_body files) ≤ 100
-    set_within files resolves = set_fits g.files files (each_has_source g gathers refl tt) resolves
+    pub set_within : (files : List DeclaredFile) → Resolves linked files → message_depth (set_body files) ≤ 100
+    set_within files resolves = set_fits p.reading g.files linked files (each_has_source g gathers refl tt) as_read resolves
 
     -- they don't link
-    pub told_unlinked : (e : LinkError) (f : Refusal) → IsToldOfLink e f → IsUnlinked g.files e → Refuses (CompileAnswer IsAt Fails p out names) f
-    told_unlinked (link.Fault file full_name cause) f told h = rw told (unlinked gathers h refl)
+    pub told_unlinked : (e : LinkError) (f : Refusal) → IsToldOfLink e f → IsUnlinked linked e → Refuses (CompileAnswer IsAt Fails p out names) f
+    told_unlinked (link.Fault file full_name cause) f told h = rw told (unlinked gathers as_read h refl)
     told_unlinked link.Memory f told h = rw told tt
 
     -- the bytes of their set are too many
     pub told_too_large :
-        (files : List DeclaredFile) (f : Refusal) → Resolves g.files files
+        (files : List DeclaredFile) (f : Refusal) → Resolves linked files
         → Refuses (λ a. (2 ^ 31 ≤ length (set_bytes files)) × (a ≡ refused too_large_line)) f → Refuses (CompileAnswer IsAt Fails p out names) f
     told_too_large files f resolves h =
         refuses_map (λ a. (2 ^ 31 ≤ length (set_bytes files)) × (a ≡ refused too_large_line)) (CompileAnswer IsAt Fails p out names) f
-        (λ a large. too_large gathers resolves large.0 large.1) h
+        (λ a large. too_large gathers as_read resolves large.0 large.1) h
 
 -- what was opened before a file is written leaves the files as they were
 pub comes_later :

@@ -1,5 +1,5 @@
 -- The set of sources that link nests at most 100 levels deep.
-use Rattle.std.proofs.Common.{ℕ, ◌≤◌, List, [], ◌∷◌, arith}
+use Rattle.std.proofs.Common.{ℕ, ◌≤◌, List, [], ◌∷◌, arith, subst, sym}
 use Rattle.std.specs.List.{AllByRecursion}
 use Rattle.pb_value.specs.Data.{message_depth}
 use Rattle.pb_decl.specs.Decls.{DeclaredFile}
@@ -7,10 +7,12 @@ use Rattle.pb_descr.specs.Writing.{set_body}
 use Rattle.pb_decl.specs.Nests.{all_nest}
 use Rattle.pb_descr.proofs.NestLemmas.{set_levels}
 use Rattle.pb_link.specs.Resolved.{Resolves}
+use Rattle.pb_link.proofs.EnumMapLemmas.{lists_within}
 use Rattle.pb_link.proofs.ResolvedNestLemmas.{resolved_within}
 use Rattle.pb_source.proofs.NestLemmas.{source_nests_in}
 use Rattle.pb_files.specs.declared.set_file.Reading.{Reading}
 use Rattle.pb_files.specs.declared.set_file.Reading.TheVariants.{Strict, Lenient}
+use Rattle.pb_command.specs.CompileAnswer.{IsLinkedAs}
 use Rattle.pb_command.specs.Gathering.{IsSourceBy}
 
 -- some bytes are a source of the file
@@ -25,5 +27,15 @@ each_nests : (fs : List DeclaredFile) → AllByRecursion HasSource fs → AllByR
 each_nests [] h = tt
 each_nests (f ∷ fs) h = (how_deep h.0.0 h.0.1 h.0.2 f h.0.3, each_nests fs h.1)
 
-pub set_fits : (files answer : List DeclaredFile) → AllByRecursion HasSource files → Resolves files answer → message_depth (set_body answer) ≤ 100
-set_fits files answer h r = let levels = set_levels answer 65 (resolved_within files answer 65 r (each_nests files h)) in omega arith
+-- so do the files that are linked
+linked_nest :
+    (reading : Reading) (files linked : List DeclaredFile) → IsLinkedAs reading files linked
+    → AllByRecursion (λ f. all_nest f.messages ≤ 65) files → AllByRecursion (λ f. all_nest f.messages ≤ 65) linked
+linked_nest Strict files linked same h = subst (λ fs. AllByRecursion (λ f. all_nest f.messages ≤ 65) fs) (sym same) h
+linked_nest Lenient files linked lists h = lists_within files linked 65 lists h
+
+pub set_fits :
+    (reading : Reading) (files linked answer : List DeclaredFile) → AllByRecursion HasSource files → IsLinkedAs reading files linked
+    → Resolves linked answer → message_depth (set_body answer) ≤ 100
+set_fits reading files linked answer h l r =
+    let levels = set_levels answer 65 (resolved_within linked answer 65 r (linked_nest reading files linked l (each_nests files h))) in omega arith

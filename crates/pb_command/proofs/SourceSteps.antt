@@ -264,9 +264,9 @@ module _
 
   pub compile_map : (out : List ℕ) (names : List (List ℕ)) (a : Answer) → CompileAnswer IsAt Fails p out names a → CompileAnswer At Fail p out names a
   compile_map out names a (untaken g e) = untaken (gathers_known g) e
-  compile_map out names a (unlinked g l e) = unlinked (gathers_known g) l e
-  compile_map out names a (set_too_large g r long e) = set_too_large (gathers_known g) r long e
-  compile_map out names a (compiled g r small e) = compiled (gathers_known g) r small e
+  compile_map out names a (unlinked g as_read l e) = unlinked (gathers_known g) as_read l e
+  compile_map out names a (set_too_large g as_read r long e) = set_too_large (gathers_known g) as_read r long e
+  compile_map out names a (compiled g as_read r small e) = compiled (gathers_known g) as_read r small e
 
 module _
     {F : Type 0} (contents : F → Option FileMap) (is_steady : F → Bool) (files : F) (p : Places) (out : List ℕ) (names : List (List ℕ))

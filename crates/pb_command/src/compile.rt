@@ -6,7 +6,7 @@ ghost use Rattle.pb_decl.specs.View.{file_view};
 ghost use Rattle.pb_descr.specs.Writing.{set_body};
 ghost use Rattle.pb_value.specs.Data.{message_depth};
 ghost use Rattle.pb_files.specs.Answer.{refused};
-ghost use Rattle.pb_command.specs.CompileAnswer.{places_of, texts_of};
+ghost use Rattle.pb_command.specs.CompileAnswer.{IsLinkedAs, places_of, texts_of};
 ghost use Rattle.pb_files.specs.FileMap.{IsSaved, IsUnsaved};
 ghost use Rattle.pb_files.specs.Refusal.{KeepsFailures, Refuses};
 ghost use Rattle.pb_files.specs.Report.{too_large_line};
@@ -15,11 +15,12 @@ ghost use Rattle.pb_command.specs.Steps.{Comes, CompileOf, IsNothing};
 use crate::command::Roots;
 use crate::gathering::gather;
 use pb_descr::{FileDecl, WriteSetError, write_set};
-use pb_files::{Files, Refusal};
-use pb_link::resolve;
-use std::alloc::Global;
+use pb_files::{Files, Reading, Refusal};
+use pb_link::{resolve, without_enum_maps};
+use std::alloc::{AllocError, Global};
 
-/// Writes the descriptor set of sources and their imports to a file: whole, or nothing where they are refused.
+/// Writes the descriptor set of sources and their imports to a file: whole, or nothing where they are refused. That of sources which are
+/// read leniently is as lenient reading takes a set of them: maps of enums in files of proto2 are lists of their entries.
 pub fn compile<'a, F: Files>(
     alloc: Global,
     roots: Roots<'_>,
@@ -34,11 +35,26 @@ pub fn compile<'a, F: Files>(
     ensures unfailing { F.is_steady files.old ≡ true → F.takes_writes files.old ≡ true → F.failures files.new ≡ F.failures files.old }
 {
     let gathered = gather(alloc, roots, names, files)?;
-    let resolved = resolve(alloc, &gathered)?;
+    let linked = files_to_link(alloc, roots.reading, gathered)?;
+    let resolved = resolve(alloc, &linked)?;
     let bytes = bytes_of(alloc, &resolved)?;
     match files.write_whole(out, &bytes) {
         Ok(()) => Ok(()),
         Err(_) => Err(Refusal::Device(out)),
+    }
+}
+
+/// The files that are linked, of those that were read this way.
+fn files_to_link(
+    alloc: Global,
+    reading: Reading,
+    gathered: Vec<FileDecl>,
+) -> Result<Vec<FileDecl>, AllocError>
+    ensures { IfOk result (λ v. IsLinkedAs reading (map file_view gathered.items) (map file_view v.items)) }
+{
+    match reading {
+        Reading::Strict => Ok(gathered),
+        Reading::Lenient => without_enum_maps(alloc, &gathered),
     }
 }
 

@@ -1,4 +1,4 @@
-//! A pool of sources, by the strict grammar or by that of all of proto3.
+//! A pool of sources, by the strict grammar of proto3 or by the lenient one.
 
 ghost use Rattle.std.specs.Prelude.{◌≡◌, ◌≢◌, ◌↔◌, ◌⊎◌, ℕ, List, IsUtf8, IfOk, IfErr, map};
 ghost use Rattle.std.specs.Bool.{Decides};
@@ -9,16 +9,17 @@ ghost use Rattle.pb_source.specs.Source.{HasFaultIn, IsSourceIn};
 ghost use Rattle.pb_source.specs.declared.reading.Reading.TheVariants.{Lenient, Strict};
 ghost use Rattle.pb_c.specs.Held.{types_held};
 ghost use Rattle.pb_c.specs.PoolFault.{PoolFault, TellsRefusal};
-ghost use Rattle.pb_c.specs.SourcePool.{AreNames, AreNamed, AreSources, IsUnparsed, SourceFails, SourcesFail, SourcesMake};
+ghost use Rattle.pb_c.specs.SourcePool.{AreNames, AreNamed, AreRead, AreSources, IsLinkedAs, IsUnparsed, SourceFails, SourcesFail, SourcesMake};
 
 use super::linking::link_files;
 use super::refusal::Refusal;
 use crate::handle::{PoolHandle, take};
 use crate::reporting::{BAD_NAME, DONE, MEMORY};
 use pb_decl::FileDecl;
+use pb_link::without_enum_maps;
 use pb_source::reading::Reading;
 use pb_source::{SourceCause, SourceFault, parse, parse_lenient};
-use std::alloc::{AllocFailed, Global};
+use std::alloc::{AllocError, AllocFailed, Global};
 
 /// Why sources are not parsed: the first that is none, by its index, where, and why.
 #[derive(Debug, Drop)]
@@ -115,6 +116,38 @@ fn parse_all(
     Ok(files)
 }
 
+/// The files that are linked, of those that were parsed by a grammar.
+fn files_to_link(
+    alloc: Global,
+    grammar: Reading,
+    parsed: Vec<FileDecl>,
+) -> Result<Vec<FileDecl>, AllocError>
+    ensures { IfOk result (λ v. IsLinkedAs grammar (map file_view parsed.items) (map file_view v.items)) }
+{
+    match grammar {
+        Reading::Strict => Ok(parsed),
+        Reading::Lenient => without_enum_maps(alloc, &parsed),
+    }
+}
+
+/// The files that are linked, of sources.
+fn read_all(
+    alloc: Global,
+    grammar: Reading,
+    names: &[&[u8]],
+    texts: &[&[u8]],
+) -> Result<Vec<FileDecl>, Unparsed>
+    requires { AreNamed names.now texts.now }
+    ensures read { IfOk result (λ v. AreRead grammar names.now texts.now (map file_view v.items)) }
+    ensures refused { IfErr result (IsUnparsed (SourceFails grammar names.now texts.now)) }
+{
+    let parsed = parse_all(alloc, grammar, names, texts)?;
+    match files_to_link(alloc, grammar, parsed) {
+        Ok(files) => Ok(files),
+        Err(_) => Err(Unparsed::Memory),
+    }
+}
+
 /// Reports why sources are not parsed, and answers by its number.
 fn tell_source(error: &Unparsed, refusal: &mut Refusal) -> u32
     ensures told { IsUnparsed (λ i byte c. (text : List ℕ) → TellsRefusal (PoolFault.in_source i byte c) result refusal.old refusal.new text text) error.now }
@@ -155,7 +188,7 @@ fn compile_sources(
     if names.len() != texts.len() || !are_names(names) {
         return BAD_NAME;
     }
-    match parse_all(alloc, grammar, names, texts) {
+    match read_all(alloc, grammar, names, texts) {
         Ok(files) => link_files(alloc, &files, pool, refusal, text),
         Err(error) => tell_source(&error, refusal),
     }
@@ -192,9 +225,10 @@ pub extern "C" fn mb_pool_compile(
     compile_sources(alloc, Reading::Strict, names, texts, pool, refusal, text)
 }
 
-/// Links the types of sources into a handle, as `mb_pool_compile` does, by the grammar of all of proto3: what declares no message, enum or
-/// service is read and left out, as parts of an option's name in parentheses, constants in braces, blocks of `extend` and ranges of
-/// extensions (Protocol Buffers Language Specification, Proto3).
+/// Links the types of sources into a handle, as `mb_pool_compile` does, by the lenient grammars of proto3 and proto2: what declares no
+/// message, enum or service is read and left out, as parts of an option's name in parentheses, constants in braces, default values, blocks
+/// of `extend` and ranges of extensions (Protocol Buffers Language Specification, Proto3 and Proto2). A map in a file of proto2 whose values
+/// are of an enum is the list of its entries.
 ///
 /// Answers as `mb_pool_compile` does.
 #[unsafe(no_mangle)]

@@ -262,6 +262,16 @@ const ELSEWHERE: &[Elsewhere] = &[
     ),
 ];
 
+/// A file of proto2 with a closed enum.
+const CLOSED: &str = "package b; enum E { X = 0; Y = -1; } message N { map<string, E> m = 1; }";
+
+/// A source of proto2 with maps of that enum.
+const MAPS: &str =
+    "package a; import \"b.proto\"; message M { map<int32, b.E> m = 1; optional group G = 2 { map<bool, b.E> g = 1; } required int32 r = 3 [default = 5]; }";
+
+const LISTED: &str =
+    "0a710a07622e70726f746f12016222470a014e12160a016d18012003280b320b2e622e4e2e4d456e7472791a2a0a064d456e747279120b0a036b657918012001280912130a0576616c756518022001280e32042e622e452a1a0a014512050a01581000120e0a015910ffffffffffffffffff010ac8010a07612e70726f746f1201611a07622e70726f746f22b0010a014d12160a016d18012003280b320b2e612e4d2e4d456e74727912110a016718022001280a32062e612e4d2e4712090a01721803200128051a2a0a064d456e747279120b0a036b657918012001280512130a0576616c756518022001280e32042e622e451a490a014712180a016718012003280b320d2e612e4d2e472e47456e7472791a2a0a0647456e747279120b0a036b657918012001280812130a0576616c756518022001280e32042e622e45";
+
 /// Sources that are read leniently, beside what `compile` tells of them without the flag.
 const LENIENT: &[(&str, Row)] = &[
     (
@@ -309,6 +319,60 @@ const LENIENT: &[(&str, Row)] = &[
             )],
             &["m.proto"],
             Told::Refused(1, "link m.proto at M.a cause BadNumber\n"),
+        ),
+    ),
+    // Maps of enums in files of proto2 are lists of their entries, in a group too. What is written is protoc's set, encoded again without what
+    // a set of pbtool does not hold and without the marks of these maps.
+    (
+        "source a.proto byte 0 cause NotProto3\n",
+        Row(
+            &[("ROOT/a.proto", MAPS), ("ROOT/b.proto", CLOSED)],
+            &["a.proto"],
+            Told::Written(LISTED),
+        ),
+    ),
+    // An import has such a map, and a file of proto3 maps of its own.
+    (
+        "source b.proto byte 0 cause NotProto3\n",
+        Row(
+            &[
+                (
+                    "ROOT/c.proto",
+                    "syntax = \"proto3\"; import \"b.proto\"; message O { b.N n = 1; map<string, b.N> m = 2; enum F { Z = 0; } map<string, F> f = 3; }",
+                ),
+                ("ROOT/b.proto", CLOSED),
+            ],
+            &["c.proto"],
+            Told::Written(
+                "0a710a07622e70726f746f12016222470a014e12160a016d18012003280b320b2e622e4e2e4d456e7472791a2a0a064d456e747279120b0a036b657918012001280912130a0576616c756518022001280e32042e622e452a1a0a014512050a01581000120e0a015910ffffffffffffffffff010ac9010a07632e70726f746f1a07622e70726f746f22ac010a014f120f0a016e18012001280b32042e622e4e12140a016d18022003280b32092e4f2e4d456e74727912140a016618032003280b32092e4f2e46456e7472791a2e0a064d456e747279120b0a036b657918012001280912130a0576616c756518022001280b32042e622e4e3a0238011a2e0a0646456e747279120b0a036b657918012001280912130a0576616c756518022001280e32042e4f2e463a023801220a0a014612050a015a1000620670726f746f33",
+            ),
+        ),
+    ),
+    // In a file of proto3 no map may have values of a closed enum.
+    (
+        "source b.proto byte 0 cause NotProto3\n",
+        Row(
+            &[
+                (
+                    "ROOT/c.proto",
+                    "syntax = \"proto3\"; import \"b.proto\"; message O { map<int32, b.E> m = 1; }",
+                ),
+                ("ROOT/b.proto", CLOSED),
+            ],
+            &["c.proto"],
+            Told::Refused(1, "link c.proto at O.MEntry.value cause ClosedEnum\n"),
+        ),
+    ),
+    // Values of no type stay values of a map.
+    (
+        "source m.proto byte 9 cause NotProto3\n",
+        Row(
+            &[(
+                "ROOT/m.proto",
+                "syntax = \"proto2\"; message M { map<string, E> m = 1; }",
+            )],
+            &["m.proto"],
+            Told::Refused(1, "link m.proto at M.MEntry.value cause NotFound\n"),
         ),
     ),
 ];
@@ -474,5 +538,29 @@ fn compiled_set(rt: HostRuntime) -> Result<(), Fail> {
     let written = compiled(alloc, &[], &[], &["t.proto"], &mut files)?;
     let shown = run_words(alloc, &["show", "OUT", "T", "f"], &mut files, NONE)?;
     assert!(rt; written.is(0, b"", b"") && shown.is(0, LISTING, b""));
+    Ok(())
+}
+
+/// What protoc encodes: m { key: 1 value: Y } m { key: 1 value: X } g { g { key: true value: Y } } r: 7
+const ENTRIES: &str =
+    "0a0d080110ffffffffffffffffff010a0408011000130a0d080110ffffffffffffffffff01141807";
+
+const ENTRIES_SHOWN: &[u8] =
+    b"m {\n  key: 1\n  value: Y\n}\nm {\n  key: 1\n  value: X\n}\ng {\n  g {\n    key: true\n    value: Y\n  }\n}\nr: 7\n";
+
+// Each entry of such a list is kept, two of one key too.
+#[test]
+fn compiled_lists(rt: HostRuntime) -> Result<(), Fail> {
+    let alloc = rt.alloc();
+    let message = hex::decode(alloc, ENTRIES)?;
+    let entries = [
+        ("ROOT/a.proto", MAPS.as_bytes()),
+        ("ROOT/b.proto", CLOSED.as_bytes()),
+        ("f", message.as_slice()),
+    ];
+    let mut files = files_of(alloc, &entries, NONE)?;
+    let written = compiled(alloc, &["--lenient"], &[], &["a.proto"], &mut files)?;
+    let shown = run_words(alloc, &["show", "OUT", "a.M", "f"], &mut files, NONE)?;
+    assert!(rt; written.is(0, b"", b"") && shown.is(0, ENTRIES_SHOWN, b""));
     Ok(())
 }
