@@ -31,7 +31,7 @@ extern "C" {
 #endif
 
 /* What this header says. A library that answers another number has other calls. */
-#define MB_INTERFACE 5
+#define MB_INTERFACE 6
 uint32_t mb_interface(void);
 
 /* What a call answers. Numbers from 50 on are the causes why a set, a source or declarations are refused, as docs/ERRORS.md lists them. */
@@ -370,6 +370,20 @@ enum { MB_JSON_NO_KIND = 91, MB_JSON_NOT_FINITE = 92, MB_JSON_OUT_OF_RANGE = 93,
  * as many as the buffer holds, and how many there are. */
 uint32_t mb_message_json(struct mb_message *message, bool declared_names, bool indented, uint8_t *out, size_t out_len, size_t *size,
                          uint32_t *path, size_t path_len, size_t *steps);
+
+/* Why a JSON text is not read as a message: at a byte no JSON text goes on so, or the bytes only begin one; they are not UTF-8; the text, or the message,
+ * nests too deep; a member has a name that no field has; a second one names the same field or key, or sets a field of the same oneof; a name is no key of
+ * the map; a value is none of the field. */
+enum {
+    MB_JSON_UNEXPECTED_BYTE = 101, MB_JSON_UNEXPECTED_END = 102, MB_JSON_BAD_UTF8 = 103, MB_JSON_TOO_DEEP = 104, MB_JSON_UNKNOWN_NAME = 105,
+    MB_JSON_REPEATED_NAME = 106, MB_JSON_SECOND_MEMBER = 107, MB_JSON_BAD_KEY = 108, MB_JSON_BAD_VALUE = 109
+};
+
+/* Reads a message from JSON (ProtoJSON), in place of what its handle held. It holds the types too, so the pool may be freed before. `lenient` passes
+ * over members that no field has, and over strings that an enum does not declare. For MB_JSON_UNEXPECTED_BYTE and the numbers after it, the byte is
+ * reported where what is refused begins, counted from 0; the message is changed for MB_DONE alone. */
+uint32_t mb_message_from_json(struct mb_pool *pool, uint32_t type, const uint8_t *json, size_t json_len, bool lenient, struct mb_message *message,
+                              size_t *byte);
 
 /* Reports what the message has at a place: a scalar, or the kind and the size of what else is there. A place is a list of steps from the message, which
  * is itself at the place of no steps. MB_ABSENT: a field is not set, a list is shorter, a map has no such key, or a step does not fit. A list or map

@@ -131,6 +131,15 @@ static uint32_t message_json(struct outputs *outputs)
     size_t steps;
     return mb_message_json(&held, false, true, OUT, fields, MB_MAX_STEPS, &steps);
 }
+static const char json_text[] = "{\"placedOn\":\"x\",\"lines\":[{\"pieces\":1}],\"discounts\":{\"a\":1}}";
+static uint32_t message_from_json(struct outputs *outputs)
+{
+    return mb_message_from_json(&pool, type, (const uint8_t *)json_text, sizeof json_text - 1, false, &made, &outputs->size);
+}
+static uint32_t message_from_json_cut(struct outputs *outputs)
+{
+    return mb_message_from_json(&pool, type, (const uint8_t *)json_text, sizeof json_text - 2, false, &made, &outputs->size);
+}
 /* The discount of spring, in the message in examples/. */
 static const struct mb_value entry[] = {{MB_FIELD, 4}, {MB_STRING, 0}}, article[] = {{MB_FIELD, 3}, {MB_INDEX, 1}, {MB_FIELD, 1}};
 static const struct mb_bytes spring = {(const uint8_t *)"spring", 6};
@@ -230,6 +239,7 @@ static const struct { const char *name; uint32_t (*call)(struct outputs *outputs
     {"mb_pool_compile_lenient", compile_lenient, MB_DONE}, {"mb_pool_compile_lenient of a cut source", compile_lenient_cut, 65},
     {"mb_cause_name", cause_name, MB_DONE}, {"mb_cause_name of no cause", no_cause_name, MB_ABSENT},
     {"mb_message_json", message_json, MB_DONE},
+    {"mb_message_from_json", message_from_json, MB_DONE}, {"mb_message_from_json of a cut text", message_from_json_cut, MB_JSON_UNEXPECTED_END},
     {"mb_message_get", message_get, MB_DONE}, {"mb_message_get of no place", message_get_bad, MB_BAD_PLACE},
     {"mb_message_read", message_read, MB_DONE}, {"mb_message_fields", message_fields, MB_DONE},
     {"mb_message_key", message_key, MB_DONE}, {"mb_message_key of no key", message_no_key, MB_ABSENT},
@@ -240,7 +250,7 @@ static const struct { const char *name; uint32_t (*call)(struct outputs *outputs
     {"mb_message_merge", message_merge, MB_DONE}, {"mb_message_merge of a cut message", message_merge_cut, MB_FAULT},
     {"mb_find", find_address, MB_DONE}, {"mb_find in a cut message", find_address_cut, MB_FAULT},
 };
-#define OF_SHOP 19
+#define OF_SHOP 21
 
 static struct mb_bytes read_file(const char *path)
 {

@@ -85,6 +85,23 @@ static uint32_t copy_held(void) { return on_message(copy_one); }
 static uint32_t fields[MB_MAX_STEPS];
 static size_t steps;
 static uint32_t json_one(struct mb_message *message) { return mb_message_json(message, false, true, OUT, fields, MB_MAX_STEPS, &steps); }
+/* Reads JSON of objects in one another, 100 at most, of which a message in a map is two. */
+static uint32_t read_json(const char *front, const char *back, int count)
+{
+    static char json[1 << 12];
+    struct mb_message message = {0};
+    char *at = json;
+    for (int i = 0; i < count; i++)
+        at += sprintf(at, "%s", front);
+    at += sprintf(at, "{}");
+    for (int i = 0; i < count; i++)
+        at += sprintf(at, "%s", back);
+    uint32_t answer = mb_message_from_json(&pool, type, (const uint8_t *)json, (size_t)(at - json), false, &message, &size);
+    mb_message_free(&message);
+    return answer;
+}
+static uint32_t read_messages(void) { return read_json("{\"a\":", "}", 99); }
+static uint32_t read_maps(void) { return read_json("{\"m\":{\"z\":", "}}", 49); }
 static uint32_t encode_held(void) { return on_message(encode_one); }
 static uint32_t count_held(void) { return on_message(count_one); }
 static uint32_t show_held(void) { return on_message(show_one); }
@@ -200,6 +217,7 @@ static const struct { const char *name; uint32_t (*call)(void); } calls[] = {
     {"mb_message_decode of turned maps, mb_message_oneof of no oneof, and mb_message_free", oneof_held},
     {"mb_pool_compile_lenient, and mb_pool_free", compile_lenient}, {"mb_compat", compat}, {"mb_cause_name", cause_name},
     {"mb_message_decode of turned maps, mb_message_json and mb_message_free", json_held},
+    {"mb_message_from_json of messages, and mb_message_free", read_messages}, {"mb_message_from_json of maps, and mb_message_free", read_maps},
     {"mb_message_decode of turned maps, mb_message_get and mb_message_free", get_held},
     {"mb_message_decode of turned maps, mb_message_fields and mb_message_free", fields_held},
     {"mb_message_decode of turned maps, mb_message_key and mb_message_free", key_held},

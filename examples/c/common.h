@@ -27,6 +27,9 @@ int print_refusal(uint32_t answer, const struct report *report);
 /* Says which part of a message has no JSON form: the numbers of the fields that lead to it, and why. */
 void print_json_refusal(uint32_t answer, const uint32_t *path, size_t steps);
 
+/* Says at which byte a JSON text is refused, and why. */
+void print_text_refusal(uint32_t answer, size_t byte);
+
 /* The same of mb_pool_link. The names in the text are those that the refusal tells. */
 int print_link_refusal(uint32_t answer, const struct report *report, const struct mb_refusal *refusal, const uint8_t *text);
 

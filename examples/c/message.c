@@ -2,6 +2,7 @@
  * digits, as `pbtool canon` does, or its listing, as `pbtool show` does or `pbtool show --decimal`, or its JSON, as `pbtool json` does; or prints the bytes
  * of an empty message. The message stays with the library in between, behind a handle of its own, and the pool is freed before.
  * message relink [--lenient] SET TYPE FILE: as encode, by the types of the set that the library writes of the pool.
+ * message from-json [--lenient] SET TYPE FILE: reads the message that a file holds as JSON, and writes its canonical bytes, as `pbtool from-json` does.
  * message field SET TYPE NAME: prints what the field of this name is, by the numbers of struct mb_field. */
 #include "common.h"
 
@@ -104,10 +105,39 @@ static uint32_t encode(struct mb_message *message, struct buffer *out)
     return answer;
 }
 
+/* Reads the message that a file holds as JSON. Where it is refused, says on standard error at which byte, and why. */
+static uint32_t from_json(const char *name, struct mb_pool *pool, uint32_t type, bool is_lenient, struct mb_message *message)
+{
+    struct buffer file = read_file(name);
+    size_t byte;
+    uint32_t answer = mb_message_from_json(pool, type, file.bytes, file.len, is_lenient, message, &byte);
+
+    free(file.bytes);
+    if (answer >= MB_JSON_UNEXPECTED_BYTE && answer <= MB_JSON_BAD_VALUE)
+        print_text_refusal(answer, byte);
+    return answer;
+}
+
+/* Writes the canonical bytes. */
+static uint32_t write_bytes(struct mb_message *message, struct buffer *out)
+{
+    uint32_t answer = mb_message_encoded_length(message, &out->len);
+
+    if (answer != MB_DONE)
+        return answer;
+    grow(out, out->len);
+    answer = mb_message_encode(message, out->bytes, out->room, &out->len);
+    if (answer == MB_DONE)
+        fwrite(out->bytes, 1, out->len, stdout);
+    return answer;
+}
+
 static uint32_t print_message(const char *word, struct mb_message *message, struct buffer *out)
 {
     if (strcmp(word, "json") == 0)
         return print_json(message, out);
+    if (strcmp(word, "from-json") == 0)
+        return write_bytes(message, out);
     if (strcmp(word, "list") == 0 || strcmp(word, "decimal") == 0)
         return list(message, out, word[0] == 'd');
     return encode(message, out);
@@ -134,14 +164,16 @@ int main(int argc, char **argv)
         return status;
     }
     uint32_t answer = strcmp(word, "relink") == 0 ? relink(&pool, argv[2], &type) : MB_DONE;
-    if (answer == MB_DONE)
+    if (answer == MB_DONE && strcmp(word, "from-json") == 0)
+        answer = from_json(argv[3], &pool, type, is_lenient, &message);
+    else if (answer == MB_DONE)
         answer = make_message(word, argv[3], &pool, type, &message, &report);
     mb_pool_free(&pool);
     if (answer == MB_DONE)
         answer = print_message(word, &message, &out);
     free(out.bytes);
     mb_message_free(&message);
-    if (answer >= MB_JSON_NO_KIND && answer <= MB_JSON_UNSUPPORTED)
+    if (answer >= MB_JSON_NO_KIND && answer <= MB_JSON_BAD_VALUE)
         return 1;
     return answer == MB_DONE ? 0 : print_refusal(answer, &report);
 }

@@ -32,6 +32,12 @@ void print_json_refusal(uint32_t answer, const uint32_t *path, size_t steps)
     print_cause(stderr, answer);
 }
 
+void print_text_refusal(uint32_t answer, size_t byte)
+{
+    fprintf(stderr, "json byte %zu cause ", byte);
+    print_cause(stderr, answer);
+}
+
 int print_refusal(uint32_t answer, const struct report *report)
 {
     if (answer != MB_FAULT) {

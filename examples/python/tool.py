@@ -6,7 +6,7 @@ field is: tool.py field SET TYPE NAME. What a message has, a place a line: tool.
 scalar at a path of field numbers, such as 3.1: tool.py find [--lenient] SET TYPE FILE PATH. What a set
 declares: tool.py types [--lenient] SET. Changes of a message, and its bytes: tool.py change SET TYPE FILE CHANGE.., as change.c says.
 A copy of a message with more bytes decoded onto it: tool.py whole SET TYPE FILE MORE, as whole.c prints it. What differs between two types: tool.py
-compat OLD_SET OLD_TYPE NEW_SET NEW_TYPE, as compat.c prints it"""
+compat OLD_SET OLD_TYPE NEW_SET NEW_TYPE, as compat.c prints it. The canonical bytes of a message in JSON: tool.py from-json [--lenient] SET TYPE FILE"""
 import sys
 
 import mabristu
@@ -165,6 +165,8 @@ def printed(command, *words):
             yield found.decode(read(name)).listing()
         elif command == "json":
             yield found.decode(read(name)).to_json() + "\n"
+        elif command == "from-json":
+            yield found.from_json(read(name), lenient="--lenient" in options).encode()
         else:
             yield from frames(found, name)
 
@@ -172,7 +174,10 @@ def printed(command, *words):
 def main(words):
     try:
         for part in printed(*words):
-            sys.stdout.write(part)
+            if isinstance(part, bytes):
+                sys.stdout.buffer.write(part)
+            else:
+                sys.stdout.write(part)
         return 0
     except mabristu.Refused as refused:
         print(refused, file=sys.stderr)

@@ -5,7 +5,7 @@
 //! place a line: tool read [--lenient] SET TYPE FILE, as read.c prints it. The scalar at a path of field numbers, such as 3.1: tool find [--lenient] SET TYPE
 //! FILE PATH. What a set declares: tool types [--lenient] SET. Changes of a message, and its bytes: tool change SET TYPE FILE CHANGE.., as change.c says.
 //! A copy of a message with more bytes decoded onto it: tool whole SET TYPE FILE MORE, as whole.c prints it. What differs between two types: tool compat
-//! OLD_SET OLD_TYPE NEW_SET NEW_TYPE, as compat.c prints it
+//! OLD_SET OLD_TYPE NEW_SET NEW_TYPE, as compat.c prints it. The canonical bytes of a message in JSON: tool from-json [--lenient] SET TYPE FILE
 mod changes;
 mod files;
 mod values;
@@ -123,6 +123,14 @@ fn run(words: &[&str]) -> Result<(), Failure> {
         let set = read(set)?;
         let pool = if options.is_empty() { Pool::link(&set) } else { Pool::link_lenient(&set) };
         return print(values::found(&message_type(&pool.map_err(of_set)?, name)?, &read(file)?, path)?.as_bytes());
+    }
+    if let ["from-json", options @ .., set, name, file] = words {
+        let set = read(set)?;
+        let pool = if options.is_empty() { Pool::link(&set) } else { Pool::link_lenient(&set) };
+        let found = message_type(&pool.map_err(of_set)?, name)?;
+        let json = read(file)?;
+        let message = if options.is_empty() { found.from_json(json) } else { found.from_json_lenient(json) };
+        return print(&message.and_then(|message| message.encode()).map_err(refused)?);
     }
     let (command, pool, name, file) = match words {
         [command, "--lenient", set, name, file] => (command, Pool::link_lenient(&read(set)?), name, file),

@@ -48,6 +48,8 @@ bool set_limits(Py_ssize_t max_bytes, Py_ssize_t max_depth, struct limits *limit
 /* Sets the exception for an answer that is not MB_DONE. All return NULL. The path of a part is taken. */
 PyObject *refuse(uint32_t answer, const struct report *report);
 PyObject *refuse_path(const char *what, uint32_t answer, PyObject *path);
+/* The same of a JSON text, by the byte where what is refused begins. */
+PyObject *refuse_text(uint32_t answer, size_t byte);
 PyObject *refuse_link(uint32_t answer, const struct report *report, const struct mb_refusal *refusal, const uint8_t *text, PyObject *names);
 
 /* What _refused.py, _frames.py, _schema.py and _change.py define. */

@@ -43,6 +43,11 @@ PyObject *refuse_path(const char *what, uint32_t answer, PyObject *path)
     return raise_made(PyObject_CallFunction(make_link, "sIN", what, answer, path));
 }
 
+PyObject *refuse_text(uint32_t answer, size_t byte)
+{
+    return raise_made(PyObject_CallFunction(make_link, "sIn", "json text", answer, (Py_ssize_t)byte));
+}
+
 PyObject *refuse(uint32_t answer, const struct report *report)
 {
     switch (answer) {

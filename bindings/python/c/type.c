@@ -169,6 +169,44 @@ static PyObject *type_decode(PyObject *self, PyObject *args, PyObject *kwargs)
     return end(&call, (PyObject *)message);
 }
 
+PyDoc_STRVAR(from_json_doc,
+"from_json(text, *, lenient=False)\n--\n\nThe message that a JSON text is (ProtoJSON), a str or bytes in UTF-8. With lenient=True members that no field has"
+"\nare passed over, and strings that an enum does not declare. It stays on the thread that made it.");
+
+/* The message of a JSON text, or NULL with an exception. */
+static PyObject *read_json(MessageType *type, const struct input *in, bool is_lenient)
+{
+    Node *message = new_message(type);
+    size_t byte = 0;
+
+    if (message == NULL)
+        return NULL;
+    message->hint = in->len;
+    uint32_t answer = mb_message_from_json(&type->pool->handle, type->number, in->at, in->len, is_lenient, &message->handle, &byte);
+    if (answer == MB_DONE)
+        return (PyObject *)message;
+    Py_DECREF(message);
+    return answer >= MB_JSON_UNEXPECTED_BYTE && answer <= MB_JSON_BAD_VALUE ? refuse_text(answer, byte) : refuse(answer, NULL);
+}
+
+static PyObject *type_from_json(PyObject *self, PyObject *args, PyObject *kwargs)
+{
+    static char *names[] = {"text", "lenient", NULL};
+    PyObject *text, *message = NULL;
+    int is_lenient = 0;
+    struct input in;
+
+    if (!PyArg_ParseTupleAndKeywords(args, kwargs, "O|$p:from_json", names, &text, &is_lenient))
+        return NULL;
+    PyObject *bytes = PyUnicode_Check(text) ? PyUnicode_AsUTF8String(text) : NULL;
+    if (PyErr_Occurred() == NULL && take_input(bytes == NULL ? text : bytes, &in)) {
+        message = read_json((MessageType *)self, &in, is_lenient);
+        drop_input(&in);
+    }
+    Py_XDECREF(bytes);
+    return message;
+}
+
 PyDoc_STRVAR(new_doc, "new()\n--\n\nAn empty message. Order() is the same.");
 
 static PyObject *type_empty(PyObject *self, PyObject *Py_UNUSED(ignored))
@@ -859,6 +897,7 @@ PyObject *make_message_type_type(void)
         {"canonical", KEYWORDS(type_canonical), METH_VARARGS | METH_KEYWORDS, canonical_doc},
         {"listing", KEYWORDS(type_listing), METH_VARARGS | METH_KEYWORDS, listing_doc},
         {"decode", KEYWORDS(type_decode), METH_VARARGS | METH_KEYWORDS, decode_doc},
+        {"from_json", KEYWORDS(type_from_json), METH_VARARGS | METH_KEYWORDS, from_json_doc},
         {"find", KEYWORDS(type_find), METH_VARARGS | METH_KEYWORDS, find_doc},
         {"_find", KEYWORDS(type_find_reported), METH_VARARGS | METH_KEYWORDS, find_reported_doc},
         {"new", type_empty, METH_NOARGS, new_doc},

@@ -67,6 +67,8 @@ def refused(what, cause, *where):
         return Refused(f"source {name} byte {byte}", cause, byte=byte, file=name)
     if what == "json":
         return Refused(f"json path {'.'.join(map(str, where[0])) or '-'}", cause, path=where[0])
+    if what == "json text":
+        return Refused(f"json byte {where[0]}", cause, byte=where[0])
     if what == "set":
         return Refused(f"set file {where[0]}", cause, file=where[0])
     return Refused(what, cause)

@@ -59,6 +59,21 @@ class Messages(Shop):
         self.assertEqual(message.to_json(indent=True).split("\n")[:2], ["{", '  "number": "4711",'])
         self.assertEqual(self.order.new().to_json(), "{}")
 
+    def test_from_json(self):
+        # What is written of the order is read as the order; names as declared are taken too.
+        message = self.order.decode(self.data)
+        for line in (message.to_json(), message.to_json(declared_names=True, indent=True), message.to_json().encode()):
+            self.assertEqual(self.order.from_json(line), message)
+        self.assertEqual(self.order.from_json("{}"), self.order.new())
+        self.assertEqual(self.order.from_json('{"number":"1","nothing":[2]}', lenient=True).encode(), b"\x08\x01")
+        rows = [('{"number":1,"nothing":2}', 12, "UnknownName", 105), ('{"number":true}', 10, "BadValue", 109), ("{", 1, "UnexpectedEnd", 102),
+                (b'{"placedOn":"\xff"}', 13, "BadUtf8", 103), ('{"number":1,"number":2}', 12, "RepeatedName", 106)]
+        for text, byte, cause, number in rows:
+            refused = self.refused(self.order.from_json, text)
+            self.assertEqual((str(refused), refused.byte, refused.cause, refused.number), (f"json byte {byte} cause {cause}", byte, cause, number))
+        with self.assertRaises(TypeError):
+            self.order.from_json(7)
+
     def test_set_of_a_pool(self):
         again = Pool(self.pool.to_set())
         self.assertEqual([it.name for it in again.schema().types], [it.name for it in self.pool.schema().types])

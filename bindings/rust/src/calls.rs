@@ -1,7 +1,7 @@
 //! The numbers and calls of mabristu.h.
 use crate::structs::{Bytes, Counts, Difference, Enum, Fault, Field, File, Frame, Handle, MessageHandle, Refusal, Step, Type, Value};
 
-pub const INTERFACE: u32 = 5;
+pub const INTERFACE: u32 = 6;
 // What a call answers. Numbers from 50 on are the causes why declarations are refused.
 pub const DONE: u32 = 0;
 pub const BAD_LIMITS: u32 = 1;
@@ -95,6 +95,8 @@ extern "C" {
         out: Out, out_len: usize, size: &mut usize) -> u32;
     pub fn mb_message_json(message: *mut MessageHandle, declared_names: bool, indented: bool, out: Out, out_len: usize, size: &mut usize,
         path: *mut u32, path_len: usize, steps: &mut usize) -> u32;
+    pub fn mb_message_from_json(pool: *mut Handle, number: u32, json: At, json_len: usize, lenient: bool, message: *mut MessageHandle,
+        byte: &mut usize) -> u32;
     pub fn mb_message_get(message: Message, place: *const Value, place_len: usize, keys: *const Bytes, keys_len: usize, value: &mut Value) -> u32;
     pub fn mb_message_read(message: Message, place: *const Value, place_len: usize, keys: *const Bytes, keys_len: usize,
         out: Out, out_len: usize, size: &mut usize) -> u32;

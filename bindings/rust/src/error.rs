@@ -52,6 +52,8 @@ pub enum Error {
     Link { file: String, name: String, cause: Cause },
     /// A part of a message has no JSON form: the numbers of the fields that lead to it.
     Json { path: Vec<u32>, cause: Cause },
+    /// A JSON text is not read as a message: the byte where what is refused begins, counted from 0.
+    JsonText { byte: usize, cause: Cause },
     /// A message refuses a change.
     Change { cause: Cause },
     /// A value is out of the range of its kind, or is a list or a map.
@@ -79,6 +81,7 @@ impl Error {
             | Error::Source { cause, .. }
             | Error::Link { cause, .. }
             | Error::Json { cause, .. }
+            | Error::JsonText { cause, .. }
             | Error::Change { cause } => Some(*cause),
             Error::TooLarge => Some(Cause(calls::TOO_LARGE)),
             _ => None,
@@ -101,6 +104,7 @@ impl fmt::Display for Error {
                 let numbers: Vec<String> = path.iter().map(u32::to_string).collect();
                 write!(f, "json path {} cause {cause}", dash(&numbers.join(".")))
             }
+            Error::JsonText { byte, cause } => write!(f, "json byte {byte} cause {cause}"),
             Error::Change { cause } => write!(f, "change cause {cause}"),
             Error::BadValue => f.write_str("the value is out of range"),
             Error::BadLimits => f.write_str("a limit is above the greatest"),

@@ -3,7 +3,7 @@ use crate::calls;
 use crate::report::{judged, written, Report};
 use crate::structs::{Field as FieldReport, Frame as FrameReport, Value as Reported};
 use crate::value::{scalar, size as size_of};
-use crate::{Error, Frames, Message, Pool, Value};
+use crate::{Cause, Error, Frames, Message, Pool, Value};
 use std::io::Read;
 
 /// How many bytes a message may have, and how deep it may nest.
@@ -171,6 +171,29 @@ impl MessageType {
             let (at, len, held) = (bytes.as_ptr(), bytes.len(), message.handle());
             calls::mb_message_decode(self.pool.handle(), self.number, at, len, max_bytes, max_depth, held, fault, path, steps)
         })?;
+        Ok(message)
+    }
+
+    /// The message that a JSON text in UTF-8 is (ProtoJSON). A name that no field or enum has is refused.
+    pub fn from_json(&self, json: impl AsRef<[u8]>) -> Result<Message, Error> {
+        self.read_json(json.as_ref(), false)
+    }
+
+    /// The message that a JSON text is. Members that no field has are passed over, and so are strings that an enum does not declare.
+    pub fn from_json_lenient(&self, json: impl AsRef<[u8]>) -> Result<Message, Error> {
+        self.read_json(json.as_ref(), true)
+    }
+
+    fn read_json(&self, json: &[u8], lenient: bool) -> Result<Message, Error> {
+        let (message, mut byte) = (Message::none(self), 0);
+        let answer = unsafe {
+            let (at, len, held) = (json.as_ptr(), json.len(), message.handle());
+            calls::mb_message_from_json(self.pool.handle(), self.number, at, len, lenient, held, &mut byte)
+        };
+        if let 101..=109 = answer {
+            return Err(Error::JsonText { byte, cause: Cause(answer) });
+        }
+        Report::new().judge(answer)?;
         Ok(message)
     }
 

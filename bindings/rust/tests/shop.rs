@@ -42,6 +42,22 @@ fn writes_json() {
 }
 
 #[test]
+fn reads_json() {
+    // What is written of the order is read as the order; names as declared are taken too.
+    let (order, bytes) = (order(), example("shop_order.bin"));
+    let message = order.decode(&bytes).unwrap();
+    for form in [JsonForm::default(), JsonForm { declared_names: true, indented: true }] {
+        assert_eq!(order.from_json(&message.to_json(form).unwrap()).unwrap(), message);
+    }
+    assert_eq!(order.from_json("{}").unwrap(), order.empty().unwrap());
+    let error = order.from_json(r#"{"number":1,"nothing":2}"#).unwrap_err();
+    assert_eq!(error.to_string(), "json byte 12 cause UnknownName");
+    assert_eq!(order.from_json_lenient(r#"{"number":"1","nothing":2}"#).unwrap().encode().unwrap(), [0x08, 0x01]);
+    assert_eq!(order.from_json(r#"{"number":true}"#).unwrap_err().to_string(), "json byte 10 cause BadValue");
+    assert_eq!(order.from_json("{").unwrap_err().cause().map(|cause| cause.number()), Some(102));
+}
+
+#[test]
 fn writes_what_it_read() {
     // The example is canonical, but for its order: number 1 with an overlong varint is not.
     let order = order();

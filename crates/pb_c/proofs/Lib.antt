@@ -44,5 +44,7 @@ pub mod FoundTelling
 pub mod Copied
 -- canonical bytes of copies, and of messages that are compared
 pub mod Copies
+-- what is answered of a JSON text that is read
+pub mod JsonReading
 -- what is answered of a change
 pub mod ChangeAnswers

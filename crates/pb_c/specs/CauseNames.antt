@@ -1,4 +1,5 @@
--- The names of causes, by their numbers: those of bytes, of changes, of sources, of sets, of linking, of JSON, and of what is too large to be written.
+-- The names of causes, by their numbers: those of bytes, of changes, of sources, of sets, of linking, of JSON that is written or read, and of what is too
+-- large to be written.
 use Rattle.std.specs.Prelude.{◌≡◌, ℕ, List, codes}
 use Rattle.pb_wire.specs.CauseName.{number_of as wire_number, name_of as wire_name}
 use Rattle.pb_wire.specs.declared.fault.Cause.{Cause}
@@ -13,6 +14,9 @@ use Rattle.pb_rules.specs.declared.cause.LinkCause.{LinkCause}
 use Rattle.pb_json.specs.CauseName.{name_of as json_name}
 use Rattle.pb_json.specs.declared.error.JsonCause.{JsonCause}
 use Rattle.pb_json.specs.declared.error.JsonCause.TheVariants.{NoKind, NotFinite, OutOfRange, BadPath, Unsupported}
+use Rattle.pb_json_read.specs.Faults.{name_of as read_name}
+use Rattle.pb_json_read.specs.declared.error.JsonReadCause.{JsonReadCause}
+use Rattle.pb_json_read.specs.declared.error.JsonReadCause.TheVariants as read
 
 abbrev pub json_number : JsonCause → ℕ
 json_number NoKind = 91
@@ -20,6 +24,19 @@ json_number NotFinite = 92
 json_number OutOfRange = 93
 json_number BadPath = 94
 json_number Unsupported = 95
+
+-- why a JSON text is not read as a message
+abbrev pub read_number : JsonReadCause → ℕ
+read_number read.UnexpectedByte = 101
+read_number read.UnexpectedEnd = 102
+read_number read.BadUtf8 = 103
+read_number read.TooDeep = 104
+read_number read.UnknownName = 105
+read_number read.RepeatedName = 106
+read_number read.SecondMember = 107
+read_number read.BadKey = 108
+read_number read.BadValue = 109
+read_number read.OutOfMemory = 110
 
 -- A cause that has this number has this name.
 pub data Names (n : ℕ) (s : List ℕ) : Type 0 where
@@ -29,4 +46,5 @@ pub data Names (n : ℕ) (s : List ℕ) : Type 0 where
   of_set : (c : DeclCause) → set_number c ≡ n → s ≡ set_name c → Names n s
   of_link : (c : LinkCause) → link_number c ≡ n → s ≡ link_name c → Names n s
   of_json : (c : JsonCause) → json_number c ≡ n → s ≡ json_name c → Names n s
+  of_reading : (c : JsonReadCause) → read_number c ≡ n → s ≡ read_name c → Names n s
   of_output : n ≡ 31 → s ≡ codes "TooLarge" → Names n s

@@ -5,3 +5,4 @@ pub mod Changes
 pub mod Pairs
 pub mod Listed
 pub mod JsonAnswers
+pub mod JsonRead

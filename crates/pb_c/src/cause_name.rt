@@ -12,13 +12,15 @@ ghost use Rattle.pb_tokens.specs.declared.fault.SourceCause.{SourceCause};
 ghost use Rattle.pb_descr.specs.declared.cause.DeclCause.{DeclCause};
 ghost use Rattle.pb_rules.specs.declared.cause.LinkCause.{LinkCause};
 ghost use Rattle.pb_json.specs.declared.error.JsonCause.{JsonCause};
-ghost use Rattle.pb_c.specs.CauseNames.{Names, json_number};
+ghost use Rattle.pb_json_read.specs.declared.error.JsonReadCause.{JsonReadCause};
+ghost use Rattle.pb_c.specs.CauseNames.{Names, json_number, read_number};
 ghost use Rattle.pb_c.specs.Reporting.{IsLaid};
 
 use crate::reporting::{ABSENT, DONE};
 use crate::typed::{TOO_LARGE, write_out};
 use pb_descr::DeclCause;
 use pb_json::JsonCause;
+use pb_json_read::JsonReadCause;
 use pb_rules::LinkCause;
 use pb_source::SourceCause;
 use pb_value::ValueError;
@@ -148,6 +150,26 @@ fn json_cause(number: u32) -> Option<JsonCause>
     })
 }
 
+/// The cause of this number why a JSON text is not read as a message.
+fn read_cause(number: u32) -> Option<JsonReadCause>
+    ensures found { IfSome result (λ c. read_number c ≡ number) }
+    ensures none { IfNone result ((c : JsonReadCause) → read_number c ≢ number) }
+{
+    Some(match number {
+        101 => JsonReadCause::UnexpectedByte,
+        102 => JsonReadCause::UnexpectedEnd,
+        103 => JsonReadCause::BadUtf8,
+        104 => JsonReadCause::TooDeep,
+        105 => JsonReadCause::UnknownName,
+        106 => JsonReadCause::RepeatedName,
+        107 => JsonReadCause::SecondMember,
+        108 => JsonReadCause::BadKey,
+        109 => JsonReadCause::BadValue,
+        110 => JsonReadCause::OutOfMemory,
+        _ => return None,
+    })
+}
+
 /// The name of the cause of this number why bytes are refused.
 fn wire_name(number: u32) -> Option<&'static str>
     ensures named { IfSome result (λ s. Names number s.now) }
@@ -214,6 +236,17 @@ fn json_name(number: u32) -> Option<&'static str>
     }
 }
 
+/// The name of the cause of this number why a JSON text is not read as a message.
+fn read_name(number: u32) -> Option<&'static str>
+    ensures named { IfSome result (λ s. Names number s.now) }
+    ensures none { IfNone result ((c : JsonReadCause) → read_number c ≢ number) }
+{
+    match read_cause(number) {
+        Some(cause) => Some(cause.name()),
+        None => None,
+    }
+}
+
 /// The name of the cause of a number.
 fn name_of(number: u32) -> Option<&'static str>
     ensures named { IfSome result (λ s. Names number s.now) }
@@ -237,7 +270,10 @@ fn name_of(number: u32) -> Option<&'static str>
     if let Some(name) = link_name(number) {
         return Some(name);
     }
-    json_name(number)
+    if let Some(name) = json_name(number) {
+        return Some(name);
+    }
+    read_name(number)
 }
 
 /// Writes the name of the cause of a number, as much as the buffer holds, and reports its whole length. The cause is one of `mb_fault`, or an

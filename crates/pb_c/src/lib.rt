@@ -26,6 +26,7 @@ pub use message::encode::{mb_message_encode, mb_message_encoded_length};
 pub use message::equal::mb_message_equal;
 pub use message::fields::mb_message_fields;
 pub use message::free::mb_message_free;
+pub use message::from_json::mb_message_from_json;
 pub use message::get::mb_message_get;
 pub use message::handle::MessageHandle;
 pub use message::json::mb_message_json;

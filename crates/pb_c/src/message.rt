@@ -7,6 +7,7 @@ pub(crate) mod encode;
 pub(crate) mod equal;
 pub(crate) mod fields;
 pub(crate) mod free;
+pub(crate) mod from_json;
 pub(crate) mod get;
 pub(crate) mod handle;
 pub(crate) mod json;

@@ -40,7 +40,7 @@ pub const MEMORY: u32 = 14;
 pub const TOO_DEEP: u32 = 27;
 
 /// Which calls the library has: the number of the header.
-const INTERFACE: u32 = 5;
+const INTERFACE: u32 = 6;
 
 /// A fault of bytes, but for its path.
 #[repr(C)]
