@@ -9,7 +9,7 @@ _pbtool() {
     case $command in
         raw) flags="--short --nested --explain --help -h" ;;
         show) flags="--decimal --explain --lenient --help -h" ;;
-        frames) flags="--decimal --keep-going --explain --lenient --help -h" ;;
+        frames) flags="--decimal --json --keep-going --explain --lenient --help -h" ;;
         check | from-json) flags="--explain --lenient --help -h" ;;
         types) flags="--lenient --help -h" ;;
         canon) flags="--out --explain --lenient --help -h" ;;

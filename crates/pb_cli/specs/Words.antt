@@ -13,6 +13,8 @@ use Rattle.pb_command.specs.declared.command.Command.TheVariants.{Compat, FromJs
 use Rattle.pb_command.specs.declared.command.Comparison.{Comparison}
 use Rattle.pb_verdict.specs.declared.verdict.Readers.{Readers}
 use Rattle.pb_verdict.specs.declared.verdict.Readers.TheVariants.{Both, New}
+use Rattle.pb_command.specs.declared.command.FrameForm.{FrameForm}
+use Rattle.pb_command.specs.declared.command.FrameForm.TheVariants as frame_form
 use Rattle.pb_command.specs.declared.command.RawForm.{RawForm}
 use Rattle.pb_command.specs.declared.command.RawForm.TheVariants.{Listing, Nested, Shortest}
 use Rattle.pb_command.specs.declared.command.Roots.{Roots}
@@ -79,9 +81,12 @@ json_command = of_source (with_rule (new_app (codes "json")) pretty_rule)
 abbrev pub keep_going_rule : Rule
 keep_going_rule = record (new_rule (codes "keep-going")) { long = Some (codes "keep-going"); action = Some SetTrue }
 
--- `frames [--decimal] [--keep-going] [--explain] [--lenient] SET TYPE FILE`
+abbrev pub json_rule : Rule
+json_rule = record (new_rule (codes "json")) { long = Some (codes "json"); action = Some SetTrue }
+
+-- `frames [--decimal] [--json] [--keep-going] [--explain] [--lenient] SET TYPE FILE`
 abbrev pub frames_command : App
-frames_command = of_source (with_rule (with_rule (new_app (codes "frames")) decimal_rule) keep_going_rule)
+frames_command = of_source (with_rule (with_rule (with_rule (new_app (codes "frames")) decimal_rule) json_rule) keep_going_rule)
 
 -- `types [--lenient] SET [NAME]`
 abbrev pub types_command : App
@@ -187,6 +192,14 @@ floats_of false = Bits
 abbrev pub AreFloats : List Row → FloatForm → Type 0
 AreFloats rows f = f ≡ floats_of (flag_of (codes "decimal") rows)
 
+-- how frames are printed, by whether JSON is wanted, and with floats so if it is not
+abbrev pub frame_form_of : Bool → FloatForm → FrameForm
+frame_form_of true floats = frame_form.Json
+frame_form_of false floats = frame_form.Listing floats
+
+abbrev pub IsFrameForm : List Row → FrameForm → Type 0
+IsFrameForm rows f = f ≡ frame_form_of (flag_of (codes "json") rows) (floats_of (flag_of (codes "decimal") rows))
+
 -- how JSON is laid out, by whether the flag is given
 abbrev pub layout_of : Bool → Layout
 layout_of true = Indented
@@ -221,10 +234,10 @@ IsNamed name rows (Canon to source) =
     (name ≡ codes "canon") × (option_map (λ path. path.now) to ≡ option_of (codes "out") rows) × IsSource rows source
 IsNamed name rows (Json layout source) =
     (name ≡ codes "json") × (layout ≡ layout_of (flag_of (codes "pretty") rows)) × IsSource rows source
-IsNamed name rows (Frames floats source) =
-    (name ≡ codes "frames") × (flag_of (codes "keep-going") rows ≡ false) × AreFloats rows floats × IsSource rows source
-IsNamed name rows (AllFrames floats source) =
-    (name ≡ codes "frames") × (flag_of (codes "keep-going") rows ≡ true) × AreFloats rows floats × IsSource rows source
+IsNamed name rows (Frames form source) =
+    (name ≡ codes "frames") × (flag_of (codes "keep-going") rows ≡ false) × IsFrameForm rows form × IsSource rows source
+IsNamed name rows (AllFrames form source) =
+    (name ≡ codes "frames") × (flag_of (codes "keep-going") rows ≡ true) × IsFrameForm rows form × IsSource rows source
 IsNamed name rows (Types reading set type_name) =
     (name ≡ codes "types") × IsReading rows reading × (set.now ≡ value_of (codes "SET") rows)
     × (option_map (λ n. n.now) type_name ≡ option_of (codes "NAME") rows)

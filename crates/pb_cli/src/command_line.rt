@@ -9,7 +9,7 @@ ghost use Rattle.pb_files.specs.Report.{device_line, memory_line};
 ghost use Rattle.pb_output.specs.Sending.{Cut, Sent, SentOrCut};
 ghost use Rattle.pb_cli.specs.Running.{DoesBy, DoesNamed, RefusesWords};
 ghost use Rattle.pb_command.specs.Explained.{DoesExplained};
-ghost use Rattle.pb_cli.specs.Words.{AreRoots, IsMatched, IsRawForm, IsSource, ShowsFrames, flag_of, floats_of, layout_of, reading_of};
+ghost use Rattle.pb_cli.specs.Words.{AreRoots, IsFrameForm, IsMatched, IsRawForm, IsSource, ShowsFrames, flag_of, floats_of, layout_of, reading_of};
 ghost use Rattle.pb_cli.specs.Words.{IsComparison, is_explained, readers_of, value_of, values_of, tool, tool_names, words_of};
 ghost use Rattle.pb_command.specs.declared.command.Command.{Command as Told};
 
@@ -17,8 +17,8 @@ use crate::words::definition;
 use clap::error::ErrorKind;
 use clap::{ArgMatches, Error};
 use pb_command::{
-    Afterwards, Command, Comparison, Files, FloatForm, Layout, RawForm, Readers, Reading, Refusal,
-    Roots, Source, execute_explained, execute_then,
+    Afterwards, Command, Comparison, Files, FloatForm, FrameForm, Layout, RawForm, Readers,
+    Reading, Refusal, Roots, Source, execute_explained, execute_then,
 };
 use pb_wire::{Output, write_all};
 use std::alloc::Global;
@@ -236,12 +236,12 @@ fn command_of<'m>(matches: &'m ArgMatches<'_>) -> Command<'m>
 fn stream<'m>(matches: &ArgMatches<'m>) -> Command<'m>
     ensures { ShowsFrames (rows_of (found_of matches.now)) result }
 {
-    let floats = floats(matches);
+    let form = frame_form(matches);
     let source = source(matches);
     if flag(matches, "keep-going") {
-        Command::AllFrames { floats, source }
+        Command::AllFrames { form, source }
     } else {
-        Command::Frames { floats, source }
+        Command::Frames { form, source }
     }
 }
 
@@ -313,6 +313,17 @@ fn floats(matches: &ArgMatches<'_>) -> FloatForm
         FloatForm::Decimal
     } else {
         FloatForm::Bits
+    }
+}
+
+/// How frames are printed. JSON has no floats by their bits, so `--json` comes first.
+fn frame_form(matches: &ArgMatches<'_>) -> FrameForm
+    ensures { IsFrameForm (rows_of (found_of matches.now)) result }
+{
+    if flag(matches, "json") {
+        FrameForm::Json
+    } else {
+        FrameForm::Listing(floats(matches))
     }
 }
 

@@ -39,6 +39,6 @@ mod words;
 
 pub use command_line::{run, run_then};
 pub use pb_command::{
-    Afterwards, Command, Comparison, Files, FloatForm, HostFiles, Layout, MemFiles, RawForm,
-    Readers, Reading, Refusal, Roots, Source, execute, execute_explained, execute_then,
+    Afterwards, Command, Comparison, Files, FloatForm, FrameForm, HostFiles, Layout, MemFiles,
+    RawForm, Readers, Reading, Refusal, Roots, Source, execute, execute_explained, execute_then,
 };

@@ -4,7 +4,8 @@ ghost use Rattle.clap.specs.Words.{app_of, rule_of};
 ghost use Rattle.clap.specs.declared.builder.command.Command.TheViews.{out-Command};
 ghost use Rattle.pb_cli.specs.Words.{both_rule, compat_command, from_json_command, other_tool};
 ghost use Rattle.pb_cli.specs.Words.{canon_command, check_command, compile_command, frames_command, json_command, raw_command, show_command, types_command};
-ghost use Rattle.pb_cli.specs.Words.{decimal_rule, directory_rule, explain_rule, keep_going_rule, lenient_rule, nested_rule, of_source, tool, tool_top, wanted};
+ghost use Rattle.pb_cli.specs.Words.{decimal_rule, directory_rule, explain_rule, json_rule, keep_going_rule, lenient_rule, nested_rule, of_source, wanted};
+ghost use Rattle.pb_cli.specs.Words.{tool, tool_top};
 
 use clap::{Arg, ArgAction, Command};
 use std::alloc::{AllocError, Global};
@@ -135,8 +136,10 @@ fn frames<'a>(alloc: Global) -> Result<Command<'a>, AllocError>
     );
     let decimal = decimal_option(alloc);
     let with_decimal = command.arg(decimal)?;
+    let json = json_option(alloc);
+    let with_json = with_decimal.arg(json)?;
     let keep_going = keep_going_option(alloc);
-    let with_keep_going = with_decimal.arg(keep_going)?;
+    let with_keep_going = with_json.arg(keep_going)?;
     let whole = with_source(alloc, with_keep_going)?;
     Ok(whole)
 }
@@ -264,6 +267,17 @@ fn decimal_option<'a>(alloc: Global) -> Arg<'a>
         .long("decimal")
         .action(ArgAction::SetTrue)
         .help("Print floats in decimal, and not by their bits")
+}
+
+/// The flag for messages that are printed as JSON.
+fn json_option<'a>(alloc: Global) -> Arg<'a>
+    ensures rule { rule_of result ≡ json_rule }
+    ensures local { result.global ≡ false }
+{
+    Arg::new(alloc, "json")
+        .long("json")
+        .action(ArgAction::SetTrue)
+        .help("Print each message as JSON, on one line")
 }
 
 /// The flag for frames that are refused and passed over.

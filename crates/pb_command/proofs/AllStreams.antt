@@ -7,7 +7,6 @@ use Rattle.pb_schema.specs.Types.{Types}
 use Rattle.pb_files.specs.Answer.{Answer, done, stopped, broken, IsPrinted}
 use Rattle.pb_files.specs.FileMap.{FileMap, IsOpened, KeepsMap}
 use Rattle.pb_files.specs.Report.{output_name}
-use Rattle.pb_listing.specs.declared.form.FloatForm.{FloatForm}
 use Rattle.pb_output.specs.Sending.{Cut, Sent}
 use Rattle.pb_output.specs.Sink.{Finishes, Puts}
 use Rattle.pb_files.specs.Known.{IsReadOf, OfFiles, OfInput}
@@ -17,6 +16,7 @@ use Rattle.pb_command.specs.Steps.{AllBegunAtPath, AllBegunOf, AllFramesAtPath, 
 use Rattle.pb_files.specs.SetFile.{HasType}
 use Rattle.pb_command.specs.TypeAnswer.{missing, opened}
 use Rattle.pb_output.specs.declared.sink.Sink.{Sink}
+use Rattle.pb_command.specs.declared.command.FrameForm.{FrameForm}
 use Rattle.pb_command.specs.declared.command.Source.{Source}
 use Rattle.pb_files.specs.declared.report.Refusal.{Refusal}
 use Rattle.pb_files.proofs.RefusalLemmas.{by_refusal_any, by_refusal_map}
@@ -66,46 +66,46 @@ module _ {D : Type 0} (written : D → Option (List ℕ)) (failures : D → ℕ)
 -- WHAT IS KNOWN OF AN INPUT IS KNOWN OF ITS FILE
 
 module _
-    (K K' : (Option (List ℕ) → Type 0) → Type 0) (more : (P : Option (List ℕ) → Type 0) → K P → K' P) (floats : FloatForm) (pool : Types) (m : ℕ) where
-  pub all_by : (path : List ℕ) (a : Answer) → AllFramesBy K floats path pool m a → AllFramesBy K' floats path pool m a
-  all_by path a (all_passed {s} h e) = all_passed (h.0, more (λ content. AllAt content floats pool m s) h.1) e
-  all_by path a (cut_after {s} {f} h e) = cut_after (h.0, more (λ content. CutAt content floats pool m s f) h.1) e
+    (K K' : (Option (List ℕ) → Type 0) → Type 0) (more : (P : Option (List ℕ) → Type 0) → K P → K' P) (form : FrameForm) (pool : Types) (m : ℕ) where
+  pub all_by : (path : List ℕ) (a : Answer) → AllFramesBy K form path pool m a → AllFramesBy K' form path pool m a
+  all_by path a (all_passed {s} h e) = all_passed (h.0, more (λ content. AllAt content form pool m s) h.1) e
+  all_by path a (cut_after {s} {f} h e) = cut_after (h.0, more (λ content. CutAt content form pool m s f) h.1) e
   all_by path a (failed_after {s} h e) = failed_after (h.0, more (λ content. ⊥) h.1) e
 
-  pub begun_by : (text : List ℕ) → AllBegunBy K floats pool m text → AllBegunBy K' floats pool m text
-  begun_by text h = (h.0, h.1, h.2, more (λ content. BegunAt content floats pool m h.0) h.3)
+  pub begun_by : (text : List ℕ) → AllBegunBy K form pool m text → AllBegunBy K' form pool m text
+  begun_by text h = (h.0, h.1, h.2, more (λ content. BegunAt content form pool m h.0) h.3)
 
 module _
     {F I : Type 0} (contents : F → Option FileMap) (is_steady : F → Bool) (files : F) (left : I → Option (List ℕ)) (stays : I → Bool) (input : I)
-    (floats : FloatForm) (path : List ℕ) (pool : Types) (m : ℕ)
+    (form : FrameForm) (path : List ℕ) (pool : Types) (m : ℕ)
     (is_opened : OfFiles contents is_steady files path (λ content. IsOpened left content (Some input) × (stays input ≡ true))) where
   -- what holds of the input's bytes holds of the file's
   of_input : (P : Option (List ℕ) → Type 0) → OfInput left stays input P → OfFiles contents is_steady files path P
   of_input P of = opened_of contents is_steady files path left stays input P is_opened of
 
   pub all_right :
-      (a : Answer) → AllFramesBy (OfInput left stays input) floats path pool m a → AllFramesAtPath contents is_steady files floats pool m path a
-  all_right a h = inr (all_by (OfInput left stays input) (OfFiles contents is_steady files path) of_input floats pool m path a h)
+      (a : Answer) → AllFramesBy (OfInput left stays input) form path pool m a → AllFramesAtPath contents is_steady files form pool m path a
+  all_right a h = inr (all_by (OfInput left stays input) (OfFiles contents is_steady files path) of_input form pool m path a h)
 
-  pub all_begun : (text : List ℕ) → AllBegunBy (OfInput left stays input) floats pool m text → AllBegunAtPath contents is_steady files floats pool m path text
-  all_begun text h = inr (begun_by (OfInput left stays input) (OfFiles contents is_steady files path) of_input floats pool m text h)
+  pub all_begun : (text : List ℕ) → AllBegunBy (OfInput left stays input) form pool m text → AllBegunAtPath contents is_steady files form pool m path text
+  all_begun text h = inr (begun_by (OfInput left stays input) (OfFiles contents is_steady files path) of_input form pool m text h)
 
 -- FROM THE FILE TO THE SET THAT HAS ITS TYPE
 
 module _
-    {F : Type 0} (contents : F → Option FileMap) (is_steady : F → Bool) (old mid : F) (floats : FloatForm) (s : Source) (set : List ℕ) (pool : Types) (m : ℕ)
+    {F : Type 0} (contents : F → Option FileMap) (is_steady : F → Bool) (old mid : F) (form : FrameForm) (s : Source) (set : List ℕ) (pool : Types) (m : ℕ)
     (is_read : IsReadOf contents is_steady old (full.bytes + 1) s.set.now (Some set)) (has : HasType s.reading s.type_name.now set pool m)
     (kept : KeepsMap (contents old) (contents mid)) (steady : is_steady old ≡ true → is_steady mid ≡ true) where
   earlier : (P : Option (List ℕ) → Type 0) → OfFiles contents is_steady mid s.file.now P → OfFiles contents is_steady old s.file.now P
   earlier P of = of_later s.file.now P kept steady of
 
-  pub all_of : (a : Answer) → AllFramesAtPath contents is_steady mid floats pool m s.file.now a → AllFramesOf contents is_steady old floats s a
+  pub all_of : (a : Answer) → AllFramesAtPath contents is_steady mid form pool m s.file.now a → AllFramesOf contents is_steady old form s a
   all_of a (inl h) = missing is_read has (earlier (λ content. content ≡ None) h.0) h.1
   all_of a (inr h) =
       opened is_read has
-      (all_by (OfFiles contents is_steady mid s.file.now) (OfFiles contents is_steady old s.file.now) earlier floats pool m s.file.now a h)
+      (all_by (OfFiles contents is_steady mid s.file.now) (OfFiles contents is_steady old s.file.now) earlier form pool m s.file.now a h)
 
-  pub all_begun_of : (text : List ℕ) → AllBegunAtPath contents is_steady mid floats pool m s.file.now text → AllBegunOf contents is_steady old floats s text
+  pub all_begun_of : (text : List ℕ) → AllBegunAtPath contents is_steady mid form pool m s.file.now text → AllBegunOf contents is_steady old form s text
   all_begun_of text (inl nothing) = inl nothing
   all_begun_of text (inr h) =
       inr (
@@ -114,5 +114,5 @@ module _
         m,
         is_read,
         has,
-        begun_by (OfFiles contents is_steady mid s.file.now) (OfFiles contents is_steady old s.file.now) earlier floats pool m text h,
+        begun_by (OfFiles contents is_steady mid s.file.now) (OfFiles contents is_steady old s.file.now) earlier form pool m text h,
       )

@@ -9,7 +9,7 @@ use Rattle.pb_files.specs.Answer.{Answer}
 use Rattle.pb_command.specs.Answers.{Answers, AnyAnswers, AnyBegins, Begins, canonical_form}
 use Rattle.pb_files.specs.FileMap.{FileMap, IsHonest}
 use Rattle.pb_command.specs.AllFrames.{AllFramesAnswer, ArePassed, Passed, all_passed, cut_after, failed_after, none_passed, none_there}
-use Rattle.pb_command.specs.FramesAnswer.{FramesAnswer, AreFrames, none, ended, no_frame_there, input_failed}
+use Rattle.pb_command.specs.FramesAnswer.{FrameRefusal, FramesAnswer, AreFrames, none, ended, frame_refused, input_failed}
 use Rattle.pb_command.specs.MessageAnswer.{MessageAnswer, faulty, read}
 use Rattle.pb_command.specs.RawAnswer.{RawAnswer}
 use Rattle.pb_files.specs.Known.{IsReadOf, OfFiles}
@@ -39,12 +39,12 @@ message_map H H' T T' form pool m a fault text (faulty {f} h e) = faulty (fault 
 message_map H H' T T' form pool m a fault text (read {v} h e) = read (text v h) e
 
 pub frames_map :
-    (A A' : Types → ℕ → List ℕ → Type 0) (S S' : Types → ℕ → ℕ → List ℕ → Fault → Type 0) (B B' : Types → ℕ → List ℕ → Type 0) (path : List ℕ)
+    (A A' : Types → ℕ → List ℕ → Type 0) (S S' : Types → ℕ → ℕ → List ℕ → FrameRefusal → Type 0) (B B' : Types → ℕ → List ℕ → Type 0) (path : List ℕ)
     (pool : Types) (m : ℕ) (a : Answer) → ((text : List ℕ) → A pool m text → A' pool m text)
-    → ((count : ℕ) (text : List ℕ) (f : Fault) → S pool m count text f → S' pool m count text f) → ((text : List ℕ) → B pool m text → B' pool m text)
+    → ((count : ℕ) (text : List ℕ) (r : FrameRefusal) → S pool m count text r → S' pool m count text r) → ((text : List ℕ) → B pool m text → B' pool m text)
     → FramesAnswer A S B path pool m a → FramesAnswer A' S' B' path pool m a
 frames_map A A' S S' B B' path pool m a all stops breaks (ended {text} h e) = ended (all text h) e
-frames_map A A' S S' B B' path pool m a all stops breaks (no_frame_there {count} {text} {f} h e) = no_frame_there (stops count text f h) e
+frames_map A A' S S' B B' path pool m a all stops breaks (frame_refused {count} {text} {r} h e) = frame_refused (stops count text r h) e
 frames_map A A' S S' B B' path pool m a all stops breaks (input_failed {text} h e) = input_failed (breaks text h) e
 
 pub all_map :
@@ -112,11 +112,11 @@ module _ {F : Type 0} (contents : F → Option FileMap) (is_steady : F → Bool)
     right_of_map (FromJson out source) a h =
         type_of_map _ _ source.reading source.type_name.now source.set.now source.file.now a
         (λ pool m. json_whole (rules_by source.reading) out.now pool m (map source.file.now) a (λ b known. known map honest)) h
-    right_of_map (Frames floats source) a h =
+    right_of_map (Frames form source) a h =
         type_of_map _ _ source.reading source.type_name.now source.set.now source.file.now a
-        (λ pool m. frames_map _ _ _ _ _ _ source.file.now pool m a (λ text known. known.1 map honest) (λ count text f known. known.1 map honest)
+        (λ pool m. frames_map _ _ _ _ _ _ source.file.now pool m a (λ text known. known.1 map honest) (λ count text r known. known.1 map honest)
         (λ text known. known.1 map honest)) h
-    right_of_map (AllFrames floats source) a h =
+    right_of_map (AllFrames form source) a h =
         type_of_map _ _ source.reading source.type_name.now source.set.now source.file.now a
         (λ pool m. all_map _ _ _ _ _ _ source.file.now pool m a (λ s known. known.1 map honest) (λ s f known. known.1 map honest) (λ s known. known.1 map honest)) h
     right_of_map (command.Types reading set name) a h = types_of_map reading set.now (option_map (λ n. n.now) name) a h
@@ -133,12 +133,12 @@ module _ {F : Type 0} (contents : F → Option FileMap) (is_steady : F → Bool)
     begun_of_map (command.Types reading set name) text h = h
     begun_of_map (Compile roots out names) text h = h
     begun_of_map (Compat comparison) text h = h
-    begun_of_map (Frames floats source) text (inl nothing) = inl nothing
-    begun_of_map (Frames floats source) text (inr h) =
+    begun_of_map (Frames form source) text (inl nothing) = inl nothing
+    begun_of_map (Frames form source) text (inr h) =
         let at = type_at source.reading source.type_name.now h.0 h.1 h.2 (map source.set.now) (h.3 map honest) h.4 in
         inr (at.0, h.1, h.2, sym at.1, at.2, h.6 map honest)
-    begun_of_map (AllFrames floats source) text (inl nothing) = inl nothing
-    begun_of_map (AllFrames floats source) text (inr (set, pool, m, of_set, has, begun)) =
+    begun_of_map (AllFrames form source) text (inl nothing) = inl nothing
+    begun_of_map (AllFrames form source) text (inr (set, pool, m, of_set, has, begun)) =
         let at = type_at source.reading source.type_name.now set pool m (map source.set.now) (of_set map honest) has in
         inr (at.0, pool, m, sym at.1, at.2, (begun.0, begun.1, begun.3 map honest))
 
@@ -160,10 +160,10 @@ module _ {F : Type 0} (contents : F → Option FileMap) (is_steady : F → Bool)
   right_of_any (FromJson out source) a h =
       type_any _ _ _ _ source.reading source.type_name.now source.set.now source.file.now a
       (λ pool m. json_any _ (rules_by source.reading) out.now pool m a) h
-  right_of_any (Frames floats source) a h =
+  right_of_any (Frames form source) a h =
       type_any _ _ _ _ source.reading source.type_name.now source.set.now source.file.now a
-      (λ pool m. frames_map _ _ _ _ _ _ source.file.now pool m a (λ text known. known.0) (λ count text f known. known.0) (λ text known. known.0)) h
-  right_of_any (AllFrames floats source) a h =
+      (λ pool m. frames_map _ _ _ _ _ _ source.file.now pool m a (λ text known. known.0) (λ count text r known. known.0) (λ text known. known.0)) h
+  right_of_any (AllFrames form source) a h =
       type_any _ _ _ _ source.reading source.type_name.now source.set.now source.file.now a
       (λ pool m. all_map _ _ _ _ _ _ source.file.now pool m a (λ s known. known.0) (λ s f known. known.0) (λ s known. known.0)) h
   right_of_any (command.Types reading set name) a h =
@@ -181,9 +181,9 @@ module _ {F : Type 0} (contents : F → Option FileMap) (is_steady : F → Bool)
   begun_of_any (command.Types reading set name) text h = h
   begun_of_any (Compile roots out names) text h = h
   begun_of_any (Compat comparison) text h = h
-  begun_of_any (Frames floats source) text (inl nothing) =
-      (record { files = []; messages = []; enums = [] }, 0, (0, subst (λ (t : List ℕ). AreFrames floats (record { files = []; messages = []; enums = [] }) 0 0 t) (sym nothing) none))
-  begun_of_any (Frames floats source) text (inr h) = (h.1, h.2, h.5)
-  begun_of_any (AllFrames floats source) text (inl nothing) =
+  begun_of_any (Frames form source) text (inl nothing) =
+      (record { files = []; messages = []; enums = [] }, 0, (0, subst (λ (t : List ℕ). AreFrames form (record { files = []; messages = []; enums = [] }) 0 0 t) (sym nothing) none))
+  begun_of_any (Frames form source) text (inr h) = (h.1, h.2, h.5)
+  begun_of_any (AllFrames form source) text (inl nothing) =
       (record { files = []; messages = []; enums = [] }, 0, none_passed, sym nothing, none_there)
-  begun_of_any (AllFrames floats source) text (inr (set, pool, m, of_set, has, begun)) = (pool, m, begun.0, begun.1, begun.2)
+  begun_of_any (AllFrames form source) text (inr (set, pool, m, of_set, has, begun)) = (pool, m, begun.0, begun.1, begun.2)

@@ -9,14 +9,12 @@ use Rattle.pb_schema.specs.Types.{Types}
 use Rattle.pb_value.specs.Data.{Message}
 use Rattle.pb_value.specs.Derives.{Text}
 use Rattle.pb_value.specs.WellFormed.{IsWellFormed}
-use Rattle.pb_stream.specs.Frame.{FrameFault}
 use Rattle.pb_files.specs.Answer.{Answer, Ends}
-use Rattle.pb_listing.specs.declared.form.FloatForm.{FloatForm}
 use Rattle.pb_command.specs.AllFrames.{AllAt, AllFramesAnswer, ArePassed, BegunAt, CutAt, Passed}
 use Rattle.pb_command.specs.CompatAnswer.{CompatAnswer}
 use Rattle.pb_command.specs.CompileAnswer.{CompileAnswer, places_of, texts_of}
 use Rattle.pb_files.specs.FileMap.{FileMap}
-use Rattle.pb_command.specs.FramesAnswer.{AreFrames, BeginsWith, FramesAnswer}
+use Rattle.pb_command.specs.FramesAnswer.{AreFrames, BeginsWith, FrameRefusal, FramesAnswer, IsRefusedFrame, MayBeRefused}
 use Rattle.pb_command.specs.FromJsonAnswer.{FromJsonAnswer, rules_by}
 use Rattle.pb_command.specs.MessageAnswer.{MessageAnswer}
 use Rattle.pb_command.specs.RawAnswer.{RawAnswer}
@@ -27,6 +25,7 @@ use Rattle.pb_command.specs.declared.command.Command.{Command}
 use Rattle.pb_command.specs.declared.command.Command.TheVariants.{Raw, Check, Show, Canon, Json, Frames, AllFrames, Compile}
 use Rattle.pb_command.specs.declared.command.Command.TheVariants.{Compat, FromJson}
 use Rattle.pb_command.specs.declared.command.Command.TheVariants as command
+use Rattle.pb_command.specs.declared.command.FrameForm.{FrameForm}
 use Rattle.pb_command.specs.declared.command.Source.{Source}
 use Rattle.pb_command.specs.declared.form.Form.{Form}
 use Rattle.pb_command.specs.declared.form.Form.TheVariants as form
@@ -47,21 +46,21 @@ module _ (content : Option (List ℕ)) where
   TextAt pool m v = (text : List ℕ) × (content ≡ Some text) × Text pool m full text v
 
   -- the bytes are frames with these lines
-  abbrev pub FramesAt : FloatForm → Types → ℕ → List ℕ → Type 0
-  FramesAt floats pool m text =
-      (input : List ℕ) × (content ≡ Some input) × (length input < 2 ^ 64 → (count : ℕ) × (offset : ℕ) × BeginsWith floats pool m input count offset text [])
+  abbrev pub FramesAt : FrameForm → Types → ℕ → List ℕ → Type 0
+  FramesAt form pool m text =
+      (input : List ℕ) × (content ≡ Some input) × (length input < 2 ^ 64 → (count : ℕ) × (offset : ℕ) × BeginsWith form pool m input count offset text [])
 
-  -- they begin with this number of frames with these lines, and what follows is no frame
-  abbrev pub FrameFaultAt : FloatForm → Types → ℕ → ℕ → List ℕ → Fault → Type 0
-  FrameFaultAt floats pool m count text f =
+  -- they begin with this number of frames with these lines, and the one that follows is refused
+  abbrev pub RefusedFrameAt : FrameForm → Types → ℕ → ℕ → List ℕ → FrameRefusal → Type 0
+  RefusedFrameAt form pool m count text r =
       (input : List ℕ) × (content ≡ Some input)
-      × (length input < 2 ^ 64 → (offset : ℕ) × (rest : List ℕ) × BeginsWith floats pool m input count offset text rest × FrameFault pool m full rest f)
+      × (length input < 2 ^ 64 → (offset : ℕ) × (rest : List ℕ) × BeginsWith form pool m input count offset text rest × IsRefusedFrame form pool m rest r)
 
   -- they begin with frames with these lines
-  abbrev pub FramesBegunAt : FloatForm → Types → ℕ → List ℕ → Type 0
-  FramesBegunAt floats pool m text =
+  abbrev pub FramesBegunAt : FrameForm → Types → ℕ → List ℕ → Type 0
+  FramesBegunAt form pool m text =
       (input : List ℕ) × (content ≡ Some input)
-      × (length input < 2 ^ 64 → (count : ℕ) × (offset : ℕ) × (rest : List ℕ) × BeginsWith floats pool m input count offset text rest)
+      × (length input < 2 ^ 64 → (count : ℕ) × (offset : ℕ) × (rest : List ℕ) × BeginsWith form pool m input count offset text rest)
 
 module _ (map : FileMap) where
   abbrev pub MessageComesTo : Form → Source → Answer → Type 0
@@ -74,16 +73,16 @@ module _ (map : FileMap) where
       TypeAnswer (λ content. content ≡ map s.set.now) (map s.file.now ≡ None) (FromJsonAnswer (λ b. Some b ≡ map s.file.now) (rules_by s.reading) out)
       s.reading s.type_name.now s.set.now s.file.now
 
-  abbrev pub FramesComeTo : FloatForm → Source → Answer → Type 0
-  FramesComeTo floats s =
+  abbrev pub FramesComeTo : FrameForm → Source → Answer → Type 0
+  FramesComeTo form s =
       TypeAnswer (λ content. content ≡ map s.set.now) (map s.file.now ≡ None)
-      (FramesAnswer (FramesAt (map s.file.now) floats) (FrameFaultAt (map s.file.now) floats) (λ pool m text. ⊥) s.file.now)
+      (FramesAnswer (FramesAt (map s.file.now) form) (RefusedFrameAt (map s.file.now) form) (λ pool m text. ⊥) s.file.now)
       s.reading s.type_name.now s.set.now s.file.now
 
-  abbrev pub AllFramesComeTo : FloatForm → Source → Answer → Type 0
-  AllFramesComeTo floats s =
+  abbrev pub AllFramesComeTo : FrameForm → Source → Answer → Type 0
+  AllFramesComeTo form s =
       TypeAnswer (λ content. content ≡ map s.set.now) (map s.file.now ≡ None)
-      (AllFramesAnswer (AllAt (map s.file.now) floats) (CutAt (map s.file.now) floats) (λ pool m passed. ⊥) s.file.now)
+      (AllFramesAnswer (AllAt (map s.file.now) form) (CutAt (map s.file.now) form) (λ pool m passed. ⊥) s.file.now)
       s.reading s.type_name.now s.set.now s.file.now
 
   abbrev pub Answers : Command → Answer → Type 0
@@ -93,8 +92,8 @@ module _ (map : FileMap) where
   Answers (Canon to source) = MessageComesTo (canonical_form to) source
   Answers (Json layout source) = MessageComesTo (form.Json layout) source
   Answers (FromJson out source) = JsonReadsTo out.now source
-  Answers (Frames floats source) = FramesComeTo floats source
-  Answers (AllFrames floats source) = AllFramesComeTo floats source
+  Answers (Frames form source) = FramesComeTo form source
+  Answers (AllFrames form source) = AllFramesComeTo form source
   Answers (command.Types reading set name) = TypesAnswer (λ content. content ≡ map set.now) reading set.now (option_map (λ n. n.now) name)
   Answers (Compile roots out names) = CompileAnswer (λ path content. content ≡ map path) (λ path. ⊥) (places_of roots) out.now (texts_of names.now)
   Answers (Compat comparison) = CompatAnswer (λ path content. content ≡ map path) comparison
@@ -110,14 +109,14 @@ module _ (map : FileMap) where
   Begins (command.Types reading set name) text = text ≡ []
   Begins (Compile roots out names) text = text ≡ []
   Begins (Compat comparison) text = text ≡ []
-  Begins (Frames floats source) text =
+  Begins (Frames form source) text =
       (text ≡ [])
       ⊎ ((set : List ℕ) × (pool : Types) × (m : ℕ) × (map source.set.now ≡ Some set) × HasType source.reading source.type_name.now set pool m
-      × FramesBegunAt (map source.file.now) floats pool m text)
-  Begins (AllFrames floats source) text =
+      × FramesBegunAt (map source.file.now) form pool m text)
+  Begins (AllFrames form source) text =
       (text ≡ [])
       ⊎ ((set : List ℕ) × (pool : Types) × (m : ℕ) × (map source.set.now ≡ Some set) × HasType source.reading source.type_name.now set pool m
-      × ((s : Passed) × (s.text ≡ text) × BegunAt (map source.file.now) floats pool m s))
+      × ((s : Passed) × (s.text ≡ text) × BegunAt (map source.file.now) form pool m s))
 
 -- OVER ANY FILES, also those that report nothing of what they hold
 
@@ -128,17 +127,21 @@ AnyMessage form s =
 abbrev pub AnyReading : List ℕ → Source → Answer → Type 0
 AnyReading out s = TypeAnswer (λ content. ⊤) ⊤ (FromJsonAnswer (λ b. ⊤) (rules_by s.reading) out) s.reading s.type_name.now s.set.now s.file.now
 
-abbrev pub AnyFrames : FloatForm → Types → ℕ → List ℕ → Type 0
-AnyFrames floats pool m text = (count : ℕ) × AreFrames floats pool m count text
+abbrev pub AnyFrames : FrameForm → Types → ℕ → List ℕ → Type 0
+AnyFrames form pool m text = (count : ℕ) × AreFrames form pool m count text
 
-abbrev pub AnyStream : FloatForm → Source → Answer → Type 0
-AnyStream floats s =
-    TypeAnswer (λ content. ⊤) ⊤ (FramesAnswer (AnyFrames floats) (λ pool m count text f. AreFrames floats pool m count text) (AnyFrames floats) s.file.now)
+-- these many frames, and one that is refused
+abbrev pub AnyRefusal : FrameForm → Types → ℕ → ℕ → List ℕ → FrameRefusal → Type 0
+AnyRefusal form pool m count text r = AreFrames form pool m count text × MayBeRefused form pool m r
+
+abbrev pub AnyStream : FrameForm → Source → Answer → Type 0
+AnyStream form s =
+    TypeAnswer (λ content. ⊤) ⊤ (FramesAnswer (AnyFrames form) (AnyRefusal form) (AnyFrames form) s.file.now)
     s.reading s.type_name.now s.set.now s.file.now
 
-abbrev pub AnyAllFrames : FloatForm → Source → Answer → Type 0
-AnyAllFrames floats s =
-    TypeAnswer (λ content. ⊤) ⊤ (AllFramesAnswer (ArePassed floats) (λ pool m passed f. ArePassed floats pool m passed) (ArePassed floats) s.file.now)
+abbrev pub AnyAllFrames : FrameForm → Source → Answer → Type 0
+AnyAllFrames form s =
+    TypeAnswer (λ content. ⊤) ⊤ (AllFramesAnswer (ArePassed form) (λ pool m passed f. ArePassed form pool m passed) (ArePassed form) s.file.now)
     s.reading s.type_name.now s.set.now s.file.now
 
 -- the answer has the form of one: of raw records it is that of some bytes, of sources that of some at each path, of comparisons that of some sets, and
@@ -150,8 +153,8 @@ AnyAnswers (Show floats source) a = AnyMessage (form.Listing floats) source a
 AnyAnswers (Canon to source) a = AnyMessage (canonical_form to) source a
 AnyAnswers (Json layout source) a = AnyMessage (form.Json layout) source a
 AnyAnswers (FromJson out source) a = AnyReading out.now source a
-AnyAnswers (Frames floats source) a = AnyStream floats source a
-AnyAnswers (AllFrames floats source) a = AnyAllFrames floats source a
+AnyAnswers (Frames form source) a = AnyStream form source a
+AnyAnswers (AllFrames form source) a = AnyAllFrames form source a
 AnyAnswers (command.Types reading set name) a = TypesAnswer (λ content. ⊤) reading set.now (option_map (λ n. n.now) name) a
 AnyAnswers (Compile roots out names) a = CompileAnswer (λ path content. ⊤) (λ path. ⊤) (places_of roots) out.now (texts_of names.now) a
 AnyAnswers (Compat comparison) a = CompatAnswer (λ path content. ⊤) comparison a
@@ -166,8 +169,8 @@ AnyBegins (FromJson out source) text = text ≡ []
 AnyBegins (command.Types reading set name) text = text ≡ []
 AnyBegins (Compile roots out names) text = text ≡ []
 AnyBegins (Compat comparison) text = text ≡ []
-AnyBegins (Frames floats source) text = (pool : Types) × (m : ℕ) × AnyFrames floats pool m text
-AnyBegins (AllFrames floats source) text = (pool : Types) × (m : ℕ) × (s : Passed) × (s.text ≡ text) × ArePassed floats pool m s
+AnyBegins (Frames form source) text = (pool : Types) × (m : ℕ) × AnyFrames form pool m text
+AnyBegins (AllFrames form source) text = (pool : Types) × (m : ℕ) × (s : Passed) × (s.text ≡ text) × ArePassed form pool m s
 
 -- THE END OF A RUN
 

@@ -4,13 +4,13 @@ use Rattle.pb_schema.specs.Types.{Types}
 use Rattle.pb_files.specs.Answer.{Answer, done, stopped, broken}
 use Rattle.pb_files.specs.Known.{OfInput}
 use Rattle.pb_files.specs.Refusal.{ByRefusal}
-use Rattle.pb_listing.specs.declared.form.FloatForm.{FloatForm}
 use Rattle.pb_output.specs.Sink.{Puts}
 use Rattle.pb_output.specs.declared.sink.Sink.{Sink}
 use Rattle.pb_command.specs.AllFrames.{AllBegunBy, AllFramesBy, ArePassed, Passed, Passes, concluded}
 use Rattle.pb_command.specs.declared.all_frames.Progress.{Progress}
 use Rattle.pb_command.specs.declared.all_frames.Turn.{Turn}
 use Rattle.pb_command.specs.declared.all_frames.Turn.TheVariants.{GoesOn, Ends, Stops}
+use Rattle.pb_command.specs.declared.command.FrameForm.{FrameForm}
 use Rattle.pb_files.specs.declared.report.Refusal.{Refusal}
 use Rattle.pb_files.specs.declared.report.Refusal.TheVariants.{Frames, Memory}
 
@@ -29,21 +29,21 @@ module _
 
 -- these frames were read of an input
 pub record HasPassed
-    {I : Type 0} (left : I → Option (List ℕ)) (is_steady : I → Bool) (start now : I) (floats : FloatForm) (pool : Types) (m : ℕ) (s : Passed) : Type 0 where
-  pub passed : ArePassed floats pool m s
+    {I : Type 0} (left : I → Option (List ℕ)) (is_steady : I → Bool) (start now : I) (form : FrameForm) (pool : Types) (m : ℕ) (s : Passed) : Type 0 where
+  pub passed : ArePassed form pool m s
   pub steady : is_steady start ≡ true → is_steady now ≡ true
   pub known :
       (input : List ℕ) → left start ≡ Some input → length input < 2 ^ 64
-      → (rest : List ℕ) × (left now ≡ Some rest) × Passes floats pool m input s rest × (s.offset + length rest ≡ length input)
+      → (rest : List ℕ) × (left now ≡ Some rest) × Passes form pool m input s rest × (s.offset + length rest ≡ length input)
 
 module _
     {D I : Type 0} (written : D → Option (List ℕ)) (failures : D → ℕ) (left : I → Option (List ℕ)) (is_steady : I → Bool) (old new : D) (a b : Sink)
-    (start now : I) (floats : FloatForm) (pool : Types) (m : ℕ) where
+    (start now : I) (form : FrameForm) (pool : Types) (m : ℕ) where
   -- this number of frames was read, and their lines were put
   pub record IsGoing (index : ℕ) (p : Progress) : Type 0 where
     pub state : Passed
     pub put : Puts written failures old new a b state.text
-    pub read : HasPassed left is_steady start now floats pool m state
+    pub read : HasPassed left is_steady start now form pool m state
     pub count : state.count ≡ index
     pub refused : state.refused ≡ p.refused
     pub offset : state.offset ≡ p.offset
@@ -53,7 +53,7 @@ module _
   pub record IsOver (path : List ℕ) (count : ℕ) (p : Progress) : Type 0 where
     pub state : Passed
     pub put : Puts written failures old new a b state.text
-    pub right : AllFramesBy (OfInput left is_steady start) floats path pool m (concluded state)
+    pub right : AllFramesBy (OfInput left is_steady start) form path pool m (concluded state)
     pub counted : state.count ≡ count
     pub refused : state.refused ≡ p.refused
     pub lines : state.lines ≡ p.lines.items
@@ -63,7 +63,7 @@ module _
   TurnIs index p path GoesOn = IsGoing (index + 1) p
   TurnIs index p path (Ends count) = IsOver path count p
   TurnIs index p path (Stops e) =
-      PutsRefusal written failures old new a b (AllFramesBy (OfInput left is_steady start) floats path pool m) (AllBegunBy (OfInput left is_steady start) floats pool m) e
+      PutsRefusal written failures old new a b (AllFramesBy (OfInput left is_steady start) form path pool m) (AllBegunBy (OfInput left is_steady start) form pool m) e
 
 -- where this number of frames was read: nothing is refused, or these lines report it
 abbrev pub Concludes : List ℕ → ℕ → ℕ → Result Unit Refusal → Type 0

@@ -14,13 +14,12 @@ use Rattle.pb_json.specs.declared.form.Layout.{Layout}
 use Rattle.pb_json_read.specs.declared.rules.JsonRules.{JsonRules}
 use Rattle.pb_decl.specs.Decls.{DeclaredFile}
 use Rattle.pb_files.specs.Answer.{Answer, stopped, broken, device_failed, IsPrinted}
-use Rattle.pb_listing.specs.declared.form.FloatForm.{FloatForm}
-use Rattle.pb_command.specs.Answers.{FaultAt, TextAt, FramesAt, FrameFaultAt, FramesBegunAt, AnyFrames, canonical_form}
+use Rattle.pb_command.specs.Answers.{FaultAt, TextAt, FramesAt, RefusedFrameAt, FramesBegunAt, AnyFrames, AnyRefusal, canonical_form}
 use Rattle.pb_command.specs.AllFrames.{AllBegunBy, AllFramesBy}
 use Rattle.pb_command.specs.CompatAnswer.{CompatAnswer}
 use Rattle.pb_command.specs.CompileAnswer.{CompileAnswer, places_of, texts_of, told_of}
 use Rattle.pb_files.specs.FileMap.{FileMap, IsHonest}
-use Rattle.pb_command.specs.FramesAnswer.{AreFrames, FramesAnswer}
+use Rattle.pb_command.specs.FramesAnswer.{FramesAnswer}
 use Rattle.pb_command.specs.Gathering.{Gathered, GathersUnder, HasTroubleUnder, IsAbsentUnder, DeclaresUnder, Places, Origin, Outcome, Trouble, stopped_at}
 use Rattle.pb_command.specs.FromJsonAnswer.{FromJsonAnswer, rules_by}
 use Rattle.pb_command.specs.MessageAnswer.{MessageAnswer}
@@ -39,6 +38,7 @@ use Rattle.pb_command.specs.declared.command.Command.TheVariants.{Raw, Check, Sh
 use Rattle.pb_command.specs.declared.command.Command.TheVariants.{Compat, FromJson}
 use Rattle.pb_command.specs.declared.command.Command.TheVariants as command
 use Rattle.pb_command.specs.declared.command.Comparison.{Comparison}
+use Rattle.pb_command.specs.declared.command.FrameForm.{FrameForm}
 use Rattle.pb_command.specs.declared.command.RawForm.{RawForm}
 use Rattle.pb_command.specs.declared.command.Source.{Source}
 use Rattle.pb_command.specs.declared.form.Form.{Form}
@@ -110,24 +110,24 @@ module _ {F : Type 0} (contents : F → Option FileMap) (is_steady : F → Bool)
       IsMissing path a ⊎ FromJsonAnswer (λ b. IsReadOf contents is_steady files (full.bytes + 1) path (Some b)) rules out pool m a
 
   -- or its frames are shown
-  abbrev pub StreamAt : FloatForm → Types → ℕ → List ℕ → Answer → Type 0
-  StreamAt floats pool m path a =
+  abbrev pub StreamAt : FrameForm → Types → ℕ → List ℕ → Answer → Type 0
+  StreamAt form pool m path a =
       IsMissing path a
-      ⊎ FramesAnswer (λ pool m text. AnyFrames floats pool m text × OfFiles contents is_steady files path (λ content. FramesAt content floats pool m text))
-      (λ pool m count text f. AreFrames floats pool m count text × OfFiles contents is_steady files path (λ content. FrameFaultAt content floats pool m count text f))
-      (λ pool m text. AnyFrames floats pool m text × OfFiles contents is_steady files path (λ content. ⊥)) path pool m a
+      ⊎ FramesAnswer (λ pool m text. AnyFrames form pool m text × OfFiles contents is_steady files path (λ content. FramesAt content form pool m text))
+      (λ pool m count text r. AnyRefusal form pool m count text r × OfFiles contents is_steady files path (λ content. RefusedFrameAt content form pool m count text r))
+      (λ pool m text. AnyFrames form pool m text × OfFiles contents is_steady files path (λ content. ⊥)) path pool m a
 
   -- what is printed of them before that is known
-  abbrev pub StreamBegunAt : FloatForm → Types → ℕ → List ℕ → List ℕ → Type 0
-  StreamBegunAt floats pool m path text =
-      (text ≡ []) ⊎ (AnyFrames floats pool m text × OfFiles contents is_steady files path (λ content. FramesBegunAt content floats pool m text))
+  abbrev pub StreamBegunAt : FrameForm → Types → ℕ → List ℕ → List ℕ → Type 0
+  StreamBegunAt form pool m path text =
+      (text ≡ []) ⊎ (AnyFrames form pool m text × OfFiles contents is_steady files path (λ content. FramesBegunAt content form pool m text))
 
   -- or all its frames are
-  abbrev pub AllFramesAtPath : FloatForm → Types → ℕ → List ℕ → Answer → Type 0
-  AllFramesAtPath floats pool m path a = IsMissing path a ⊎ AllFramesBy (OfFiles contents is_steady files path) floats path pool m a
+  abbrev pub AllFramesAtPath : FrameForm → Types → ℕ → List ℕ → Answer → Type 0
+  AllFramesAtPath form pool m path a = IsMissing path a ⊎ AllFramesBy (OfFiles contents is_steady files path) form path pool m a
 
-  abbrev pub AllBegunAtPath : FloatForm → Types → ℕ → List ℕ → List ℕ → Type 0
-  AllBegunAtPath floats pool m path text = (text ≡ []) ⊎ AllBegunBy (OfFiles contents is_steady files path) floats pool m text
+  abbrev pub AllBegunAtPath : FrameForm → Types → ℕ → List ℕ → List ℕ → Type 0
+  AllBegunAtPath form pool m path text = (text ≡ []) ⊎ AllBegunBy (OfFiles contents is_steady files path) form pool m text
 
   -- COMMANDS
 
@@ -147,33 +147,33 @@ module _ {F : Type 0} (contents : F → Option FileMap) (is_steady : F → Bool)
       s.reading s.type_name.now s.set.now s.file.now
 
   -- what `frames` answers
-  abbrev pub StreamOf : FloatForm → Source → Answer → Type 0
-  StreamOf floats s =
+  abbrev pub StreamOf : FrameForm → Source → Answer → Type 0
+  StreamOf form s =
       TypeAnswer (IsReadOf contents is_steady files (full.bytes + 1) s.set.now) (OfFiles contents is_steady files s.file.now (λ content. content ≡ None))
-      (FramesAnswer (λ pool m text. AnyFrames floats pool m text × OfFiles contents is_steady files s.file.now (λ content. FramesAt content floats pool m text))
-      (λ pool m count text f. AreFrames floats pool m count text × OfFiles contents is_steady files s.file.now (λ content. FrameFaultAt content floats pool m count text f))
-      (λ pool m text. AnyFrames floats pool m text × OfFiles contents is_steady files s.file.now (λ content. ⊥)) s.file.now)
+      (FramesAnswer (λ pool m text. AnyFrames form pool m text × OfFiles contents is_steady files s.file.now (λ content. FramesAt content form pool m text))
+      (λ pool m count text r. AnyRefusal form pool m count text r × OfFiles contents is_steady files s.file.now (λ content. RefusedFrameAt content form pool m count text r))
+      (λ pool m text. AnyFrames form pool m text × OfFiles contents is_steady files s.file.now (λ content. ⊥)) s.file.now)
       s.reading s.type_name.now s.set.now s.file.now
 
   -- what `frames` prints before that is known
-  abbrev pub StreamBegun : FloatForm → Source → List ℕ → Type 0
-  StreamBegun floats s text =
+  abbrev pub StreamBegun : FrameForm → Source → List ℕ → Type 0
+  StreamBegun form s text =
       (text ≡ [])
       ⊎ ((set : List ℕ) × (pool : Types) × (m : ℕ) × IsReadOf contents is_steady files (full.bytes + 1) s.set.now (Some set)
-      × HasType s.reading s.type_name.now set pool m × AnyFrames floats pool m text × OfFiles contents is_steady files s.file.now (λ content. FramesBegunAt content floats pool m text))
+      × HasType s.reading s.type_name.now set pool m × AnyFrames form pool m text × OfFiles contents is_steady files s.file.now (λ content. FramesBegunAt content form pool m text))
 
   -- what `frames --keep-going` answers
-  abbrev pub AllFramesOf : FloatForm → Source → Answer → Type 0
-  AllFramesOf floats s =
+  abbrev pub AllFramesOf : FrameForm → Source → Answer → Type 0
+  AllFramesOf form s =
       TypeAnswer (IsReadOf contents is_steady files (full.bytes + 1) s.set.now) (OfFiles contents is_steady files s.file.now (λ content. content ≡ None))
-      (AllFramesBy (OfFiles contents is_steady files s.file.now) floats s.file.now) s.reading s.type_name.now s.set.now s.file.now
+      (AllFramesBy (OfFiles contents is_steady files s.file.now) form s.file.now) s.reading s.type_name.now s.set.now s.file.now
 
   -- what it prints before that is known
-  abbrev pub AllBegunOf : FloatForm → Source → List ℕ → Type 0
-  AllBegunOf floats s text =
+  abbrev pub AllBegunOf : FrameForm → Source → List ℕ → Type 0
+  AllBegunOf form s text =
       (text ≡ [])
       ⊎ ((set : List ℕ) × (pool : Types) × (m : ℕ) × IsReadOf contents is_steady files (full.bytes + 1) s.set.now (Some set)
-      × HasType s.reading s.type_name.now set pool m × AllBegunBy (OfFiles contents is_steady files s.file.now) floats pool m text)
+      × HasType s.reading s.type_name.now set pool m × AllBegunBy (OfFiles contents is_steady files s.file.now) form pool m text)
 
   -- what `types` answers
   abbrev pub TypesOf : Reading → List ℕ → Option (List ℕ) → Answer → Type 0
@@ -220,8 +220,8 @@ module _ {F : Type 0} (contents : F → Option FileMap) (is_steady : F → Bool)
   RightOf (Canon to source) a = MessageOf (canonical_form to) source a
   RightOf (Json layout source) a = MessageOf (form.Json layout) source a
   RightOf (FromJson out source) a = JsonReadOf out.now source a
-  RightOf (Frames floats source) a = StreamOf floats source a
-  RightOf (AllFrames floats source) a = AllFramesOf floats source a
+  RightOf (Frames form source) a = StreamOf form source a
+  RightOf (AllFrames form source) a = AllFramesOf form source a
   RightOf (command.Types reading set name) a = TypesOf reading set.now (option_map (λ n. n.now) name) a
   RightOf (Compile roots out names) a = CompileOf (places_of roots) out.now (texts_of names.now) a
   RightOf (Compat comparison) a = CompatOf comparison a
@@ -233,8 +233,8 @@ module _ {F : Type 0} (contents : F → Option FileMap) (is_steady : F → Bool)
   BegunOf (Canon to source) text = IsNothing text
   BegunOf (Json layout source) text = IsNothing text
   BegunOf (FromJson out source) text = IsNothing text
-  BegunOf (Frames floats source) text = StreamBegun floats source text
-  BegunOf (AllFrames floats source) text = AllBegunOf floats source text
+  BegunOf (Frames form source) text = StreamBegun form source text
+  BegunOf (AllFrames form source) text = AllBegunOf form source text
   BegunOf (command.Types reading set name) text = IsNothing text
   BegunOf (Compile roots out names) text = IsNothing text
   BegunOf (Compat comparison) text = IsNothing text

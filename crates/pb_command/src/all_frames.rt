@@ -4,8 +4,9 @@ ghost use Rattle.std.specs.Prelude.{◌≡◌, ◌+◌, ◌-◌, ◌++◌, ◌<�
 ghost use Rattle.pb_files.specs.FileMap.{IsSaved, IsUnsaved};
 ghost use Rattle.pb_files.specs.Known.{OfInput};
 ghost use Rattle.pb_files.specs.Refusal.{KeepsFailures, refusal_line};
-ghost use Rattle.pb_files.specs.Report.{frame_fault_line};
+ghost use Rattle.pb_files.specs.Report.{frame_fault_line, frame_json_line};
 ghost use Rattle.pb_frames.specs.Next.{fault_of};
+ghost use Rattle.pb_json.specs.declared.error.Refusal.{Refusal as JsonRefusal};
 ghost use Rattle.pb_output.specs.Sending.{Cut, Sent};
 ghost use Rattle.pb_output.specs.declared.sink.Sink.{Sink as Sunk};
 ghost use Rattle.pb_command.specs.AllFrames.{AllBegunBy, AllFramesBy};
@@ -13,11 +14,11 @@ ghost use Rattle.pb_command.specs.PassingOn.{Concludes, IsGoing, PutsAnswer, Tur
 ghost use Rattle.pb_command.specs.Steps.{AllBegunAtPath, AllBegunOf, AllFramesAtPath, AllFramesOf, Comes, NoFile};
 
 use crate::afterwards::{Afterwards, part_with};
-use crate::command::Source;
+use crate::command::{FrameForm, Source};
 use crate::frames::put_frame;
 use pb_files::{Files, OUTPUT, Refusal, find_type, open_file};
 use pb_frames::{NextFrame, Reason, next_frame};
-use pb_listing::FloatForm;
+use pb_json::JsonError;
 use pb_output::Sink;
 use pb_schema::{MessageId, Pool};
 use pb_wire::{FailurePlan, Input, Limits, MemOutput, Output, ReadFault};
@@ -27,7 +28,7 @@ use std::alloc::{AllocError, Global};
 #[derive(Drop)]
 struct Stream<'p, 'a> {
     alloc: Global,
-    floats: FloatForm,
+    form: FrameForm,
     pool: &'p Pool,
     message_type: MessageId,
     path: &'a str,
@@ -58,14 +59,14 @@ enum Turn<'a> {
 pub fn all_frames<'a, F: Files, O: Output>(
     alloc: Global,
     afterwards: Afterwards,
-    floats: FloatForm,
+    form: FrameForm,
     source: &Source<'a>,
     files: &mut F,
     out: &mut O,
 ) -> Result<(), Refusal<'a>>
     ensures comes { Comes (Sent O.written O.failures out.old out.new) (Cut O.written O.failures out.old out.new)
         (IsSaved F.contents files.old files.new) (IsUnsaved F.contents F.failures files.old files.new)
-        (AllFramesOf F.contents F.is_steady files.old floats source.now) (AllBegunOf F.contents F.is_steady files.old floats source.now) result }
+        (AllFramesOf F.contents F.is_steady files.old form source.now) (AllBegunOf F.contents F.is_steady files.old form source.now) result }
     ensures kept { KeepsFailures F.failures files.old files.new result }
     ensures unfailing { F.is_steady files.old ≡ true → F.failures files.new ≡ F.failures files.old }
 {
@@ -76,7 +77,7 @@ pub fn all_frames<'a, F: Files, O: Output>(
         source.type_name,
         files,
     )?;
-    let answer = all_frames_at(alloc, floats, &pool, message_type, source.file, files, out);
+    let answer = all_frames_at(alloc, form, &pool, message_type, source.file, files, out);
     part_with(pool, afterwards);
     answer
 }
@@ -84,7 +85,7 @@ pub fn all_frames<'a, F: Files, O: Output>(
 /// Shows the messages of a type that the file at a path holds.
 fn all_frames_at<'a, F: Files, O: Output>(
     alloc: Global,
-    floats: FloatForm,
+    form: FrameForm,
     pool: &Pool,
     message_type: MessageId,
     path: &'a str,
@@ -94,15 +95,15 @@ fn all_frames_at<'a, F: Files, O: Output>(
     requires { message_type.0 < length pool.now.messages }
     ensures comes { Comes (Sent O.written O.failures out.old out.new) (Cut O.written O.failures out.old out.new)
         (IsSaved F.contents files.old files.new) (IsUnsaved F.contents F.failures files.old files.new)
-        (AllFramesAtPath F.contents F.is_steady files.old floats pool.now message_type.0 path.entry.now)
-        (AllBegunAtPath F.contents F.is_steady files.old floats pool.now message_type.0 path.entry.now) result }
+        (AllFramesAtPath F.contents F.is_steady files.old form pool.now message_type.0 path.entry.now)
+        (AllBegunAtPath F.contents F.is_steady files.old form pool.now message_type.0 path.entry.now) result }
     ensures kept { KeepsFailures F.failures files.old files.new result }
     ensures unfailing { F.is_steady files.old ≡ true → F.failures files.new ≡ F.failures files.old }
 {
     let mut input = open_file(path, files)?;
     let stream = Stream {
         alloc,
-        floats,
+        form,
         pool,
         message_type,
         path,
@@ -117,8 +118,8 @@ fn write_all_frames<'a, I: Input, O: Output>(
     out: &mut O,
 ) -> Result<(), Refusal<'a>>
     ensures { Comes (Sent O.written O.failures out.old out.new) (Cut O.written O.failures out.old out.new) NoFile (λ _. ⊥)
-        (AllFramesBy (OfInput I.left I.is_steady input.old) stream.now.floats stream.now.path.now stream.now.pool.now stream.now.message_type.0)
-        (AllBegunBy (OfInput I.left I.is_steady input.old) stream.now.floats stream.now.pool.now stream.now.message_type.0) result }
+        (AllFramesBy (OfInput I.left I.is_steady input.old) stream.now.form stream.now.path.now stream.now.pool.now stream.now.message_type.0)
+        (AllBegunBy (OfInput I.left I.is_steady input.old) stream.now.form stream.now.pool.now stream.now.message_type.0) result }
 {
     let mut sink = Sink::new();
     let outcome = put_all_frames(&mut sink, out, stream, input);
@@ -136,8 +137,8 @@ fn put_all_frames<'a, I: Input, O: Output>(
     input: &mut I,
 ) -> Result<(), Refusal<'a>>
     ensures { PutsAnswer O.written O.failures out.old out.new sink.old sink.new
-        (AllFramesBy (OfInput I.left I.is_steady input.old) stream.now.floats stream.now.path.now stream.now.pool.now stream.now.message_type.0)
-        (AllBegunBy (OfInput I.left I.is_steady input.old) stream.now.floats stream.now.pool.now stream.now.message_type.0) result }
+        (AllFramesBy (OfInput I.left I.is_steady input.old) stream.now.form stream.now.path.now stream.now.pool.now stream.now.message_type.0)
+        (AllBegunBy (OfInput I.left I.is_steady input.old) stream.now.form stream.now.pool.now stream.now.message_type.0) result }
 {
     let mut progress = Progress {
         offset: 0,
@@ -169,9 +170,9 @@ fn put_turn<'a, I: Input, O: Output>(
     requires more { index < 2 ^ 64 - 1 }
     requires few { progress.old.refused ≤ index }
     ensures { (d : O) (a : Sunk) (i : I) → IsGoing O.written O.failures I.left I.is_steady d out.old a sink.old i input.old
-        stream.now.floats stream.now.pool.now stream.now.message_type.0 index progress.old
+        stream.now.form stream.now.pool.now stream.now.message_type.0 index progress.old
         → TurnIs O.written O.failures I.left I.is_steady d out.new a sink.new i input.new
-        stream.now.floats stream.now.pool.now stream.now.message_type.0 index progress.new stream.now.path.now result }
+        stream.now.form stream.now.pool.now stream.now.message_type.0 index progress.new stream.now.path.now result }
 {
     let offset = progress.offset;
     match next_frame(
@@ -186,9 +187,16 @@ fn put_turn<'a, I: Input, O: Output>(
         Ok(NextFrame::End) => Turn::Ends(index),
         Ok(NextFrame::Message { message, size }) => {
             let _body = message.body();
-            put_frame(sink, out, stream.floats, index, offset, size, &message);
-            progress.offset = offset.saturating_add(size);
-            Turn::GoesOn
+            match put_frame(sink, out, stream.form, index, offset, size, &message) {
+                Ok(()) => {
+                    progress.offset = offset.saturating_add(size);
+                    Turn::GoesOn
+                }
+                Err(error) => match progress.report_formless(stream.alloc, index, size, error) {
+                    Ok(()) => Turn::GoesOn,
+                    Err(refusal) => Turn::Stops(refusal),
+                },
+            }
         }
         Ok(NextFrame::Refused { reason, size }) => {
             match progress.report(stream.alloc, index, size, reason) {
@@ -224,7 +232,49 @@ impl Progress {
             path: reason.path,
             cause: reason.cause,
         };
-        append_line(alloc, &mut self.lines, &refusal)?;
+        self.pass_over(alloc, size, &refusal)
+    }
+
+    /// Reports the frame of an index, of this number of bytes, whose message is not written as JSON.
+    fn report_formless<'a>(
+        &mut self,
+        alloc: Global,
+        index: u64,
+        size: u64,
+        error: JsonError,
+    ) -> Result<(), Refusal<'a>>
+        requires { self.old.refused < 2 ^ 64 - 1 }
+        ensures reported { OnOk result ((refusal : JsonRefusal) × (error ≡ JsonError.Refused refusal)
+            × (self.new.lines.items ≡ self.old.lines.items ++ frame_json_line index refusal.path.items refusal.cause)) }
+        ensures refused { OnOk result (self.new.refused ≡ self.old.refused + 1) }
+        ensures offset { OnOk result (self.new.offset ≡ min (self.old.offset + size) (2 ^ 64 - 1)) }
+        ensures memory { IfErr result (λ e. e ≡ Refusal.Memory) }
+    {
+        let JsonError::Refused(found) = error else {
+            return Err(Refusal::Memory);
+        };
+        let refusal = Refusal::FrameJson {
+            index,
+            path: found.path,
+            cause: found.cause,
+        };
+        self.pass_over(alloc, size, &refusal)
+    }
+
+    /// Passes over a frame of this number of bytes, and reports why it is refused.
+    fn pass_over<'a>(
+        &mut self,
+        alloc: Global,
+        size: u64,
+        refusal: &Refusal<'_>,
+    ) -> Result<(), Refusal<'a>>
+        requires { self.old.refused < 2 ^ 64 - 1 }
+        ensures reported { OnOk result (self.new.lines.items ≡ self.old.lines.items ++ refusal_line refusal.now) }
+        ensures refused { OnOk result (self.new.refused ≡ self.old.refused + 1) }
+        ensures offset { OnOk result (self.new.offset ≡ min (self.old.offset + size) (2 ^ 64 - 1)) }
+        ensures memory { IfErr result (λ e. e ≡ Refusal.Memory) }
+    {
+        append_line(alloc, &mut self.lines, refusal)?;
         self.refused += 1;
         self.offset = self.offset.saturating_add(size);
         Ok(())

@@ -46,6 +46,15 @@ pub enum RawForm {
     Shortest,
 }
 
+/// How the messages of a stream are printed.
+#[derive(Clone, Copy, Debug, PartialEq, Eq)]
+pub enum FrameForm {
+    /// Each as a line that says where its frame is, and its listing, with floats in a form.
+    Listing(FloatForm),
+    /// Each as its JSON text on one line.
+    Json,
+}
+
 /// A command with its values.
 #[derive(Clone, Copy, Debug, PartialEq, Eq)]
 pub enum Command<'a> {
@@ -79,14 +88,14 @@ pub enum Command<'a> {
         out: &'a str,
         source: Source<'a>,
     },
-    /// Shows the messages of a file, each after its length, with their floats in a form.
+    /// Shows the messages of a file, each after its length, in a form.
     Frames {
-        floats: FloatForm,
+        form: FrameForm,
         source: Source<'a>,
     },
     /// Shows the messages of a file as `Frames` does, but passes over those that are refused, and reports them at the end.
     AllFrames {
-        floats: FloatForm,
+        form: FrameForm,
         source: Source<'a>,
     },
     /// Shows what a descriptor set declares, and what reading left out of it: all of it, or the message type or enum of a name.

@@ -127,11 +127,9 @@ pub(crate) fn perform<'a, F: Files, O: Output>(
             out,
         ),
         Command::FromJson { out: to, source } => from_json(alloc, afterwards, source, to, files),
-        Command::Frames { floats, source } => frames(
-            alloc, afterwards, *floats, source, files, out,
-        ),
-        Command::AllFrames { floats, source } => all_frames(
-            alloc, afterwards, *floats, source, files, out,
+        Command::Frames { form, source } => frames(alloc, afterwards, *form, source, files, out),
+        Command::AllFrames { form, source } => all_frames(
+            alloc, afterwards, *form, source, files, out,
         ),
         Command::Types { reading, set, name } => types(
             alloc, afterwards, *reading, set, *name, files, out,

@@ -121,8 +121,8 @@ fn subject_of<'a>(command: &Command<'a>) -> Subject<'a> {
         | Command::Canon { out: _, source }
         | Command::Json { layout: _, source }
         | Command::FromJson { out: _, source }
-        | Command::Frames { floats: _, source }
-        | Command::AllFrames { floats: _, source } => messages(source),
+        | Command::Frames { form: _, source }
+        | Command::AllFrames { form: _, source } => messages(source),
         Command::Types {
             reading,
             set,

@@ -1,20 +1,23 @@
 //! The messages of a file, each after its length.
 
-ghost use Rattle.std.specs.Prelude.{◌≡◌, ◌<◌, false, length, true};
+ghost use Rattle.std.specs.Prelude.{◌≡◌, ◌<◌, false, length, true, IfErr, OnOk};
 ghost use Rattle.pb_wire.specs.Limits.{full};
 ghost use Rattle.pb_files.specs.FileMap.{IsSaved, IsUnsaved};
 ghost use Rattle.pb_command.specs.FramesAnswer.{AreFrameLines, frame_line};
+ghost use Rattle.pb_json.specs.Answers.{RefusedAs};
 ghost use Rattle.pb_listing.specs.Putting.{PutsSome};
 ghost use Rattle.pb_output.specs.Sending.{Cut, Sent};
 ghost use Rattle.pb_output.specs.Sink.{Puts};
 ghost use Rattle.pb_command.specs.Steps.{Comes, NoFile, StreamAt, StreamBegun, StreamBegunAt, StreamOf};
-ghost use Rattle.pb_command.specs.Streaming.{FramesBegunIn, FramesIn, IsToldOfFrame, PutsFrames, PutsNext};
+ghost use Rattle.pb_command.specs.Streaming.{FramesBegunIn, FramesIn, IsToldOfFormless, IsToldOfFrame, PutsFrames, PutsNext};
 ghost use Rattle.pb_files.specs.Refusal.{KeepsFailures};
 
 use crate::afterwards::{Afterwards, part_with};
-use crate::command::Source;
+use crate::command::{FrameForm, Source};
+use crate::form::put_json_line;
 use pb_decode::DecodeError;
 use pb_files::{Files, OUTPUT, Refusal, find_type, open_file};
+use pb_json::{JsonError, Layout};
 use pb_listing::{FloatForm, put_listing_as};
 use pb_output::Sink;
 use pb_schema::{MessageId, Pool};
@@ -38,19 +41,19 @@ enum Next<'a> {
 pub fn frames<'a, F: Files, O: Output>(
     alloc: Global,
     afterwards: Afterwards,
-    floats: FloatForm,
+    form: FrameForm,
     source: &Source<'a>,
     files: &mut F,
     out: &mut O,
 ) -> Result<(), Refusal<'a>>
     ensures comes { Comes (Sent O.written O.failures out.old out.new) (Cut O.written O.failures out.old out.new)
         (IsSaved F.contents files.old files.new) (IsUnsaved F.contents F.failures files.old files.new)
-        (StreamOf F.contents F.is_steady files.old floats source.now) (StreamBegun F.contents F.is_steady files.old floats source.now) result }
+        (StreamOf F.contents F.is_steady files.old form source.now) (StreamBegun F.contents F.is_steady files.old form source.now) result }
     ensures kept { KeepsFailures F.failures files.old files.new result }
     ensures unfailing { F.is_steady files.old ≡ true → F.failures files.new ≡ F.failures files.old }
 {
     let (pool, kind) = find_type(alloc, source.reading, source.set, source.type_name, files)?;
-    let answer = frames_at(alloc, floats, &pool, kind, source.file, files, out);
+    let answer = frames_at(alloc, form, &pool, kind, source.file, files, out);
     part_with(pool, afterwards);
     answer
 }
@@ -58,7 +61,7 @@ pub fn frames<'a, F: Files, O: Output>(
 /// Shows the messages of a type that the file at a path holds.
 fn frames_at<'a, F: Files, O: Output>(
     alloc: Global,
-    floats: FloatForm,
+    form: FrameForm,
     pool: &Pool,
     message_type: MessageId,
     path: &'a str,
@@ -68,19 +71,19 @@ fn frames_at<'a, F: Files, O: Output>(
     requires { message_type.0 < length pool.now.messages }
     ensures comes { Comes (Sent O.written O.failures out.old out.new) (Cut O.written O.failures out.old out.new)
         (IsSaved F.contents files.old files.new) (IsUnsaved F.contents F.failures files.old files.new)
-        (StreamAt F.contents F.is_steady files.old floats pool.now message_type.0 path.entry.now)
-        (StreamBegunAt F.contents F.is_steady files.old floats pool.now message_type.0 path.entry.now) result }
+        (StreamAt F.contents F.is_steady files.old form pool.now message_type.0 path.entry.now)
+        (StreamBegunAt F.contents F.is_steady files.old form pool.now message_type.0 path.entry.now) result }
     ensures kept { KeepsFailures F.failures files.old files.new result }
     ensures unfailing { F.is_steady files.old ≡ true → F.failures files.new ≡ F.failures files.old }
 {
     let input = open_file(path, files)?;
     let mut reader = DelimitedReader::new(alloc, pool, message_type, input, Limits::FULL);
-    write_frames(floats, &mut reader, path, out)
+    write_frames(form, &mut reader, path, out)
 }
 
 /// Writes the lines of the frames that are left, and then reports why what follows them is refused, if it is.
 fn write_frames<'a, I: Input + Drop, O: Output>(
-    floats: FloatForm,
+    form: FrameForm,
     reader: &mut DelimitedReader<'_, I>,
     path: &'a str,
     out: &mut O,
@@ -89,11 +92,11 @@ fn write_frames<'a, I: Input + Drop, O: Output>(
     requires open { reader.old.finished ≡ false }
     requires full { reader.old.limits ≡ full }
     ensures { Comes (Sent O.written O.failures out.old out.new) (Cut O.written O.failures out.old out.new) NoFile (λ _. ⊥)
-        (FramesIn I.left I.is_steady reader.old.input floats path.entry.now reader.old.pool reader.old.kind)
-        (FramesBegunIn I.left I.is_steady reader.old.input floats reader.old.pool reader.old.kind) result }
+        (FramesIn I.left I.is_steady reader.old.input form path.entry.now reader.old.pool reader.old.kind)
+        (FramesBegunIn I.left I.is_steady reader.old.input form reader.old.pool reader.old.kind) result }
 {
     let mut sink = Sink::new();
-    let stop = put_frames(&mut sink, out, floats, reader, path);
+    let stop = put_frames(&mut sink, out, form, reader, path);
     let Ok(()) = sink.finish(out) else {
         return Err(Refusal::Device(OUTPUT));
     };
@@ -107,7 +110,7 @@ fn write_frames<'a, I: Input + Drop, O: Output>(
 fn put_frames<'a, I: Input + Drop, O: Output>(
     sink: &mut Sink,
     out: &mut O,
-    floats: FloatForm,
+    form: FrameForm,
     reader: &mut DelimitedReader<'_, I>,
     path: &'a str,
 ) -> Option<Refusal<'a>>
@@ -115,13 +118,13 @@ fn put_frames<'a, I: Input + Drop, O: Output>(
     requires open { reader.old.finished ≡ false }
     requires full { reader.old.limits ≡ full }
     ensures { PutsFrames I.left I.is_steady reader.old.input O.written O.failures out.old out.new sink.old sink.new
-        floats path.entry.now reader.old.pool reader.old.kind result }
+        form path.entry.now reader.old.pool reader.old.kind result }
 {
     for index in 0..u64::MAX {
         if sink.has_failed() {
             return None;
         }
-        match put_next(sink, out, floats, index, reader, path) {
+        match put_next(sink, out, form, index, reader, path) {
             Next::Put => {}
             Next::End => return None,
             Next::Refused(refusal) => return Some(refusal),
@@ -134,13 +137,13 @@ fn put_frames<'a, I: Input + Drop, O: Output>(
 fn put_next<'a, I: Input + Drop, O: Output>(
     sink: &mut Sink,
     out: &mut O,
-    floats: FloatForm,
+    form: FrameForm,
     index: u64,
     reader: &mut DelimitedReader<'_, I>,
     path: &'a str,
 ) -> Next<'a>
     requires { reader.old.finished ≡ false }
-    ensures { PutsNext O.written O.failures I.left I.is_steady out.old out.new sink.old sink.new reader.old reader.new floats index path.entry result }
+    ensures { PutsNext O.written O.failures I.left I.is_steady out.old out.new sink.old sink.new reader.old reader.new form index path.entry result }
 {
     let offset = reader.taken();
     match reader.next() {
@@ -148,15 +151,40 @@ fn put_next<'a, I: Input + Drop, O: Output>(
         Ok(Some(message)) => {
             let _body = message.body();
             let size = reader.taken() - offset;
-            put_frame(sink, out, floats, index, offset, size, &message);
-            Next::Put
+            match put_frame(sink, out, form, index, offset, size, &message) {
+                Ok(()) => Next::Put,
+                Err(error) => Next::Refused(formless(index, error)),
+            }
         }
         Err(error) => Next::Refused(refusal_at(index, path, error)),
     }
 }
 
-/// The line of a frame, and the listing of its message one level in.
+/// Puts what is printed of a frame. Where its message has no JSON form, nothing is put.
 pub(crate) fn put_frame<O: Output>(
+    sink: &mut Sink,
+    out: &mut O,
+    form: FrameForm,
+    index: u64,
+    offset: u64,
+    size: u64,
+    message: &DynamicMessage<'_>,
+) -> Result<(), JsonError>
+    ensures put { OnOk result (PutsSome O.written O.failures out.old out.new sink.old sink.new
+        (AreFrameLines form message.now.pool message.now.kind index offset size message.now.body)) }
+    ensures failed { IfErr result (λ e. (form ≡ FrameForm.Json) × RefusedAs message.now e × (out.new ≡ out.old) × (sink.new ≡ sink.old)) }
+{
+    match form {
+        FrameForm::Listing(floats) => {
+            put_listed(sink, out, floats, index, offset, size, message);
+            Ok(())
+        }
+        FrameForm::Json => put_json_line(sink, out, Layout::Compact, message),
+    }
+}
+
+/// The line of a frame, and the listing of its message one level in.
+fn put_listed<O: Output>(
     sink: &mut Sink,
     out: &mut O,
     floats: FloatForm,
@@ -166,7 +194,7 @@ pub(crate) fn put_frame<O: Output>(
     message: &DynamicMessage<'_>,
 )
     ensures { PutsSome O.written O.failures out.old out.new sink.old sink.new
-        (AreFrameLines floats message.now.pool message.now.kind index offset size message.now.body) }
+        (AreFrameLines (FrameForm.Listing floats) message.now.pool message.now.kind index offset size message.now.body) }
 {
     put_frame_line(sink, out, index, offset, size);
     put_listing_as(sink, out, 1, message, floats);
@@ -198,5 +226,19 @@ fn refusal_at<'a>(index: u64, path: &'a str, error: DecodeError) -> Refusal<'a>
         },
         DecodeError::Device => Refusal::Device(path),
         DecodeError::Memory | DecodeError::Finished => Refusal::Memory,
+    }
+}
+
+/// Why the frame of an index is refused whose message is not written as JSON.
+fn formless<'a>(index: u64, error: JsonError) -> Refusal<'a>
+    ensures { IsToldOfFormless index error result }
+{
+    match error {
+        JsonError::Refused(refusal) => Refusal::FrameJson {
+            index,
+            path: refusal.path,
+            cause: refusal.cause,
+        },
+        JsonError::Memory | JsonError::Output => Refusal::Memory,
     }
 }

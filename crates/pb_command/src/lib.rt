@@ -20,7 +20,7 @@ mod sources;
 mod types;
 
 pub use afterwards::Afterwards;
-pub use command::{Command, Comparison, RawForm, Roots, Source};
+pub use command::{Command, Comparison, FrameForm, RawForm, Roots, Source};
 pub use executing::{execute, execute_then};
 pub use explaining::execute_explained;
 pub use pb_files::{Files, HostFiles, MemFiles, Reading, Refusal};

@@ -10,6 +10,7 @@ mod explain;
 mod explain_apart;
 mod from_json;
 mod json;
+mod json_frames;
 mod keep_going;
 mod lenient;
 mod nested;

@@ -3,7 +3,8 @@
 
 use super::{FLAT, NONE, files_of};
 use pb_cli::{
-    Afterwards, Command, FloatForm, Layout, Reading, Source, execute, execute_then, run_then,
+    Afterwards, Command, FloatForm, FrameForm, Layout, Reading, Source, execute, execute_then,
+    run_then,
 };
 use pb_decode::decode;
 use pb_descr::{FileDecl, read_set};
@@ -182,14 +183,14 @@ fn commands(rt: HostRuntime) -> Result<(), Fail> {
         ),
         (
             Command::Frames {
-                floats: FloatForm::Bits,
+                form: FrameForm::Listing(FloatForm::Bits),
                 source: frames,
             },
             (0, b"frame 0 at 0 size 4\n  a: 150\n", b""),
         ),
         (
             Command::AllFrames {
-                floats: FloatForm::Bits,
+                form: FrameForm::Json,
                 source,
             },
             (

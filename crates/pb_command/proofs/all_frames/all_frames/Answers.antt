@@ -23,11 +23,11 @@ returns-in_err-pool-clause-comes g c =
     rw (p.1, p.2)
     (refused_comes (Sent g.O.Output.written g.O.Output.failures c.args.out.now c.args.out.now) (Cut g.O.Output.written g.O.Output.failures c.args.out.now c.args.out.now)
     (IsSaved contents c.args.files.now c.find_type.new.files) (IsUnsaved contents g.F.Files.failures c.args.files.now c.find_type.new.files)
-    (AllFramesOf contents is_steady c.args.files.now c.args.floats source) (AllBegunOf contents is_steady c.args.files.now c.args.floats source) c.in_err-pool.field-0.0
+    (AllFramesOf contents is_steady c.args.files.now c.args.form source) (AllBegunOf contents is_steady c.args.files.now c.args.form source) c.in_err-pool.field-0.0
     (refl, Appends-nil (g.O.Output.written c.args.out.now)) c.in_err-pool.ensures.files (inl refl)
     (refuses_map
     (λ a. (content : Option (List ℕ)) × IsReadOf contents is_steady c.args.files.now (full.bytes + 1) source.set.now content × NoType source.reading source.type_name.now source.set.now content a)
-    (AllFramesOf contents is_steady c.args.files.now c.args.floats source) c.in_err-pool.field-0.0 (λ a h. no_type h.1 h.2) c.in_err-pool.ensures.refused))
+    (AllFramesOf contents is_steady c.args.files.now c.args.form source) c.in_err-pool.field-0.0 (λ a h. no_type h.1 h.2) c.in_err-pool.ensures.refused))
 
 pub returns-clause-comes : goal.returns-clause-comes
 returns-clause-comes g c =
@@ -41,8 +41,8 @@ returns-clause-comes g c =
     let type = c.in_ok-pool.ensures in
     later_comes contents g.F.Files.failures before mid c.all_frames_at-answer.new.files
     (Sent g.O.Output.written g.O.Output.failures c.args.out.now c.all_frames_at-answer.new.out) (Cut g.O.Output.written g.O.Output.failures c.args.out.now c.all_frames_at-answer.new.out)
-    (AllFramesAtPath contents is_steady mid c.args.floats pool kind source.file.now) (AllFramesOf contents is_steady before c.args.floats source)
-    (AllBegunAtPath contents is_steady mid c.args.floats pool kind source.file.now) (AllBegunOf contents is_steady before c.args.floats source) c.all_frames_at-answer.result type.files type.kept
-    (all_of contents is_steady before mid c.args.floats source type.found.0 pool kind type.found.1 type.found.2 type.files type.steady)
-    (all_begun_of contents is_steady before mid c.args.floats source type.found.0 pool kind type.found.1 type.found.2 type.files type.steady)
+    (AllFramesAtPath contents is_steady mid c.args.form pool kind source.file.now) (AllFramesOf contents is_steady before c.args.form source)
+    (AllBegunAtPath contents is_steady mid c.args.form pool kind source.file.now) (AllBegunOf contents is_steady before c.args.form source) c.all_frames_at-answer.result type.files type.kept
+    (all_of contents is_steady before mid c.args.form source type.found.0 pool kind type.found.1 type.found.2 type.files type.steady)
+    (all_begun_of contents is_steady before mid c.args.form source type.found.0 pool kind type.found.1 type.found.2 type.files type.steady)
     c.all_frames_at-answer.ensures.comes

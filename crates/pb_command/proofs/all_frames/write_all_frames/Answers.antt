@@ -8,14 +8,14 @@ pub returns-in_default : goal.returns-in_default
 returns-in_default g c =
     let known = OfInput g.I.Input.left g.I.Input.is_steady c.args.input.now in
     let stream = c.args.stream.now in
-    answer_cut g.O.Output.written g.O.Output.failures (AllFramesBy known stream.floats stream.path.now stream.pool.now stream.message_type.0)
-    (AllBegunBy known stream.floats stream.pool.now stream.message_type.0) c.in_default.field-0 c.put_all_frames-outcome.result _ refl c.new-sink.ensures
+    answer_cut g.O.Output.written g.O.Output.failures (AllFramesBy known stream.form stream.path.now stream.pool.now stream.message_type.0)
+    (AllBegunBy known stream.form stream.pool.now stream.message_type.0) c.in_default.field-0 c.put_all_frames-outcome.result _ refl c.new-sink.ensures
     c.put_all_frames-outcome.ensures c.in_default.ensures
 
 pub returns : goal.returns
 returns g c =
     let known = OfInput g.I.Input.left g.I.Input.is_steady c.args.input.now in
     let stream = c.args.stream.now in
-    answer_sent g.O.Output.written g.O.Output.failures (AllFramesBy known stream.floats stream.path.now stream.pool.now stream.message_type.0)
-    (AllBegunBy known stream.floats stream.pool.now stream.message_type.0) _ _ _ c.put_all_frames-outcome.result
+    answer_sent g.O.Output.written g.O.Output.failures (AllFramesBy known stream.form stream.path.now stream.pool.now stream.message_type.0)
+    (AllBegunBy known stream.form stream.pool.now stream.message_type.0) _ _ _ c.put_all_frames-outcome.result
     c.new-sink.ensures c.put_all_frames-outcome.ensures c.in-Ok.ensures

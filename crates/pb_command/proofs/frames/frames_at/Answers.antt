@@ -18,17 +18,17 @@ returns-in_err-input-clause-comes g c =
     let contents = g.F.Files.contents in
     let is_steady = g.F.Files.is_steady in
     let before = c.args.files.now in
-    let floats = c.args.floats in
+    let form = c.args.form in
     let path = c.args.path.now in
     let pool = c.args.pool.now in
     let kind = c.args.message_type.0 in
     rw (p.1, p.2)
     (refused_comes (Sent g.O.Output.written g.O.Output.failures c.args.out.now c.args.out.now) (Cut g.O.Output.written g.O.Output.failures c.args.out.now c.args.out.now)
     (IsSaved contents before c.open_file.new.files) (IsUnsaved contents g.F.Files.failures before c.open_file.new.files)
-    (StreamAt contents is_steady before floats pool kind path) (StreamBegunAt contents is_steady before floats pool kind path) c.in_err-input.field-0.0
+    (StreamAt contents is_steady before form pool kind path) (StreamBegunAt contents is_steady before form pool kind path) c.in_err-input.field-0.0
     (refl, Appends-nil (g.O.Output.written c.args.out.now)) c.in_err-input.ensures.files (inl refl)
     (refuses_map (λ a. OfFiles contents is_steady before path (λ content. content ≡ None) × (a ≡ device_failed path))
-    (StreamAt contents is_steady before floats pool kind path) c.in_err-input.field-0.0 (λ a h. inl h) c.in_err-input.ensures.refused))
+    (StreamAt contents is_steady before form pool kind path) c.in_err-input.field-0.0 (λ a h. inl h) c.in_err-input.ensures.refused))
 
 pub returns-clause-comes : goal.returns-clause-comes
 returns-clause-comes g c =
@@ -37,7 +37,7 @@ returns-clause-comes g c =
     let left = g.F.In.Input.left in
     let stays = g.F.In.Input.is_steady in
     let before = c.args.files.now in
-    let floats = c.args.floats in
+    let form = c.args.form in
     let path = c.args.path.now in
     let pool = c.args.pool.now in
     let kind = c.args.message_type.0 in
@@ -46,8 +46,8 @@ returns-clause-comes g c =
     let cut = Cut g.O.Output.written g.O.Output.failures c.args.out.now c.write_frames.new.out in
     let comes = rw c.new-reader.ensures at c.write_frames.ensures in
     comes_map out out cut cut NoFile (IsSaved contents before c.open_file.new.files) (λ _. ⊥)
-    (IsUnsaved contents g.F.Files.failures before c.open_file.new.files) (FramesIn left stays input floats path pool kind)
-    (StreamAt contents is_steady before floats pool kind path) (FramesBegunIn left stays input floats pool kind) (StreamBegunAt contents is_steady before floats pool kind path)
+    (IsUnsaved contents g.F.Files.failures before c.open_file.new.files) (FramesIn left stays input form path pool kind)
+    (StreamAt contents is_steady before form pool kind path) (FramesBegunIn left stays input form pool kind) (StreamBegunAt contents is_steady before form pool kind path)
     c.write_frames.result (λ text h. h) (λ text h. h) (no_file_kept contents before c.open_file.new.files c.in_ok-input.ensures.files)
-    (λ device h. absurd h) (stream_right contents is_steady before left stays input floats path pool kind c.in_ok-input.ensures.opened)
-    (stream_begun contents is_steady before left stays input floats path pool kind c.in_ok-input.ensures.opened) comes
+    (λ device h. absurd h) (stream_right contents is_steady before left stays input form path pool kind c.in_ok-input.ensures.opened)
+    (stream_begun contents is_steady before left stays input form path pool kind c.in_ok-input.ensures.opened) comes

@@ -1,10 +1,10 @@
 use Rattle.std.proofs.Common.{◌-◌, ◌^◌, ◌≤◌, ◌∙◌, arith, append-nil, inl, inr, sym}
 use Rattle.pb_output.proofs.SinkLemmas.{puts_then}
-use Rattle.pb_command.proofs.Streams.{read_begun, read_most, read_next, read_refused, read_to_end, streaming_start}
+use Rattle.pb_command.proofs.Streams.{read_begun, read_most, read_next, read_to_end, read_unshown, streaming_start}
 use Rattle.pb_command.proofs.frames.put_frames.Goals as goal
 
 pub loop-index-init : goal.loop-index-init
-loop-index-init g c = streaming_start c.args.floats c.args.reader.now c.requires.first c.requires.open c.requires.full
+loop-index-init g c = streaming_start c.args.form c.args.reader.now c.requires.first c.requires.open c.requires.full
 
 pub put_next-requires : goal.put_next-requires
 put_next-requires g c = c.loop-index.invariant.read.goes_on
@@ -30,7 +30,7 @@ pub returns-in-Refused : goal.returns-in-Refused
 returns-in-Refused g c =
     let before = c.loop-index.invariant in
     let step = rw c.in-Refused.is at c.put_next.ensures in
-    (before.text, rw append-nil at (puts_then before.put step.3), read_refused c.args.path step.0 c.in-Refused.refusal before.read step.2 step.1)
+    (before.text, rw append-nil at (puts_then before.put step.1), read_unshown c.args.path c.in-Refused.refusal before.read step.0)
 
 pub returns : goal.returns
 returns g c =

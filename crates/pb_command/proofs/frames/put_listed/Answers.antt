@@ -1,7 +1,7 @@
 use Rattle.std.proofs.Common.{◌++◌, refl}
 use Rattle.pb_output.proofs.SinkLemmas.{puts_then}
 use Rattle.pb_command.specs.FramesAnswer.{frame_line}
-use Rattle.pb_command.proofs.frames.put_frame.Goals as goal
+use Rattle.pb_command.proofs.frames.put_listed.Goals as goal
 
 pub returns : goal.returns
 returns g c =
