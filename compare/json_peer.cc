@@ -110,6 +110,11 @@ static void fill_known(Message* message, const std::string& name, int depth) {
     }
 }
 
+// Whether the values of a field are of an enum of proto2, of which other numbers are unknown records.
+static bool is_closed(const FieldDescriptor* field) {
+    return field->cpp_type() == FieldDescriptor::CPPTYPE_ENUM && field->enum_type()->file()->syntax() == FileDescriptor::SYNTAX_PROTO2;
+}
+
 static void fill_field(Message* message, const FieldDescriptor* field, int depth) {
     const Reflection* to = message->GetReflection();
 #define FILL(NAME, VALUE) \
@@ -125,7 +130,7 @@ static void fill_field(Message* message, const FieldDescriptor* field, int depth
         case FieldDescriptor::CPPTYPE_FLOAT: FILL(Float, (real<float, uint32_t>()));
         case FieldDescriptor::CPPTYPE_BOOL: FILL(Bool, bool(below(2)));
         case FieldDescriptor::CPPTYPE_ENUM: {
-            bool known = field->enum_type()->full_name() == "google.protobuf.NullValue" || below(4);
+            bool known = is_closed(field) || field->enum_type()->full_name() == "google.protobuf.NullValue" || below(4);
             int value = known ? field->enum_type()->value(below(field->enum_type()->value_count()))->number() : int32_t(integer());
             FILL(EnumValue, value);
         }
@@ -171,6 +176,8 @@ static void fill(Message* message, int depth) {
         bool deep = field->cpp_type() == FieldDescriptor::CPPTYPE_MESSAGE && !field->is_map();
         if ((deep && depth <= 0) || below(type->field_count()) >= 8) continue;
         if (field->cpp_type() == FieldDescriptor::CPPTYPE_MESSAGE && field->message_type()->full_name() == "google.protobuf.Any") continue;
+        // Of a set that is read leniently these are lists of entries.
+        if (field->is_map() && is_closed(field->message_type()->map_value())) continue;
         for (uint64_t n = field->is_repeated() ? below(4) : 1; n > 0; n--) fill_field(message, field, depth);
         if (field->is_map()) drop_repeated_keys(message, field);
     }
