@@ -67,7 +67,8 @@ static bool read_there(const std::string& json, Message* message) { return util:
 
 // Decodes a message, and has each read what the other writes of it.
 static bool make(const std::string& text, Pair& pair) {
-    if (mb_message_decode(&types, number, bytes_of(text), text.size(), MB_MAX_BYTES, MB_MAX_DEPTH, &pair.here, &fault, path, MB_MAX_STEPS) != MB_DONE) return false;
+    if (mb_message_decode(&types, number, bytes_of(text), text.size(), MB_MAX_BYTES, MB_MAX_DEPTH, &pair.here, &fault, path, MB_MAX_STEPS) != MB_DONE)
+        return false;
     pair.there.reset(prototype->New());
     size_t size = 0;
     if (!pair.there->ParseFromString(text) || !util::MessageToJsonString(*pair.there, &pair.json).ok() || !write_here(pair, size)) return false;

@@ -7,7 +7,8 @@ use Rattle.pb_c.specs.Message.JsonRead.{ReportsRead}
 module _
     (e : JsonReadError) (answer byte : ℕ) (memory : e ≡ out_of_memory → answer ≡ 14) (reported : ReportsRead e answer byte ⊎ (answer ≡ 14)) where
   -- another answer is the cause of the fault
-  pub cause_answered : (Bad : JsonReadError → Type 0) → (e ≡ out_of_memory) ⊎ Bad e → (answer ≡ 14 → ⊥) → (f : JsonReadError) × Bad f × ReportsRead f answer byte
+  pub cause_answered :
+      (Bad : JsonReadError → Type 0) → (e ≡ out_of_memory) ⊎ Bad e → (answer ≡ 14 → ⊥) → (f : JsonReadError) × Bad f × ReportsRead f answer byte
   cause_answered Bad (inl same) other = absurd (other (memory same))
   cause_answered Bad (inr bad) other = by reported
     where

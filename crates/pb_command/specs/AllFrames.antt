@@ -73,7 +73,8 @@ pub data AllFramesAnswer
     (pool : Types) (m : ℕ) (answer : Answer) : Type 0 where
   all_passed : {s : Passed} → IsAll pool m s → answer ≡ concluded s → AllFramesAnswer IsAll StopsAt Breaks path pool m answer
   cut_after :
-      {s : Passed} {f : Fault} → StopsAt pool m s f → answer ≡ concluded (and_refused s 0 (bad_bytes f)) → AllFramesAnswer IsAll StopsAt Breaks path pool m answer
+      {s : Passed} {f : Fault} → StopsAt pool m s f → answer ≡ concluded (and_refused s 0 (bad_bytes f))
+      → AllFramesAnswer IsAll StopsAt Breaks path pool m answer
   failed_after : {s : Passed} → Breaks pool m s → answer ≡ broken s.text path → AllFramesAnswer IsAll StopsAt Breaks path pool m answer
 
 -- of bytes that may be there

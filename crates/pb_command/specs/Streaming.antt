@@ -73,7 +73,8 @@ RefusesRead left is_steady form index old new e =
     (m : Message) × ReadsFrame left is_steady old new m × IsFormless form index (record { pool = old.pool; kind = old.kind; body = m }) e
 
 -- what follows is refused, for this
-abbrev pub RefusesNext : {I : Type 0} (left : I → Option (List ℕ)) (is_steady : I → Bool) (old : Stream I) (index : ℕ) (path : Bor (List ℕ)) (e : Refusal) → Type 0
+abbrev pub RefusesNext :
+    {I : Type 0} (left : I → Option (List ℕ)) (is_steady : I → Bool) (old : Stream I) (index : ℕ) (path : Bor (List ℕ)) (e : Refusal) → Type 0
 RefusesNext left is_steady old index path e = (error : DecodeError) × RefusesFrame left is_steady old error × IsToldOfFrame index path error e
 
 -- the lines of the next frame were put; or nothing is left, or what is left is refused

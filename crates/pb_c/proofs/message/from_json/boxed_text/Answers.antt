@@ -9,7 +9,7 @@ returns-in-Ok-boxed-clause-read c =
       c.in-Ok.message.body,
       rw same at c.in-Ok.ensures.read,
       c.in-Ok-boxed.ensures.same
-      ∙ the_message c.in-Ok.message c.args.pool.now.value c.args.number c.in-Ok.message.body (c.in-Ok.ensures.of_type.0 ∙ same) c.in-Ok.ensures.of_type.1 refl,
+          ∙ the_message c.in-Ok.message c.args.pool.now.value c.args.number c.in-Ok.message.body (c.in-Ok.ensures.of_type.0 ∙ same) c.in-Ok.ensures.of_type.1 refl,
     )
 
 pub returns-in-Ok-boxed-clause-accepted : goal.returns-in-Ok-boxed-clause-accepted
