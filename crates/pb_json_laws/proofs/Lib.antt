@@ -9,3 +9,5 @@ pub mod TimeLaws
 pub mod MaskLaws
 -- bytes in base64
 pub mod BytesLaws
+-- values of each kind, and keys
+pub mod ScalarLaws

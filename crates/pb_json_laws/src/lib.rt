@@ -18,6 +18,16 @@ ghost use Rattle.pb_json_scalars.specs.Clock.{duration, time, timestamp};
 ghost use Rattle.pb_json_scalars.specs.Keys.{IsKeyText};
 ghost use Rattle.pb_json_scalars.specs.Numbers.{IsFloatText, IsIntegerText};
 ghost use Rattle.pb_json_scalars.specs.Paths.{mask_paths};
+ghost use Rattle.pb_schema.specs.declared.types.Kind.{Kind as AnyKind};
+ghost use Rattle.pb_schema.specs.Kinds.{IsOfKind};
+ghost use Rattle.pb_schema.specs.Scalar.{Scalar};
+ghost use Rattle.pb_schema.specs.Types.{Types};
+ghost use Rattle.pb_value.specs.Data.{scalar};
+ghost use Rattle.pb_json.specs.Mapping.{key_name, scalar_json};
+ghost use Rattle.pb_json_read.specs.Keys.{IsKey};
+ghost use Rattle.pb_json_read.specs.Values.{IsScalar};
+ghost use Rattle.pb_json_text.specs.Json.{Json};
+ghost use Rattle.pb_json_laws.specs.Means.{IsKeyKind, IsNoEnum, Means, with_one_nan};
 
 /// An integer, as its decimal digits with a minus below 0, and as a key.
 pub fn written_integers()
@@ -54,4 +64,15 @@ pub fn written_durations()
 /// A `google.protobuf.FieldMask` that can be written.
 pub fn written_masks()
     ensures { (paths : List (List ℕ)) → are_paths paths ≡ true → list_all is_utf8 paths ≡ true → mask_paths (mask_text paths) ≡ Some paths }
+{}
+
+/// A value of a kind that is no message and no enum, as its JSON value; a NaN is read as one NaN.
+pub fn written_scalars()
+    ensures { (pool : Types) (k : AnyKind) (x : Scalar) (j : Json) → IsNoEnum k → IsOfKind k x → Means (scalar_json pool k x) j
+        → IsScalar pool k j (scalar (with_one_nan x)) }
+{}
+
+/// A key of a map, as the name of a member.
+pub fn written_keys()
+    ensures { (k : AnyKind) (x : Scalar) → IsKeyKind k → IsOfKind k x → IsKey k (key_name x) x }
 {}
