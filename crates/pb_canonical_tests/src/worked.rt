@@ -1,4 +1,4 @@
-//! Worked cases, each answered as its row says and as `decode` and `encode` say, and so is each change of a byte.
+//! Worked cases, each answered as its row says and as `decode` and `encode` say, and so is each change of a byte, and what `encode` writes of them.
 
 ghost use Rattle.std.specs.Prelude.{◌<◌, length};
 
@@ -10,18 +10,17 @@ use pb_encode::encode;
 use std::alloc::{AllocError, Global};
 use std::test::Fail;
 
-/// Whether bytes are a message of the type, and what `encode` writes of it.
-fn is_encoded(schema: &Schema, bytes: &[u8]) -> Result<bool, Fail> {
-    match schema.decode(bytes) {
-        Ok(message) => Ok(encode(&message)?.as_slice() == bytes),
-        Err(DecodeError::Memory) => Err(Fail::from(AllocError)),
-        Err(_) => Ok(false),
-    }
-}
-
-/// Whether bytes are answered as `decode` and `encode` say.
+/// Whether bytes are answered as `decode` and `encode` say: canonical where they are what is written of their message. What is written is.
 pub(crate) fn is_right(schema: &Schema, bytes: &[u8]) -> Result<bool, Fail> {
-    Ok(schema.is_canonical(bytes) == is_encoded(schema, bytes)?)
+    let canonical = schema.is_canonical(bytes);
+    match schema.decode(bytes) {
+        Ok(message) => {
+            let written = encode(&message)?;
+            Ok(canonical == (written.as_slice() == bytes) && schema.is_canonical(&written))
+        }
+        Err(DecodeError::Memory) => Err(Fail::from(AllocError)),
+        Err(_) => Ok(!canonical),
+    }
 }
 
 /// What takes the place of a byte.
