@@ -253,6 +253,15 @@ struct mb_difference {
 uint32_t mb_compat(struct mb_pool *old_pool, uint32_t old_type, struct mb_pool *new_pool, uint32_t new_type,
                    struct mb_difference *out, size_t out_len, size_t *count);
 
+struct mb_message;
+
+/* Makes a message that shows that a difference breaks reading, in place of what the handle of the message held (mb_message_new below): one of the old type
+ * whose canonical bytes are refused by the new type, or read as a message that does not agree with it. The types are those that mb_compat compared, and
+ * the difference is one that it reported, whose severity is not read. MB_ABSENT: nothing breaks at this field of these types, the comparison does not lead
+ * to them, or more than 99 fields, one in another, lead there. Where the answer is another than MB_DONE the handle of the message is as it was. */
+uint32_t mb_compat_witness(struct mb_pool *old_pool, uint32_t old_type, struct mb_pool *new_pool, uint32_t new_type,
+                           const struct mb_difference *difference, struct mb_message *message);
+
 /* ---- Values ---- */
 
 /* What a value is: the numbers of types in descriptor.proto. A value of an int32, sint32 or sfixed32 is an MB_INT32, one of a uint32 or fixed32 an
@@ -352,6 +361,9 @@ uint32_t mb_message_merge(struct mb_message *message, const uint8_t *bytes, size
 /* Writes the canonical bytes of the message. For MB_DONE their number is reported, and as many of them are written as the buffer holds. */
 uint32_t mb_message_encode(struct mb_message *message, uint8_t *out, size_t out_len, size_t *size);
 
+/* Writes the message as a frame of a stream, as mb_message_encode writes its bytes: their number as a varint, and then the canonical bytes. */
+uint32_t mb_message_frame(struct mb_message *message, uint8_t *out, size_t out_len, size_t *size);
+
 /* Reports how many canonical bytes the message has. It takes no memory. */
 uint32_t mb_message_encoded_length(struct mb_message *message, size_t *size);
 
@@ -427,7 +439,8 @@ uint32_t mb_message_unknown(struct mb_message *message, const struct mb_value *p
  * shape, as a push to a field of one value; 27, the message would nest more than 100 levels deep; 30, a closed enum has no such value. Where the answer
  * is another than MB_DONE the message is as it was. */
 
-/* Sets a field of one value, which the place ends at. Another member of its oneof is cleared. The default value clears a field without presence. */
+/* Sets a field of one value, or an element of a list, which the place ends at. Another member of the field's oneof is cleared. The default value clears a
+ * field without presence. MB_ABSENT also where the list has no element at the index. */
 uint32_t mb_message_set(struct mb_message *message, const struct mb_value *place, size_t place_len, const struct mb_bytes *strings, size_t strings_len,
                         const struct mb_value *value);
 
@@ -442,7 +455,8 @@ uint32_t mb_message_push(struct mb_message *message, const struct mb_value *plac
 uint32_t mb_message_insert(struct mb_message *message, const struct mb_value *place, size_t place_len, const struct mb_bytes *strings,
                            size_t strings_len, const struct mb_value *value);
 
-/* Removes the entry of the key that the place ends at, after the map. Where there is none nothing changes. */
+/* Removes the entry of the key that the place ends at, after the map: where there is none nothing changes. Or removes the element of a list that the place
+ * ends at, and the elements after it move up: MB_ABSENT where the list has none at the index. */
 uint32_t mb_message_remove(struct mb_message *message, const struct mb_value *place, size_t place_len, const struct mb_bytes *strings, size_t strings_len);
 
 /* Drops the unknown records of the message at the place, but not of messages in it. */

@@ -118,6 +118,7 @@ static uint32_t message_new(struct outputs *outputs) { (void)outputs; return mb_
 static uint32_t message_decode(struct outputs *outputs) { return mb_message_decode(&pool, type, message.at, message.len, LIMITS, &made, FAULT); }
 static uint32_t message_decode_cut(struct outputs *outputs) { return mb_message_decode(&pool, type, message.at, message.len - 1, LIMITS, &made, FAULT); }
 static uint32_t message_encode(struct outputs *outputs) { return mb_message_encode(&held, OUT); }
+static uint32_t message_frame(struct outputs *outputs) { return mb_message_frame(&held, OUT); }
 static uint32_t message_length(struct outputs *outputs) { return mb_message_encoded_length(&held, &outputs->size); }
 static uint32_t message_show(struct outputs *outputs) { return mb_message_show(&held, OUT); }
 static uint32_t message_show_decimal(struct outputs *outputs) { return mb_message_show_decimal(&held, OUT); }
@@ -188,6 +189,10 @@ static uint32_t push_one(struct mb_message *it) { return mb_message_push(it, art
 static uint32_t insert_one(struct mb_message *it) { return mb_message_insert(it, new_entry, 2, two, 2, &discount); }
 static uint32_t insert_none(struct mb_message *it) { return mb_message_insert(it, new_entry, 2, two, 1, &discount); }
 static uint32_t remove_one(struct mb_message *it) { return mb_message_remove(it, ENTRY); }
+static const struct mb_value correction_of[] = {{MB_FIELD, 8}, {MB_INDEX, 1}}, line_of[] = {{MB_FIELD, 3}, {MB_INDEX, 0}};
+static uint32_t set_element(struct mb_message *it) { return mb_message_set(it, correction_of, 2, NULL, 0, &discount); }
+static uint32_t set_no_element(struct mb_message *it) { return mb_message_set(it, unknown_of, 2, NULL, 0, &empty_message); }
+static uint32_t remove_element(struct mb_message *it) { return mb_message_remove(it, line_of, 2, NULL, 0); }
 static uint32_t merge_one(struct mb_message *it)
 {
     static struct outputs none;
@@ -210,6 +215,17 @@ static uint32_t message_insert(struct outputs *outputs) { (void)outputs; return 
 static uint32_t message_insert_none(struct outputs *outputs) { (void)outputs; return changed(insert_none); }
 static uint32_t message_remove(struct outputs *outputs) { (void)outputs; return changed(remove_one); }
 static uint32_t message_drop_nothing(struct outputs *outputs) { (void)outputs; return changed(drop_nothing); }
+static uint32_t message_set_element(struct outputs *outputs) { (void)outputs; return changed(set_element); }
+static uint32_t message_set_no_element(struct outputs *outputs) { (void)outputs; return changed(set_no_element); }
+static uint32_t message_remove_element(struct outputs *outputs) { (void)outputs; return changed(remove_element); }
+/* The number of an order, which is read as the article of a line; and one that a line does not have. */
+static uint32_t witness_of(uint32_t number)
+{
+    struct mb_difference difference = {type, 1, number, 0};
+    return mb_compat_witness(&pool, type, &old_pool, 1, &difference, &made);
+}
+static uint32_t witness(struct outputs *outputs) { (void)outputs; return witness_of(1); }
+static uint32_t no_witness(struct outputs *outputs) { (void)outputs; return witness_of(9); }
 #define ADDRESS address, 2, &outputs->value, outputs->out, sizeof outputs->out, FAULT
 static uint32_t find_address(struct outputs *outputs) { return mb_find(&pool, type, message.at, message.len, LIMITS, ADDRESS); }
 static uint32_t find_address_cut(struct outputs *outputs) { return mb_find(&pool, type, message.at, message.len - 1, LIMITS, ADDRESS); }
@@ -231,7 +247,7 @@ static const struct { const char *name; uint32_t (*call)(struct outputs *outputs
     {"mb_pool_enum_value of no enum", no_value, MB_NO_TYPE}, {"mb_pool_file", file_at, MB_DONE}, {"mb_message_new", message_new, MB_DONE},
     {"mb_message_decode", message_decode, MB_DONE}, {"mb_message_decode of a cut message", message_decode_cut, MB_FAULT},
     {"mb_message_encode", message_encode, MB_DONE}, {"mb_message_encoded_length", message_length, MB_DONE},
-    {"mb_message_show", message_show, MB_DONE},
+    {"mb_message_frame", message_frame, MB_DONE}, {"mb_message_show", message_show, MB_DONE},
     {"mb_message_show_decimal", message_show_decimal, MB_DONE}, {"mb_message_copy", message_copy, MB_DONE},
     {"mb_message_equal", message_equal, MB_DONE}, {"mb_message_unknown", message_unknown, MB_DONE},
     {"mb_message_oneof of no oneof", message_no_oneof, MB_ABSENT}, {"mb_compat", compat, MB_DONE},
@@ -247,10 +263,13 @@ static const struct { const char *name; uint32_t (*call)(struct outputs *outputs
     {"mb_message_set of another kind", message_set_wrong, 22}, {"mb_message_clear", message_clear, MB_DONE}, {"mb_message_push", message_push, MB_DONE},
     {"mb_message_insert", message_insert, MB_DONE}, {"mb_message_insert of no place", message_insert_none, MB_BAD_PLACE},
     {"mb_message_remove", message_remove, MB_DONE}, {"mb_message_drop_unknown of no message", message_drop_nothing, MB_ABSENT},
+    {"mb_message_set of an element", message_set_element, MB_DONE}, {"mb_message_set of no element", message_set_no_element, MB_ABSENT},
+    {"mb_message_remove of an element", message_remove_element, MB_DONE},
+    {"mb_compat_witness", witness, MB_DONE}, {"mb_compat_witness of what breaks nothing", no_witness, MB_ABSENT},
     {"mb_message_merge", message_merge, MB_DONE}, {"mb_message_merge of a cut message", message_merge_cut, MB_FAULT},
     {"mb_find", find_address, MB_DONE}, {"mb_find in a cut message", find_address_cut, MB_FAULT},
 };
-#define OF_SHOP 21
+#define OF_SHOP 26
 
 static struct mb_bytes read_file(const char *path)
 {

@@ -66,6 +66,7 @@ static uint32_t on_message(uint32_t (*call)(struct mb_message *message))
     return answer;
 }
 static uint32_t encode_one(struct mb_message *message) { return mb_message_encode(message, OUT); }
+static uint32_t frame_one(struct mb_message *message) { return mb_message_frame(message, OUT); }
 static uint32_t count_one(struct mb_message *message) { return mb_message_encoded_length(message, &size); }
 static uint32_t show_one(struct mb_message *message) { return mb_message_show(message, OUT); }
 static uint32_t show_decimal_one(struct mb_message *message) { return mb_message_show_decimal(message, OUT); }
@@ -102,6 +103,7 @@ static uint32_t read_json(const char *front, const char *back, int count)
 }
 static uint32_t read_messages(void) { return read_json("{\"a\":", "}", 99); }
 static uint32_t read_maps(void) { return read_json("{\"m\":{\"z\":", "}}", 49); }
+static uint32_t frame_held(void) { return on_message(frame_one); }
 static uint32_t encode_held(void) { return on_message(encode_one); }
 static uint32_t count_held(void) { return on_message(count_one); }
 static uint32_t show_held(void) { return on_message(show_one); }
@@ -194,6 +196,17 @@ static uint32_t compat(void)
     mb_pool_free(&other);
     return answer;
 }
+static uint32_t witness(void)
+{
+    struct mb_difference difference = {type, type, 1, 0};
+    struct mb_message made = {0};
+    struct mb_pool other = {0};
+    uint32_t answer = mb_pool_share(&pool, &other);
+    if (answer == MB_DONE)
+        answer = mb_compat_witness(&pool, type, &other, type, &difference, &made);
+    mb_pool_free(&other);
+    return answer == MB_ABSENT ? MB_DONE : answer;
+}
 static uint32_t cause_name(void) { return mb_cause_name(12, OUT); }
 
 static const struct { const char *name; uint32_t (*call)(void); } calls[] = {
@@ -209,13 +222,15 @@ static const struct { const char *name; uint32_t (*call)(void); } calls[] = {
     {"mb_canon", canon}, {"mb_show", show}, {"mb_show_decimal", show_decimal}, {"mb_frames", frames}, {"mb_pool_set", pool_set},
     {"mb_message_decode of turned maps, mb_message_encoded_length and mb_message_free", count_held},
     {"mb_message_decode of turned maps, mb_message_encode and mb_message_free", encode_held},
+    {"mb_message_decode of turned maps, mb_message_frame and mb_message_free", frame_held},
     {"mb_message_decode of turned maps, mb_message_show and mb_message_free", show_held}, {"mb_pool_field", find_field},
     {"mb_message_decode of turned maps, mb_message_show_decimal and mb_message_free", show_decimal_held},
     {"mb_message_decode of turned maps, mb_message_merge of the same and mb_message_free", merge_held},
     {"mb_message_decode of turned maps, mb_message_copy, mb_message_equal and mb_message_free", copy_held},
     {"mb_message_decode of turned maps, mb_message_unknown and mb_message_free", unknown_held},
     {"mb_message_decode of turned maps, mb_message_oneof of no oneof, and mb_message_free", oneof_held},
-    {"mb_pool_compile_lenient, and mb_pool_free", compile_lenient}, {"mb_compat", compat}, {"mb_cause_name", cause_name},
+    {"mb_pool_compile_lenient, and mb_pool_free", compile_lenient}, {"mb_compat", compat},
+    {"mb_compat_witness of what breaks nothing", witness}, {"mb_cause_name", cause_name},
     {"mb_message_decode of turned maps, mb_message_json and mb_message_free", json_held},
     {"mb_message_from_json of messages, and mb_message_free", read_messages}, {"mb_message_from_json of maps, and mb_message_free", read_maps},
     {"mb_message_decode of turned maps, mb_message_get and mb_message_free", get_held},

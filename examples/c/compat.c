@@ -1,5 +1,6 @@
 /* compat OLD_SET OLD_TYPE NEW_SET NEW_TYPE: prints what happens to messages of an old type that are read as a new one, a line for each difference: the full
- * name of the old type, the field's number, what the difference does, and the full name of the new type. */
+ * name of the old type, the field's number, what the difference does, and the full name of the new type. Below one that breaks reading it prints the bytes
+ * of a message that shows it. */
 #include "common.h"
 
 #include <inttypes.h>
@@ -26,6 +27,26 @@ static void print(struct mb_pool *old, struct mb_pool *new_pool, const struct mb
     printf("\n");
 }
 
+/* Prints the canonical bytes of a message that shows that a difference breaks reading, if there is one. */
+static uint32_t print_witness(struct mb_pool *pools, const uint32_t *types, const struct mb_difference *it)
+{
+    struct mb_message message = {0};
+    uint32_t answer = mb_compat_witness(&pools[0], types[0], &pools[1], types[1], it, &message);
+    uint8_t bytes[4096];
+    size_t size = 0;
+
+    if (answer == MB_DONE)
+        answer = mb_message_encode(&message, bytes, sizeof bytes, &size);
+    mb_message_free(&message);
+    if (answer == MB_DONE) {
+        printf("  shown by ");
+        for (size_t i = 0; i < size && i < sizeof bytes; i++)
+            printf("%02x", bytes[i]);
+        printf("\n");
+    }
+    return answer == MB_ABSENT ? MB_DONE : answer;
+}
+
 int main(int argc, char **argv)
 {
     struct mb_pool pools[2] = {{0}, {0}};
@@ -46,8 +67,10 @@ int main(int argc, char **argv)
             return print_refusal(MB_MEMORY, NULL);
         answer = mb_compat(&pools[0], types[0], &pools[1], types[1], found, len, &count);
     } while (answer == MB_DONE && count > len);
-    for (size_t i = 0; answer == MB_DONE && i < count; i++)
+    for (size_t i = 0; answer == MB_DONE && i < count; i++) {
         print(&pools[0], &pools[1], &found[i]);
+        answer = print_witness(pools, types, &found[i]);
+    }
     free(found);
     mb_pool_free(&pools[0]);
     mb_pool_free(&pools[1]);

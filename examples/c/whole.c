@@ -1,5 +1,6 @@
 /* whole SET TYPE FILE MORE: decodes the message that a file holds, copies it, and decodes the bytes of another file onto the copy. Prints whether the copy
- * was equal before and is after, the canonical bytes and the unknown records of the copy in hexadecimal digits, and which member of each oneof is set. */
+ * was equal before and is after, the canonical bytes, the frame and the unknown records of the copy in hexadecimal digits, and which member of each oneof
+ * is set. */
 #include "common.h"
 
 #include <inttypes.h>
@@ -26,6 +27,11 @@ static uint32_t unknown(uint8_t *out, size_t room, size_t *size)
 static uint32_t encode(uint8_t *out, size_t room, size_t *size)
 {
     return mb_message_encode(&copy, out, room, size);
+}
+
+static uint32_t frame(uint8_t *out, size_t room, size_t *size)
+{
+    return mb_message_frame(&copy, out, room, size);
 }
 
 /* Prints what a call writes, in a buffer that grows where it was too small. */
@@ -82,6 +88,8 @@ static uint32_t run(uint32_t type, const char *file_name, const char *more_name)
         answer = print_equal();
     if (answer == MB_DONE)
         answer = print_written("bytes", encode);
+    if (answer == MB_DONE)
+        answer = print_written("frame", frame);
     if (answer == MB_DONE)
         answer = print_written("unknown", unknown);
     return answer == MB_DONE ? print_oneofs(type) : answer;

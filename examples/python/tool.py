@@ -94,6 +94,7 @@ def whole(message, more):
     copy.merge(more)
     yield f"equal {int(message == copy)}\n"
     yield f"bytes {copy.encode().hex()}\n"
+    yield f"frame {copy.frame().hex()}\n"
     yield f"unknown {copy.unknown.hex()}\n"
     for oneof in dict.fromkeys(field.oneof for field in copy.type.fields if field.oneof):
         member = copy.which_oneof(oneof)
@@ -117,6 +118,8 @@ def printed(command, *words):
         old, new = (mabristu.Pool(read(words[it]))[words[it + 1]] for it in (0, 2))
         for it in old.compat(new):
             yield f"{it.old.name} {it.field.number} {it.severity} {it.new.name}\n"
+            shown = old.witness(new, it)
+            yield "" if shown is None else f"  shown by {shown.encode().hex()}\n"
     elif command == "field":
         set_name, type_name, name = words
         yield " ".join(map(str, mabristu.Pool(read(set_name))[type_name].field(name).numbers)) + "\n"

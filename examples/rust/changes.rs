@@ -68,7 +68,10 @@ pub fn change(message: &mut Message, word: &str) -> String {
         "clear" => part.clear(),
         "push" => part.push(value(given)),
         "insert" => part.insert(key(last), value(given)),
-        "remove" => part.remove(key(last)),
+        "remove" => match parsed(last) {
+            ("22", index, _) => part.remove_at(index as usize),
+            _ => part.remove(key(last)),
+        },
         _ => part.drop_unknown(),
     };
     format!("{call} {}\n", number(answer))

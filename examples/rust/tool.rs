@@ -65,6 +65,8 @@ fn whole(message: &Message, more: &[u8]) -> Result<(), Failure> {
     copy.merge(more).map_err(refused)?;
     print(format!("equal {}\nbytes ", u8::from(*message == copy)).as_bytes())?;
     print(&hexadecimal(&copy.encode().map_err(refused)?))?;
+    print(b"frame ")?;
+    print(&hexadecimal(&copy.frame().map_err(refused)?))?;
     print(b"unknown ")?;
     print(&hexadecimal(&copy.unknown().map_err(refused)?))?;
     let mut oneofs: Vec<String> = vec![];
@@ -98,7 +100,14 @@ fn run(words: &[&str]) -> Result<(), Failure> {
         let old = message_type(&Pool::link(&read(old_set)?).map_err(of_set)?, old_name)?;
         let new = message_type(&Pool::link(&read(new_set)?).map_err(of_set)?, new_name)?;
         let found = old.compat(&new).map_err(refused)?;
-        return found.iter().try_for_each(|it| print(format!("{it} {}\n", it.new_type).as_bytes()));
+        return found.iter().try_for_each(|it| {
+            print(format!("{it} {}\n", it.new_type).as_bytes())?;
+            let Some(shown) = old.witness(&new, it).map_err(refused)? else {
+                return Ok(());
+            };
+            print(b"  shown by ")?;
+            print(&hexadecimal(&shown.encode().map_err(refused)?))
+        });
     }
     if let ["omitted", set] = words {
         return print(format!("{}\n", Pool::link_lenient(&read(set)?).map_err(of_set)?.left_out()).as_bytes());

@@ -7,6 +7,7 @@ const char append_doc[] = "append(value)\n--\n\nPuts a value at the end. A messa
 const char extend_doc[] = "extend(values)\n--\n\nPuts each value at the end.";
 const char clear_doc[] = "clear()\n--\n\nLeaves no values.";
 const char make_doc[] = "_make([name or key])\n--\n\nPuts an empty message here, and returns it as a part.";
+const char make_at_doc[] = "_make_at(index)\n--\n\nPuts an empty message in place of the one here, and returns it as a part.";
 const char drop_unknown_doc[] = "drop_unknown()\n--\n\nDrops the unknown records of this message, but not of messages in it.";
 const char to_dict_doc[] = "to_dict()\n--\n\nThe fields that are set, by their names: messages and maps as dicts, lists as lists. Unknown records are"
                            "\nnot in it.";
@@ -373,16 +374,53 @@ PyObject *list_make(PyObject *self, PyObject *Py_UNUSED(ignored))
     return length >= 0 && put_message((Node *)self, NULL, NULL, mb_message_push) ? PySequence_GetItem(self, length) : NULL;
 }
 
+/* The step to an element of a list, by an index that may count from the end. Returns whether it is there; else an exception is set. */
+static bool index_step(Node *part, PyObject *index, struct mb_value *step)
+{
+    Py_ssize_t length = part_length((PyObject *)part), at;
+
+    if (length < 0)
+        return false;
+    if (!PyIndex_Check(index)) {
+        PyErr_SetString(PyExc_TypeError, "the index of a list is an integer or a slice");
+        return false;
+    }
+    at = PyNumber_AsSsize_t(index, PyExc_IndexError);
+    if (at == -1 && PyErr_Occurred())
+        return false;
+    at += at < 0 ? length : 0;
+    if (at < 0 || at >= length)
+        PyErr_SetString(PyExc_IndexError, "the list is shorter");
+    *step = (struct mb_value){MB_INDEX, (uint64_t)at};
+    return at >= 0 && at < length;
+}
+
+PyObject *list_make_at(PyObject *self, PyObject *index)
+{
+    struct mb_value step;
+
+    return index_step((Node *)self, index, &step) && put_message((Node *)self, &step, NULL, mb_message_set) ? PyObject_GetItem(self, index) : NULL;
+}
+
 int list_assign(PyObject *self, PyObject *index, PyObject *value)
 {
     Node *part = (Node *)self;
+    struct mb_value step;
 
     if (!has_kind(part))
         return -1;
+    if (PySlice_Check(index) && value == NULL)
+        return answered(call_change("delete_slice", self, index, NULL));
+    if (PySlice_Check(index)) {
+        PyErr_SetString(PyExc_TypeError, "a slice of a list is not set");
+        return -1;
+    }
+    if (!index_step(part, index, &step))
+        return -1;
     if (value == NULL)
-        return answered(call_change("delete_item", self, is_message_kind(part->kind) ? Py_True : Py_False, index));
+        return change(part, &step, NULL, mb_message_remove) ? 0 : -1;
     if (!is_message_kind(part->kind))
-        return answered(call_change("set_item", self, index, value));
+        return put(part, &step, NULL, mb_message_set, part->kind, value) ? 0 : -1;
     return answered(call_change("set_message", self, index, value));
 }
 

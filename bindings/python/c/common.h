@@ -137,6 +137,11 @@ PyObject *pool_type_at(PyObject *self, PyObject *args);
 PyObject *pool_enum(PyObject *self, PyObject *args);
 PyObject *pool_enum_value(PyObject *self, PyObject *args);
 
+/* Two versions of a message type, for type.c (compat.c). */
+PyObject *type_compat(PyObject *self, PyObject *other);
+PyObject *type_witness(PyObject *self, PyObject *args);
+extern const char compat_doc[], witness_doc[];
+
 /* What makes an object of a type that only the library's calls make: TypeError. */
 PyObject *no_new(PyTypeObject *type, PyObject *args, PyObject *kwargs);
 

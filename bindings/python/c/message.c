@@ -924,6 +924,7 @@ static PyObject *made_list_type(void)
         {"extend", list_extend, METH_O, extend_doc},
         {"clear", part_clear, METH_NOARGS, clear_doc},
         {"_make", list_make, METH_NOARGS, make_doc},
+        {"_make_at", list_make_at, METH_O, make_at_doc},
         {NULL, NULL, 0, NULL},
     };
     static PyType_Slot slots[] = {
@@ -980,6 +981,7 @@ static PyObject *made_message_type(void)
         {"__bytes__", message_encode, METH_NOARGS, encode_doc},
         {"encoded_length", message_encoded_length, METH_NOARGS, encoded_length_doc},
         {"listing", (PyCFunction)(void (*)(void))message_listing, METH_VARARGS | METH_KEYWORDS, listing_doc},
+        {"frame", message_frame, METH_NOARGS, frame_doc},
         {"copy", message_copy, METH_NOARGS, copy_doc},
         {"__copy__", message_copy, METH_NOARGS, copy_doc},
         {"__deepcopy__", message_deep_copy, METH_O, copy_doc},

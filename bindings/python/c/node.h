@@ -33,14 +33,15 @@ Py_ssize_t part_length(PyObject *self);
 bool step_of_key(Node *node, PyObject *key, struct mb_value *step, PyObject **bytes);
 PyObject *message_numbers(PyObject *self, PyObject *ignored);
 
-/* Copies, comparisons and merging of whole messages, oneofs and unknown records (whole.c). */
+/* Frames, copies, comparisons and merging of whole messages, oneofs and unknown records (whole.c). */
 PyObject *message_compare(PyObject *self, PyObject *other, int how);
+PyObject *message_frame(PyObject *self, PyObject *ignored);
 PyObject *message_copy(PyObject *self, PyObject *ignored);
 PyObject *message_deep_copy(PyObject *self, PyObject *memo);
 PyObject *message_merge(PyObject *self, PyObject *args, PyObject *kwargs);
 PyObject *message_which_oneof(PyObject *self, PyObject *name);
 PyObject *message_get_unknown(PyObject *self, void *which);
-extern const char copy_doc[], merge_doc[], which_oneof_doc[];
+extern const char frame_doc[], copy_doc[], merge_doc[], which_oneof_doc[];
 
 /* Changes (change.c). */
 int message_assign(PyObject *self, PyObject *name, PyObject *value);
@@ -51,11 +52,12 @@ PyObject *list_extend(PyObject *self, PyObject *values);
 PyObject *part_clear(PyObject *self, PyObject *ignored);
 PyObject *message_make(PyObject *self, PyObject *name);
 PyObject *list_make(PyObject *self, PyObject *ignored);
+PyObject *list_make_at(PyObject *self, PyObject *index);
 PyObject *map_make(PyObject *self, PyObject *key);
 PyObject *message_drop_unknown(PyObject *self, PyObject *ignored);
 PyObject *message_to_dict(PyObject *self, PyObject *ignored);
 PyObject *message_iter(PyObject *self);
 PyObject *message_change(PyObject *self, PyObject *args);
-extern const char append_doc[], extend_doc[], clear_doc[], make_doc[], drop_unknown_doc[], to_dict_doc[], change_doc[];
+extern const char append_doc[], extend_doc[], clear_doc[], make_doc[], make_at_doc[], drop_unknown_doc[], to_dict_doc[], change_doc[];
 
 #endif

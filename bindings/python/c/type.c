@@ -305,67 +305,6 @@ static PyObject *type_frames(PyObject *self, PyObject *args, PyObject *kwargs)
     return answer;
 }
 
-/* ---- Two versions of a type ---- */
-
-static const char *const severities[] = {NULL, "breaks", "loses", "presence", "converts", "renames"};
-
-/* A difference as _schema.py has it: both types, the field of the old one, and what it does. */
-static PyObject *difference(MessageType *old, MessageType *new, const struct mb_difference *is)
-{
-    PyObject *from = (PyObject *)type_by_number(old->pool, (uint32_t)is->old_type, NULL);
-    PyObject *to = from == NULL ? NULL : (PyObject *)type_by_number(new->pool, (uint32_t)is->new_type, NULL);
-    Field *field = to == NULL ? NULL : field_by_number((MessageType *)from, is->number);
-    PyObject *made = field == NULL ? NULL : PyObject_CallFunction(difference_class, "OOOs", from, to, field, severities[is->severity]);
-
-    Py_XDECREF(from);
-    Py_XDECREF(to);
-    return made;
-}
-
-/* The differences that were reported, as a list. */
-static PyObject *differences(MessageType *old, MessageType *new, const struct mb_difference *found, size_t count)
-{
-    PyObject *list = PyList_New((Py_ssize_t)count);
-
-    for (size_t i = 0; list != NULL && i < count; i++) {
-        PyObject *it = difference(old, new, &found[i]);
-        if (it == NULL)
-            Py_CLEAR(list);
-        else
-            PyList_SetItem(list, (Py_ssize_t)i, it);
-    }
-    return list;
-}
-
-PyDoc_STRVAR(compat_doc,
-"compat(new)\n--\n\nWhat happens to messages of this type that are read as a new type: a list of differences (old, new, field, severity) of these types, and of"
-"\neach two types that fields of the same number lead to. A severity is breaks, loses, presence, converts or renames.");
-
-static PyObject *type_compat(PyObject *self, PyObject *other)
-{
-    MessageType *old = (MessageType *)self, *new = (MessageType *)other;
-    struct mb_difference small[64], *found = small;
-    struct mb_pool pool = {0};
-    size_t count = 0;
-
-    if (Py_TYPE(other) != Py_TYPE(self)) {
-        PyErr_SetString(PyExc_TypeError, "a type is compared with a message type");
-        return NULL;
-    }
-    if (!share(new->pool, &pool))
-        return NULL;
-    uint32_t answer = mb_compat(&old->pool->handle, old->number, &pool, new->number, found, sizeof small / sizeof *small, &count);
-    if (answer == MB_DONE && count > sizeof small / sizeof *small) {
-        found = PyMem_Malloc(count * sizeof *found);
-        answer = found == NULL ? MB_MEMORY : mb_compat(&old->pool->handle, old->number, &pool, new->number, found, count, &count);
-    }
-    mb_pool_free(&pool);
-    PyObject *list = answer == MB_DONE ? differences(old, new, found, count) : refuse(answer, NULL);
-    if (found != small)
-        PyMem_Free(found);
-    return list;
-}
-
 /* ---- Fields ---- */
 
 static const char *const kinds[] = {NULL, "double", "float", "int64", "uint64", "int32", "fixed64", "fixed32", "bool", "string", "group",
@@ -904,6 +843,7 @@ PyObject *make_message_type_type(void)
         {"from_dict", type_from_dict, METH_O, from_dict_doc},
         {"field", type_field, METH_O, field_doc},
         {"compat", type_compat, METH_O, compat_doc},
+        {"witness", type_witness, METH_VARARGS, witness_doc},
         {"frames", KEYWORDS(type_frames), METH_VARARGS | METH_KEYWORDS, frames_doc},
         {"_frame", type_frame, METH_VARARGS, frame_doc},
         {NULL, NULL, 0, NULL},

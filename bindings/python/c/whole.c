@@ -1,4 +1,4 @@
-/* Copies, comparisons and merging of whole messages; which member of a oneof is set, and unknown records. */
+/* Frames, copies, comparisons and merging of whole messages; which member of a oneof is set, and unknown records. */
 #include "node.h"
 
 /* Two whole messages are equal where they are of one type of one pool, and have the same contents. */
@@ -20,6 +20,30 @@ PyObject *message_compare(PyObject *self, PyObject *other, int how)
     if (answer != MB_DONE)
         return refuse(answer, NULL);
     return PyBool_FromLong((is_equal == 1) == (how == Py_EQ));
+}
+
+const char frame_doc[] = "frame()\n--\n\nThe message as a frame of a stream: the number of its canonical bytes as a varint, and then these. type.frames reads such"
+                         " a stream.";
+
+PyObject *message_frame(PyObject *self, PyObject *Py_UNUSED(ignored))
+{
+    struct mb_message *handle = whole(self);
+    uint8_t small[SMALL_OUTPUT];
+    size_t size = 0;
+
+    if (handle == NULL)
+        return NULL;
+    uint32_t answer = mb_message_frame(handle, small, sizeof small, &size);
+    if (answer != MB_DONE)
+        return refuse(answer, NULL);
+    PyObject *bytes = PyBytes_FromStringAndSize(size <= sizeof small ? (const char *)small : NULL, (Py_ssize_t)size);
+    if (bytes == NULL || size <= sizeof small)
+        return bytes;
+    answer = mb_message_frame(handle, (uint8_t *)PyBytes_AsString(bytes), size, &size);
+    if (answer == MB_DONE)
+        return bytes;
+    Py_DECREF(bytes);
+    return refuse(answer, NULL);
 }
 
 const char copy_doc[] = "copy()\n--\n\nA copy, which is changed by itself. copy.copy(message) and copy.deepcopy(message) are the same.";

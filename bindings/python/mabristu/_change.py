@@ -74,38 +74,15 @@ def put_entry(entries, message_type, pair):
 
 
 def set_message(values, index, value):
-    """Puts fields in place of all that a message in a list has."""
-    if isinstance(index, slice):
-        raise TypeError("a slice of a list is not set")
-    message = values[index]
-    put(message.type(), value)
-    for field in message:
-        del message[field]
-    message.drop_unknown()
-    put(message, value)
+    """Puts a message in place of one in a list."""
+    made = values[index].type()
+    put(made, value)
+    put(values._make_at(index), to_dict(made))
 
 
-def replace(values, changed):
-    values.clear()
-    extend(values, changed)
-
-
-def set_item(values, index, value):
-    """Puts a scalar in place of another in a list. The library has no such call, so the list is written anew."""
-    changed = list(values)
-    if isinstance(index, slice):
-        raise TypeError("a slice of a list is not set")
-    changed[index] = value
-    values.append(value)
-    replace(values, changed)
-
-
-def delete_item(values, has_messages, index):
-    if has_messages:
-        raise TypeError("a message can't be taken out of a list: set the whole list")
-    changed = list(values)
-    del changed[index]
-    replace(values, changed)
+def delete_slice(values, part):
+    for index in sorted(range(*part.indices(len(values))), reverse=True):
+        del values[index]
 
 
 def plain(field, value):

@@ -449,6 +449,13 @@ class Whole(Shop):
             (old, new, "a", "breaks"), (old, new, "b", "converts"), (old, new, "c", "loses"), (old, new, "e", "presence"), (old, new, "g", "renames")])
         self.assertEqual([old.compat(old), self.order.compat(self.order)], [[], []])
         self.assertRaises(TypeError, old.compat, "M")
+        # An int64 is a varint, and a double has eight bytes: the new type takes the record for an unknown one.
+        shown = old.witness(new, found[0])
+        self.assertEqual([shown.type, new.decode(shown.encode())["a"], new.decode(shown.encode()).unknown], [old, 0.0, shown.encode()])
+        self.assertEqual([it.name for it in shown], ["a"])
+        self.assertEqual([old.witness(new, it) for it in found[1:]], [None] * 4)
+        for wrong in ((new, "a"), ("M", found[0]), (old, found[0]), (new, found[0]._replace(old=new)), (new, found[0]._replace(field=1)), (new,)):
+            self.assertRaises(TypeError, old.witness, *wrong)
         wide = [of(" ".join(f"{kind} f{it} = {it};" for it in range(1, 200))) for kind in ("int32", "string")]
         self.assertEqual([(it.field.number, it.severity) for it in wide[0].compat(wide[1])], [(it, "breaks") for it in range(1, 200)])
 
@@ -523,10 +530,20 @@ class Changes(Shop):
         self.assertEqual(list(order["corrections"]), [9, 2, 7, 0, 1])
         del order["corrections"][1:3]
         self.assertEqual(list(order["corrections"]), [9, 0, 1])
+        order["corrections"][-1] = 4
+        del order["corrections"][0]
+        self.assertEqual(list(order["corrections"]), [0, 4])
+        order["corrections"] = [9, 0, 1]
         order["lines"].append({"article": "washer", "pieces": 3})
         order["lines"][0] = {"article": "nut"}
         self.assertEqual([it["article"] for it in order["lines"]], ["nut", "torque wrench", "washer"])
         self.assertEqual(order["lines"][0].to_dict(), {"article": "nut"})
+        order["lines"][-1] = {"pieces": order["lines"][2]["pieces"] + 1}
+        self.assertEqual(order["lines"][2].to_dict(), {"pieces": 4})
+        del order["lines"][1]
+        self.assertEqual([it.to_dict() for it in order["lines"]], [{"article": "nut"}, {"pieces": 4}])
+        del order["lines"][::-1]
+        self.assertNotIn("lines", order)
         order["lines"] = ({"pieces": it} for it in (1, 2))
         self.assertEqual([it["pieces"] for it in order["lines"]], [1, 2])
         order["lines"].clear()
@@ -590,10 +607,14 @@ class Changes(Shop):
         for name, value in (("nothing", 1), (99, 1), ("invoice", {"nothing": 1}), ("lines", [{}, {"nothing": 1}])):
             self.assertRaises(KeyError, assign, order, name, value)
         self.assertRaises(UnicodeEncodeError, assign, order, "placed_on", "\ud800")
-        self.assertRaises(IndexError, assign, order["corrections"], 9, 1)
+        for part, index, value in (("corrections", 9, 1), ("corrections", -3, 1), ("lines", 2, {})):
+            self.assertRaises(IndexError, assign, order[part], index, value)
+            self.assertRaises(IndexError, order[part].__delitem__, index)
+        self.assertRaises(ValueError, assign, order["corrections"], 0, 2**31)
+        self.assertRaises(TypeError, assign, order["corrections"], "0", 1)
         self.assertRaises(TypeError, assign, order["corrections"], slice(0, 1), [1])
         self.assertRaises(KeyError, order["discounts"].__delitem__, "nothing")
-        self.assertRaises(TypeError, order["lines"].__delitem__, 0)
+        self.assertRaises(KeyError, assign, order["lines"], 0, {"nothing": 1})
         self.assertRaises(TypeError, order["lines"].append, {"pieces": "x"})
         self.assertRaises(ValueError, order["corrections"].append, 2**31)
         self.assertRaises(KeyError, self.order.from_dict, {"nothing": 1})
@@ -613,6 +634,18 @@ class Changes(Shop):
         refused = self.refused(part.__setitem__, "a", {})
         self.assertEqual([refused.cause, refused.number, str(refused)], ["TooDeep", 27, "change cause TooDeep"])
         self.assertEqual(message.encoded_length(), len(message.encode()))
+
+
+class Framed(Shop):
+    def test_frames(self):
+        order = self.order.decode(self.data)
+        # The length of 118 bytes is one byte; that of 300 is two, 0xac 0x02.
+        self.assertEqual([self.order().frame(), order.frame()], [b"\0", bytes([len(order.encode())]) + order.encode()])
+        long = self.order.from_dict({"placed_on": 297 * "a"})
+        self.assertEqual(long.frame(), b"\xac\x02\x12\xa9\x02" + 297 * b"a")
+        larger = self.order.from_dict({"placed_on": 10_000 * "a"})
+        stream = b"".join(it.frame() for it in (order, self.order(), long, larger))
+        self.assertEqual([it.data for it in self.order.frames(stream)], [it.encode() for it in (order, self.order(), long, larger)])
 
 
 class Find(Shop):

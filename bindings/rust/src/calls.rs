@@ -66,6 +66,8 @@ extern "C" {
     pub fn mb_pool_file(pool: *mut Handle, index: usize, report: &mut File, names: Out, names_len: usize) -> u32;
     pub fn mb_compat(old_pool: *mut Handle, old_type: u32, new_pool: *mut Handle, new_type: u32,
         out: *mut Difference, out_len: usize, count: &mut usize) -> u32;
+    pub fn mb_compat_witness(old_pool: *mut Handle, old_type: u32, new_pool: *mut Handle, new_type: u32,
+        difference: &Difference, message: Message) -> u32;
     pub fn mb_check(pool: *mut Handle, number: u32, bytes: At, len: usize, max_bytes: u32, max_depth: u8,
         fault: &mut Fault, path: *mut Step, path_len: usize) -> u32;
     pub fn mb_find(pool: *mut Handle, number: u32, bytes: At, len: usize, max_bytes: u32, max_depth: u8, numbers: *const u32, numbers_len: usize,
@@ -86,6 +88,7 @@ extern "C" {
     pub fn mb_message_merge(message: Message, bytes: At, len: usize, max_bytes: u32, max_depth: u8,
         fault: &mut Fault, path: *mut Step, path_len: usize) -> u32;
     pub fn mb_message_encode(message: *mut MessageHandle, out: Out, out_len: usize, size: &mut usize) -> u32;
+    pub fn mb_message_frame(message: *mut MessageHandle, out: Out, out_len: usize, size: &mut usize) -> u32;
     pub fn mb_message_encoded_length(message: *mut MessageHandle, size: &mut usize) -> u32;
     pub fn mb_message_show(message: *mut MessageHandle, out: Out, out_len: usize, size: &mut usize) -> u32;
     pub fn mb_message_show_decimal(message: *mut MessageHandle, out: Out, out_len: usize, size: &mut usize) -> u32;

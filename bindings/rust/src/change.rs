@@ -79,7 +79,8 @@ impl<'a> PartMut<'a> {
         self.part.clone()
     }
 
-    /// Sets the field that is here to one value: [`Value::Message`] is an empty message of the field's type, whatever its number.
+    /// Sets the field, or the element of a list, that is here to one value: [`Value::Message`] is an empty message of the field's type, whatever its
+    /// number.
     pub fn set(&mut self, value: impl Into<Value>) -> Result<(), Error> {
         put(&self.part, calls::mb_message_set, &value.into())
     }
@@ -102,6 +103,11 @@ impl<'a> PartMut<'a> {
     /// Removes the entry of a key of the map that is here, if it is there.
     pub fn remove(&mut self, key: impl Into<Key>) -> Result<(), Error> {
         change(&self.part.key(key), calls::mb_message_remove)
+    }
+
+    /// Removes the element at an index, counted from 0, of the list that is here, and the elements after it move up.
+    pub fn remove_at(&mut self, index: usize) -> Result<(), Error> {
+        change(&self.part.index(index), calls::mb_message_remove)
     }
 
     /// Drops the unknown records of the message that is here, but not of messages in it.

@@ -1,7 +1,7 @@
 //! Whether messages of an old type can be read as a new one.
 use crate::report::Report;
 use crate::structs::Difference as Reported;
-use crate::{calls, Error, MessageType};
+use crate::{calls, Error, Message, MessageType};
 use std::fmt;
 
 /// What a difference does to messages of the old type that are read as the new one: docs/COMPAT.md.
@@ -73,6 +73,27 @@ impl MessageType {
                 return found.into_iter().map(|it| self.difference(new, it)).collect();
             }
         }
+    }
+
+    /// A message of this type that shows that a difference, one of `compat(new)`, breaks reading: its canonical bytes are refused by the new type, or
+    /// read as a message that does not agree with it. None where the difference does not break, or more than 99 fields lead to its types.
+    pub fn witness(&self, new: &MessageType, difference: &Difference) -> Result<Option<Message>, Error> {
+        let reported = Reported {
+            old_type: self.pool.message_type(&difference.old_type)?.number as usize,
+            new_type: new.pool.message_type(&difference.new_type)?.number as usize,
+            number: difference.number,
+            severity: 0,
+        };
+        let (message, new_pool) = (Message::none(self), new.pool.try_clone()?);
+        // SAFETY: as in pool.rs. The new pool has a handle of its own.
+        let answer = unsafe {
+            calls::mb_compat_witness(self.pool.handle(), self.number, new_pool.handle(), new.number, &reported, message.handle())
+        };
+        if answer == calls::ABSENT {
+            return Ok(None);
+        }
+        Report::new().judge(answer)?;
+        Ok(Some(message))
     }
 
     fn difference(&self, new: &MessageType, reported: Reported) -> Result<Difference, Error> {

@@ -48,6 +48,11 @@ impl Message {
         written_alone(|out, room, size| unsafe { calls::mb_message_encode(self.handle(), out, room, size) })
     }
 
+    /// The message as a frame of a stream: the number of canonical bytes as a varint, and then these. [`MessageType::frames`] reads such a stream.
+    pub fn frame(&self) -> Result<Vec<u8>, Error> {
+        written_alone(|out, room, size| unsafe { calls::mb_message_frame(self.handle(), out, room, size) })
+    }
+
     /// How many canonical bytes there are.
     pub fn encoded_length(&self) -> Result<usize, Error> {
         let mut size = 0;

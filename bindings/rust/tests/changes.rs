@@ -58,6 +58,25 @@ fn changes_inside() -> Result<(), Error> {
 }
 
 #[test]
+fn changes_elements() -> Result<(), Error> {
+    let mut order = order();
+    let pieces = |order: &Message| order.field("lines")?.values()?.map(|it| it.field("pieces")?.get()).collect::<Result<Vec<_>, Error>>();
+    order.field_mut("corrections")?.index(1).set(5)?;
+    assert_eq!(order.field("corrections")?.index(1).get()?, Some(Value::Int32(5)));
+    order.field_mut("corrections")?.remove_at(0)?;
+    order.field_mut("corrections")?.remove_at(0)?;
+    assert!(order.field("corrections")?.is_empty()?);
+    order.field_mut("lines")?.index(0).set(Value::Message(0))?;
+    assert_eq!(pieces(&order)?, [None, Some(Value::Int32(1))]);
+    order.field_mut("lines")?.remove_at(0)?;
+    assert_eq!(pieces(&order)?, [Some(Value::Int32(1))]);
+    assert_eq!(order.field_mut("lines")?.remove_at(1), Err(Error::NoField));
+    assert_eq!(order.field_mut("lines")?.index(1).set(Value::Message(0)), Err(Error::NoField));
+    assert_eq!(order.field_mut("lines")?.index(0).set(5).unwrap_err().cause().map(|it| it.name()), Some("WrongKind"));
+    Ok(())
+}
+
+#[test]
 fn refuses() -> Result<(), Error> {
     let mut order = order();
     let before = order.encode()?;

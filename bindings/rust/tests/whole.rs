@@ -110,6 +110,24 @@ fn two_versions() -> Result<(), Error> {
     let first = Difference { old_type: "M".to_owned(), new_type: "M".to_owned(), number: 1, severity: Severity::Breaks };
     assert_eq!((&found[0], found[0].to_string()), (&first, "M 1 breaks".to_owned()));
     assert_eq!(old.compat(&old)?, []);
+    // An int64 is a varint, and a double has eight bytes: the new type takes the record for an unknown one.
+    let shown = old.witness(&new, &found[0])?.expect("a witness");
+    let read = new.decode(&shown.encode()?)?;
+    assert_eq!((shown.get("a")?.is_some(), read.get("a")?, read.unknown()?), (true, None, shown.encode()?));
+    assert_eq!(found[1..].iter().map(|it| old.witness(&new, it)).collect::<Result<Vec<_>, _>>()?, [None, None, None, None]);
+    Ok(())
+}
+
+#[test]
+fn frames() -> Result<(), Error> {
+    let mut order = order().message_type().empty()?;
+    assert_eq!(order.frame()?, [0]);
+    // 300 is the varint 0xac 0x02, and 297 is 0xa9 0x02.
+    order.set("placed_on", "a".repeat(297))?;
+    assert_eq!(order.frame()?, [b"\xac\x02\x12\xa9\x02".as_slice(), &[b'a'; 297]].concat());
+    let stream = [order.frame()?, order.frame()?].concat();
+    let found = order.message_type().frames(stream.as_slice()).map(|it| it.unwrap().data).collect::<Vec<_>>();
+    assert_eq!(found, [order.encode()?, order.encode()?]);
     Ok(())
 }
 

@@ -48,3 +48,5 @@ pub mod Copies
 pub mod JsonReading
 -- what is answered of a change
 pub mod ChangeAnswers
+-- for `mb_compat_witness`: what a comparison and its witness ensure
+mod Showing

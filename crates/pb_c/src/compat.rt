@@ -9,6 +9,8 @@ ghost use Rattle.pb_c.specs.Held.{types_held};
 ghost use Rattle.pb_c.specs.Reporting.{laid_over};
 ghost use Rattle.pb_c.specs.Typed.{HasType, LacksType};
 
+pub(crate) mod witness;
+
 use crate::handle::{PoolHandle, put, take};
 use crate::reporting::{DONE, EMPTY, MEMORY, NO_TYPE};
 use crate::typed::type_numbered;

@@ -12,6 +12,7 @@ mod schema;
 mod typed;
 
 pub use cause_name::mb_cause_name;
+pub use compat::witness::mb_compat_witness;
 pub use compat::{DifferenceReport, mb_compat};
 pub use handle::PoolHandle;
 pub use handle::seal::Seal;
@@ -25,6 +26,7 @@ pub use message::decode::mb_message_decode;
 pub use message::encode::{mb_message_encode, mb_message_encoded_length};
 pub use message::equal::mb_message_equal;
 pub use message::fields::mb_message_fields;
+pub use message::frame::mb_message_frame;
 pub use message::free::mb_message_free;
 pub use message::from_json::mb_message_from_json;
 pub use message::get::mb_message_get;

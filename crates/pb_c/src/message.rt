@@ -6,6 +6,7 @@ pub(crate) mod decode;
 pub(crate) mod encode;
 pub(crate) mod equal;
 pub(crate) mod fields;
+pub(crate) mod frame;
 pub(crate) mod free;
 pub(crate) mod from_json;
 pub(crate) mod get;

@@ -9,9 +9,10 @@ use Rattle.pb_value.specs.Dynamic.{Dynamic}
 use Rattle.pb_value.specs.Inner.{nth_datum, type_named}
 use Rattle.pb_value.specs.View.{key_view}
 use Rattle.pb_place.specs.Ask.{message_in}
-use Rattle.pb_place.specs.At.{Part, message_part, scalar_part, list_part, map_part, content_part, value_part, step, part_at, Seen, seen}
+use Rattle.pb_place.specs.At.{Part, message_part, scalar_part, list_part, map_part, content_part, value_part, step, part_at, Seen, seen, at}
 use Rattle.pb_place.specs.Changed.{Edit, set, clear, push, insert, remove, drop_unknown, edited, levels_above, most_at, target, refusal, refusal_at}
 use Rattle.pb_place.specs.Changed.{field_place, IsChangedAt, IsFieldChanged}
+use Rattle.pb_place.specs.Changed.{set_element, remove_element, index_place, element_by, element_place, refusal_by, element_refusal, IsElementChanged}
 use Rattle.pb_place.specs.Replaced.{in_message, in_list, in_map, in_nth, in_entry, in_field, in_datum, replaced, message_or}
 use Rattle.pb_place.specs.declared.error.ChangeError.{ChangeError}
 use Rattle.pb_place.specs.declared.error.ChangeError.TheVariants as cause
@@ -20,7 +21,8 @@ use Rattle.pb_place.specs.declared.step.PlaceStep.TheVariants as place_step
 use Rattle.pb_c_values.specs.declared.value.PlainValue.{PlainValue}
 use Rattle.pb_c_values.specs.Places.{Bytes, Step, field, index, key, step_view, places}
 use Rattle.pb_c_changes.specs.Values.{value_said}
-use Rattle.pb_c_changes.specs.Ends.{Outcome, made, unmade, Ends, FieldEnds, OrElse, Says, OnPlace, entry_place, put_ends, ends_at, ends, IsEnded}
+use Rattle.pb_c_changes.specs.Ends.{Outcome, made, unmade, Ends, FieldEnds, ElementEnds, ByIndex, EntryRemoved, OrElse, Says, OnPlace}
+use Rattle.pb_c_changes.specs.Ends.{entry_place, put_ends, ends_at, ends, IsEnded}
 use Rattle.pb_c_changes.specs.declared.changing.PlainChange.{PlainChange}
 use Rattle.pb_c_changes.specs.declared.changing.Put.{Put}
 use Rattle.pb_c_changes.specs.declared.changing.Put.TheVariants.{Set, Push, Insert}
@@ -105,13 +107,17 @@ target_same p q v same =
     ap (λ x. option_and_then message_in (option_map seen x))
     (part_is p (message_part v) ∙ ap (λ s. part_by s (message_part v)) same ∙ sym (part_is q (message_part v)))
 
+at_same : (p q : List PlaceStep) (v : Dynamic) → Alike p q → at p v ≡ at q v
+at_same p q v same =
+    ap (option_map seen) (part_is p (message_part v) ∙ ap (λ s. part_by s (message_part v)) same ∙ sym (part_is q (message_part v)))
+
 most_same : (p q : List PlaceStep) → Alike p q → most_at p ≡ most_at q
 most_same p q same = ap (λ (n : ℕ). 100 - n) (levels_is p ∙ ap levels_by same ∙ sym (levels_is q))
 
 replaced_same : (p q : List PlaceStep) (new : Message) → Alike p q → replaced p new ≡ replaced q new
 replaced_same p q new same = replaced_is p new ∙ ap (λ s. replaced_by s new) same ∙ sym (replaced_is q new)
 
--- PLACES THAT END AT A FIELD OR A KEY
+-- PLACES THAT END AT A FIELD, AN INDEX OR A KEY
 
 -- the steps before the last one, and what that is
 abbrev end_by : {A : Type 0} → (Step → Option A) → List Step → Option (List Step × A)
@@ -123,6 +129,11 @@ abbrev last_field : Step → Option ℕ
 last_field (field n) = Some n
 last_field (index i) = None
 last_field (key x) = None
+
+abbrev last_index : Step → Option ℕ
+last_index (field n) = None
+last_index (index i) = Some i
+last_index (key x) = None
 
 abbrev last_key : Step → Option Scalar
 last_key (field n) = None
@@ -146,6 +157,15 @@ field_is (place_step.Field n ∷ t ∷ p) = longer (place_step.Field n) (field_p
 field_is (place_step.Index i ∷ t ∷ p) = longer (place_step.Index i) (field_place (t ∷ p)) (end_by last_field (map step_view (t ∷ p))) (field_is (t ∷ p))
 field_is (place_step.Key k ∷ t ∷ p) = longer (place_step.Key k) (field_place (t ∷ p)) (end_by last_field (map step_view (t ∷ p))) (field_is (t ∷ p))
 
+index_is : (p : List PlaceStep) → viewed (index_place p) ≡ end_by last_index (map step_view p)
+index_is [] = refl
+index_is (place_step.Field n ∷ []) = refl
+index_is (place_step.Index i ∷ []) = refl
+index_is (place_step.Key k ∷ []) = refl
+index_is (place_step.Field n ∷ t ∷ p) = longer (place_step.Field n) (index_place (t ∷ p)) (end_by last_index (map step_view (t ∷ p))) (index_is (t ∷ p))
+index_is (place_step.Index i ∷ t ∷ p) = longer (place_step.Index i) (index_place (t ∷ p)) (end_by last_index (map step_view (t ∷ p))) (index_is (t ∷ p))
+index_is (place_step.Key k ∷ t ∷ p) = longer (place_step.Key k) (index_place (t ∷ p)) (end_by last_index (map step_view (t ∷ p))) (index_is (t ∷ p))
+
 entry_is : (p : List PlaceStep) → viewed (entry_place p) ≡ end_by last_key (map step_view p)
 entry_is [] = refl
 entry_is (place_step.Field n ∷ []) = refl
@@ -157,6 +177,9 @@ entry_is (place_step.Key k ∷ t ∷ p) = longer (place_step.Key k) (entry_place
 
 fields_same : (p q : List PlaceStep) → Alike p q → viewed (field_place p) ≡ viewed (field_place q)
 fields_same p q same = field_is p ∙ ap (end_by last_field) same ∙ sym (field_is q)
+
+indexes_same : (p q : List PlaceStep) → Alike p q → viewed (index_place p) ≡ viewed (index_place q)
+indexes_same p q same = index_is p ∙ ap (end_by last_index) same ∙ sym (index_is q)
 
 entries_same : (p q : List PlaceStep) → Alike p q → viewed (entry_place p) ≡ viewed (entry_place q)
 entries_same p q same = entry_is p ∙ ap (end_by last_key) same ∙ sym (entry_is q)
@@ -258,6 +281,77 @@ entry_end u e v (Some a) None same o r is also = absurd (some_none (map step_vie
 entry_end u e v (Some a) (Some b) same o r is also =
     field_end a.0 b.0 (e b.1) v (before_same a b same) o r (subst (λ x. FieldEnds a.0 (e x) v o) (last_same a b same) is) also
 
+-- an element: the place of the message that has its list, the field's number, and the index
+abbrev seen_element : Option ((List PlaceStep × ℕ) × ℕ) → Option ((List Step × ℕ) × ℕ)
+seen_element o = option_map (λ q. ((map step_view q.0.0, q.0.1), q.1)) o
+
+with_index : (i : ℕ) (o : Option (List PlaceStep × ℕ)) → seen_element (option_map (λ r. (r, i)) o) ≡ option_map (λ r. (r, i)) (viewed o)
+with_index i None = refl
+with_index i (Some r) = refl
+
+element_same : (x : Option Seen) (a b : Option (List PlaceStep × ℕ)) → viewed a ≡ viewed b → seen_element (element_by x a) ≡ seen_element (element_by x b)
+element_same None a b same = refl
+element_same (Some x) None None same = refl
+element_same (Some x) None (Some b) same = absurd (some_none (map step_view b.0, b.1) (sym same))
+element_same (Some x) (Some a) None same = absurd (some_none (map step_view a.0, a.1) same)
+element_same (Some x) (Some a) (Some b) same =
+    with_index a.1 (field_place a.0)
+    ∙ ap (option_map (λ (r : List Step × ℕ). (r, a.1))) (fields_same a.0 b.0 (before_same a b same))
+    ∙ ap (λ (i : ℕ). option_map (λ (r : List Step × ℕ). (r, i)) (viewed (field_place b.0))) (last_same a b same)
+    ∙ sym (with_index b.1 (field_place b.0))
+
+elements_same : (p q : List PlaceStep) (v : Dynamic) → Alike p q → seen_element (element_place p v) ≡ seen_element (element_place q v)
+elements_same p q v same =
+    ap (λ x. seen_element (element_by x (index_place p))) (at_same p q v same)
+    ∙ element_same (at q v) (index_place p) (index_place q) (indexes_same p q same)
+
+module _ (a b : (List PlaceStep × ℕ) × ℕ) (same : seen_element (Some a) ≡ seen_element (Some b)) where
+  all_same : ◌≡◌ {A = (List Step × ℕ) × ℕ} ((map step_view a.0.0, a.0.1), a.1) ((map step_view b.0.0, b.0.1), b.1)
+  all_same = some_same ((map step_view a.0.0, a.0.1), a.1) ((map step_view b.0.0, b.0.1), b.1) same
+
+  parent_same : Alike a.0.0 b.0.0
+  parent_same = ap (λ q. q.0.0) all_same
+
+  number_same : a.0.1 ≡ b.0.1
+  number_same = ap (λ q. q.0.1) all_same
+
+  index_same : a.1 ≡ b.1
+  index_same = ap (λ q. q.1) all_same
+
+element_refused : (e : ℕ → ℕ → Edit) (v : Dynamic) (a b : Option ((List PlaceStep × ℕ) × ℕ)) → seen_element a ≡ seen_element b
+    → refusal_by e v a ≡ refusal_by e v b
+element_refused e v None None same = refl
+element_refused e v None (Some b) same = absurd (some_none ((map step_view b.0.0, b.0.1), b.1) (sym same))
+element_refused e v (Some a) None same = absurd (some_none ((map step_view a.0.0, a.0.1), a.1) same)
+element_refused e v (Some a) (Some b) same =
+    ap (λ n. refusal n (e a.1 a.0.1) (target a.0.0 (message_part v))) (most_same a.0.0 b.0.0 (parent_same a b same))
+    ∙ ap (λ i. refusal (most_at b.0.0) (e i a.0.1) (target a.0.0 (message_part v))) (index_same a b same)
+    ∙ ap (λ n. refusal (most_at b.0.0) (e b.1 n) (target a.0.0 (message_part v))) (number_same a b same)
+    ∙ ap (refusal (most_at b.0.0) (e b.1 b.0.1)) (target_same a.0.0 b.0.0 v (parent_same a b same))
+
+one_element : (e : ℕ → ℕ → Edit) (v x y : Dynamic) (a b : Option ((List PlaceStep × ℕ) × ℕ)) → seen_element a ≡ seen_element b
+    → IsSomeAnd a (λ q. IsChangedAt q.0.0 (e q.1 q.0.1) v x) → IsSomeAnd b (λ q. IsChangedAt q.0.0 (e q.1 q.0.1) v y) → x ≡ y
+one_element e v x y None b same is also = absurd is
+one_element e v x y (Some a) None same is also = absurd also
+one_element e v x y (Some a) (Some b) same is also =
+    let numbered = subst (λ n. IsChangedAt a.0.0 (e a.1 n) v x) (number_same a b same) is in
+    let indexed = subst (λ i. IsChangedAt a.0.0 (e i b.0.1) v x) (index_same a b same) numbered in
+    changed_same a.0.0 b.0.0 (e b.1 b.0.1) v x y (parent_same a b same) indexed also
+
+element_end :
+    (p q : List PlaceStep) (e : ℕ → ℕ → Edit) (v : Dynamic) → Alike p q → (o r : Outcome) → ElementEnds p e v o → ElementEnds q e v r → o ≡ r
+element_end p q e v same =
+    one_of_both (element_refusal p e v) (element_refusal q e v) (IsElementChanged p e v) (IsElementChanged q e v)
+    (element_refused e v (element_place p v) (element_place q v) (elements_same p q v same))
+    (λ a b. one_element e v a b (element_place p v) (element_place q v) (elements_same p q v same))
+
+index_end : (a b : Option (List PlaceStep × ℕ)) (P Q R S : Outcome → Type 0) (o r : Outcome) → viewed a ≡ viewed b
+    → (P o → Q r → o ≡ r) → (R o → S r → o ≡ r) → ByIndex a P R o → ByIndex b Q S r → o ≡ r
+index_end None None P Q R S o r same element other is also = other is also
+index_end None (Some b) P Q R S o r same element other is also = absurd (some_none (map step_view b.0, b.1) (sym same))
+index_end (Some a) None P Q R S o r same element other is also = absurd (some_none (map step_view a.0, a.1) same)
+index_end (Some a) (Some b) P Q R S o r same element other is also = element is also
+
 value_end :
     (u : Unchanged) (x : Option Datum) (P Q : Datum → Outcome → Type 0) (o r : Outcome) → ((d : Datum) → P d o → Q d r → o ≡ r)
     → OrElse u x P o → OrElse u x Q r → o ≡ r
@@ -266,14 +360,20 @@ value_end u (Some d) P Q o r alike is also = alike d is also
 
 module _ (given : List Bytes) (v : Dynamic) (p q : List PlaceStep) (same : Alike p q) (o r : Outcome) where
   put_end : (how : Put) (d : Datum) → put_ends how v p d o → put_ends how v q d r → o ≡ r
-  put_end Set d = field_end p q (set (one d)) v same o r
+  put_end Set d =
+      index_end (index_place p) (index_place q) (ElementEnds p (λ i. set_element i d) v) (ElementEnds q (λ i. set_element i d) v)
+      (FieldEnds p (set (one d)) v) (FieldEnds q (set (one d)) v) o r (indexes_same p q same)
+      (element_end p q (λ i. set_element i d) v same o r) (field_end p q (set (one d)) v same o r)
   put_end Push d = field_end p q (push d) v same o r
   put_end Insert d = entry_end (Refused cause.Absent) (λ y. insert y d) v (entry_place p) (entry_place q) (entries_same p q same) o r
 
   end_at : (c : PlainChange) → ends_at given c v p o → ends_at given c v q r → o ≡ r
   end_at (change.Put how x) = value_end BadValue (value_said given x) (put_ends how v p) (put_ends how v q) o r (put_end how)
   end_at change.Clear = field_end p q clear v same o r
-  end_at change.Remove = entry_end (Refused cause.Absent) remove v (entry_place p) (entry_place q) (entries_same p q same) o r
+  end_at change.Remove =
+      index_end (index_place p) (index_place q) (ElementEnds p remove_element v) (ElementEnds q remove_element v) (EntryRemoved p v) (EntryRemoved q v) o r
+      (indexes_same p q same) (element_end p q remove_element v same o r)
+      (entry_end (Refused cause.Absent) remove v (entry_place p) (entry_place q) (entries_same p q same) o r)
   end_at change.DropUnknown = message_end p q drop_unknown v same o r
 
 -- a change ends in one way
@@ -300,6 +400,16 @@ field_type : (e : ℕ → Edit) (v w : Dynamic) (a : Option (List PlaceStep × �
 field_type e v w None is = absurd is
 field_type e v w (Some a) is = changed_type a.0 (e a.1) v w (target a.0 (message_part v)) refl is
 
+element_type : (e : ℕ → ℕ → Edit) (v w : Dynamic) (a : Option ((List PlaceStep × ℕ) × ℕ)) → IsSomeAnd a (λ q. IsChangedAt q.0.0 (e q.1 q.0.1) v w)
+    → SameType v w
+element_type e v w None is = absurd is
+element_type e v w (Some a) is = changed_type a.0.0 (e a.1 a.0.1) v w (target a.0.0 (message_part v)) refl is
+
+index_type : (a : Option (List PlaceStep × ℕ)) (P Q : Outcome → Type 0) (v w : Dynamic) → (P (made w) → SameType v w) → (Q (made w) → SameType v w)
+    → ByIndex a P Q (made w) → SameType v w
+index_type None P Q v w element other is = other is
+index_type (Some a) P Q v w element other is = element is
+
 apart : (w : Dynamic) (u : Unchanged) → made w ≡ unmade u → ⊥
 apart w u e = absurd (cc)
 
@@ -316,18 +426,24 @@ module _ (given : List Bytes) (v w : Dynamic) where
   at_field : (p : List PlaceStep) (e : ℕ → Edit) → FieldEnds p e v (made w) → SameType v w
   at_field p e = made_type (refusal_at p e v) (IsFieldChanged p e v) v w (field_type e v w (field_place p))
 
+  at_element : (p : List PlaceStep) (e : ℕ → ℕ → Edit) → ElementEnds p e v (made w) → SameType v w
+  at_element p e = made_type (element_refusal p e v) (IsElementChanged p e v) v w (element_type e v w (element_place p v))
+
   at_entry : (p : List PlaceStep) (e : Scalar → ℕ → Edit) → OrElse (Refused cause.Absent) (entry_place p) (λ a. FieldEnds a.0 (e a.1) v) (made w) → SameType v w
   at_entry p e = else_type (Refused cause.Absent) (entry_place p) (λ a. FieldEnds a.0 (e a.1) v) v w (λ a. at_field a.0 (e a.1))
 
   put_type : (how : Put) (p : List PlaceStep) (d : Datum) → put_ends how v p d (made w) → SameType v w
-  put_type Set p d = at_field p (set (one d))
+  put_type Set p d =
+      index_type (index_place p) (ElementEnds p (λ i. set_element i d) v) (FieldEnds p (set (one d)) v) v w
+      (at_element p (λ i. set_element i d)) (at_field p (set (one d)))
   put_type Push p d = at_field p (push d)
   put_type Insert p d = at_entry p (λ y. insert y d)
 
   type_at : (c : PlainChange) (p : List PlaceStep) → ends_at given c v p (made w) → SameType v w
   type_at (change.Put how x) p = else_type BadValue (value_said given x) (put_ends how v p) v w (put_type how p)
   type_at change.Clear p = at_field p clear
-  type_at change.Remove p = at_entry p remove
+  type_at change.Remove p =
+      index_type (index_place p) (ElementEnds p remove_element v) (EntryRemoved p v) v w (at_element p remove_element) (at_entry p remove)
   type_at change.DropUnknown p =
       made_type (refusal (most_at p) drop_unknown (target p (message_part v))) (IsChangedAt p drop_unknown v) v w
       (changed_type p drop_unknown v w (target p (message_part v)) refl)

@@ -6,8 +6,9 @@ use Rattle.pb_value.specs.Dynamic.{Dynamic}
 use Rattle.pb_value.specs.View.{key_view}
 use Rattle.pb_value.specs.declared.error.ValueError.TheVariants.{Memory}
 use Rattle.pb_place.specs.At.{message_part}
-use Rattle.pb_place.specs.Changed.{Edit, set, clear, push, insert, remove, drop_unknown}
+use Rattle.pb_place.specs.Changed.{Edit, set, clear, push, insert, remove, set_element, remove_element, drop_unknown}
 use Rattle.pb_place.specs.Changed.{most_at, target, refusal, refusal_at, IsChangedAt, IsFieldChanged}
+use Rattle.pb_place.specs.Changed.{index_place, element_refusal, IsElementChanged}
 use Rattle.pb_place.specs.declared.error.ChangeError.{ChangeError}
 use Rattle.pb_place.specs.declared.error.ChangeError.TheVariants as cause
 use Rattle.pb_place.specs.declared.step.PlaceStep.{PlaceStep}
@@ -37,6 +38,15 @@ Ends (Some c) IsMade o = o ≡ unmade (Refused c)
 abbrev pub FieldEnds : List PlaceStep → (ℕ → Edit) → Dynamic → Outcome → Type 0
 FieldEnds p e v = Ends (refusal_at p e v) (IsFieldChanged p e v)
 
+-- a change of the element of a list that a place ends at
+abbrev pub ElementEnds : List PlaceStep → (ℕ → ℕ → Edit) → Dynamic → Outcome → Type 0
+ElementEnds p e v = Ends (element_refusal p e v) (IsElementChanged p e v)
+
+-- by whether a place ends at an index: as for the element there, or else as for what it ends at otherwise
+abbrev pub ByIndex : Option (List PlaceStep × ℕ) → (Outcome → Type 0) → (Outcome → Type 0) → Outcome → Type 0
+ByIndex None Element Other o = Other o
+ByIndex (Some q) Element Other o = Element o
+
 -- with what there is, and where there is none not made
 abbrev pub OrElse : {A : Type 0} → Unchanged → Option A → (A → Outcome → Type 0) → Outcome → Type 0
 OrElse u None Then o = o ≡ unmade u
@@ -58,9 +68,13 @@ entry_place (Field n ∷ []) = None
 entry_place (Index i ∷ []) = None
 entry_place (s ∷ t ∷ p) = option_map (λ q. (s ∷ q.0, q.1)) (entry_place (t ∷ p))
 
--- how it ends that a value is put in a field, at the end of a list, or under a key of a map
+-- how it ends that the entry of the key is removed that a place ends at
+abbrev pub EntryRemoved : List PlaceStep → Dynamic → Outcome → Type 0
+EntryRemoved p v = OrElse (Refused cause.Absent) (entry_place p) (λ q. FieldEnds q.0 (remove q.1) v)
+
+-- how it ends that a value is put in a field or in place of an element, at the end of a list, or under a key of a map
 abbrev pub put_ends : Put → Dynamic → List PlaceStep → Datum → Outcome → Type 0
-put_ends Set v p d = FieldEnds p (set (one d)) v
+put_ends Set v p d = ByIndex (index_place p) (ElementEnds p (λ i. set_element i d) v) (FieldEnds p (set (one d)) v)
 put_ends Push v p d = FieldEnds p (push d) v
 put_ends Insert v p d = OrElse (Refused cause.Absent) (entry_place p) (λ q. FieldEnds q.0 (insert q.1 d) v)
 
@@ -68,7 +82,7 @@ put_ends Insert v p d = OrElse (Refused cause.Absent) (entry_place p) (λ q. Fie
 abbrev pub ends_at : List Bytes → PlainChange → Dynamic → List PlaceStep → Outcome → Type 0
 ends_at given (change.Put how x) v p = OrElse BadValue (value_said given x) (put_ends how v p)
 ends_at given change.Clear v p = FieldEnds p clear v
-ends_at given change.Remove v p = OrElse (Refused cause.Absent) (entry_place p) (λ q. FieldEnds q.0 (remove q.1) v)
+ends_at given change.Remove v p = ByIndex (index_place p) (ElementEnds p remove_element v) (EntryRemoved p v)
 ends_at given change.DropUnknown v p = Ends (refusal (most_at p) drop_unknown (target p (message_part v))) (IsChangedAt p drop_unknown v)
 
 -- how it ends at the place that the steps say

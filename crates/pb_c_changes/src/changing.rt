@@ -1,21 +1,25 @@
 //! Changes of a message at a place that C says.
 
-ghost use Rattle.std.specs.Prelude.{◌≡◌, None, Some, map, option_map, MatchResult};
+ghost use Rattle.std.specs.Prelude.{◌≡◌, None, Some, is_some, map, option_map, MatchResult};
 ghost use Rattle.pb_value.specs.Data.{one};
 ghost use Rattle.pb_value.specs.View.{key_view, value_view};
 ghost use Rattle.pb_place.specs.At.{message_part};
-ghost use Rattle.pb_place.specs.Changed.{set, clear, push, insert, remove, drop_unknown, most_at, target, refusal, IsChangedAt};
+ghost use Rattle.pb_place.specs.Changed.{set, clear, push, insert, remove, set_element, remove_element, drop_unknown};
+ghost use Rattle.pb_place.specs.Changed.{index_place, most_at, target, refusal, IsChangedAt};
 ghost use Rattle.pb_place.specs.declared.error.ChangeError.TheVariants.{Absent};
 ghost use Rattle.pb_c_values.specs.Places.{places};
 ghost use Rattle.pb_c_changes.specs.Values.{value_said};
-ghost use Rattle.pb_c_changes.specs.Ends.{Ends, FieldEnds, OrElse, Says, entry_place, put_ends, ends_at, ends, IsEnded, IsFor};
+ghost use Rattle.pb_c_changes.specs.Ends.{Ends, FieldEnds, ElementEnds, ByIndex, EntryRemoved, OrElse, Says};
+ghost use Rattle.pb_c_changes.specs.Ends.{entry_place, put_ends, ends_at, ends, IsEnded, IsFor};
+ghost use Rattle.pb_c_changes.specs.declared.changing.Put.TheVariants as put;
 ghost use Rattle.pb_c_changes.specs.declared.unchanged.Unchanged.TheVariants.{BadPlace, BadValue, Refused};
 
 use crate::unchanged::Unchanged;
 use crate::value::value_of;
 use pb_c_values::{Miss, PlainValue, place_of};
 use pb_place::{
-    ChangeError, PlaceStep, clear_at, drop_unknown_at, insert_at, push_at, remove_at, set_at,
+    ChangeError, PlaceStep, clear_at, drop_unknown_at, insert_at, push_at, remove_at,
+    remove_element_at, set_at, set_element_at,
 };
 use pb_value::{Content, DynamicMessage, MapKey, Value};
 use std::alloc::Global;
@@ -23,7 +27,7 @@ use std::alloc::Global;
 /// How a value is put at a place.
 #[derive(Clone, Copy, Debug, PartialEq, Eq)]
 pub enum Put {
-    /// In the field that the place ends at.
+    /// In the field that the place ends at, or in place of the element of a list that it ends at.
     Set,
     /// At the end of the list that the place ends at.
     Push,
@@ -38,7 +42,7 @@ pub enum PlainChange {
     Put(Put, PlainValue),
     /// Clears the field that the place ends at.
     Clear,
-    /// Removes the entry of the key that the place ends at.
+    /// Removes the entry of the key, or the element of a list, that the place ends at.
     Remove,
     /// Drops the unknown records of the message at the place.
     DropUnknown,
@@ -82,13 +86,55 @@ fn key_at_end(place: Vec<PlaceStep>) -> Option<(Vec<PlaceStep>, MapKey)>
     }
 }
 
+/// Whether a place ends at an index.
+fn ends_at_index(place: &[PlaceStep]) -> bool
+    ensures { result ≡ is_some (index_place place.now) }
+{
+    let Some((step, _)) = place.split_last() else {
+        return false;
+    };
+    match step {
+        PlaceStep::Index(_) => true,
+        _ => false,
+    }
+}
+
 /// Sets the field that a place ends at.
-fn set(message: &mut DynamicMessage<'_>, place: &[PlaceStep], value: Value) -> Result<(), Unchanged>
+fn set_field(
+    message: &mut DynamicMessage<'_>,
+    place: &[PlaceStep],
+    value: Value,
+) -> Result<(), Unchanged>
     ensures { IsEnded (FieldEnds place.now (set (one (value_view value))) message.old) message.old message.new result }
 {
     match set_at(message, place, Content::One(value)) {
         Ok(()) => Ok(()),
         Err(cause) => Err(Unchanged::Refused(cause)),
+    }
+}
+
+/// Puts a value in place of the element that a place ends at.
+fn set_element(
+    message: &mut DynamicMessage<'_>,
+    place: &[PlaceStep],
+    value: Value,
+) -> Result<(), Unchanged>
+    ensures { IsEnded (ElementEnds place.now (λ i. set_element i (value_view value)) message.old) message.old message.new result }
+{
+    match set_element_at(message, place, value) {
+        Ok(_) => Ok(()),
+        Err(cause) => Err(Unchanged::Refused(cause)),
+    }
+}
+
+/// Puts a value in place of the element that a place ends at, or in the field that it ends at.
+fn set(message: &mut DynamicMessage<'_>, place: &[PlaceStep], value: Value) -> Result<(), Unchanged>
+    ensures { IsEnded (put_ends put.Set message.old place.now (value_view value)) message.old message.new result }
+{
+    if ends_at_index(place) {
+        set_element(message, place, value)
+    } else {
+        set_field(message, place, value)
     }
 }
 
@@ -145,6 +191,16 @@ fn remove(
     }
 }
 
+/// Removes the element that a place ends at.
+fn remove_element(message: &mut DynamicMessage<'_>, place: &[PlaceStep]) -> Result<(), Unchanged>
+    ensures { IsEnded (ElementEnds place.now remove_element message.old) message.old message.new result }
+{
+    match remove_element_at(message, place) {
+        Ok(_) => Ok(()),
+        Err(cause) => Err(Unchanged::Refused(cause)),
+    }
+}
+
 /// Drops the unknown records of the message at a place.
 fn drop_unknown(message: &mut DynamicMessage<'_>, place: &[PlaceStep]) -> Result<(), Unchanged>
     ensures { IsEnded (Ends (refusal (most_at place.now) drop_unknown (target place.now (message_part message.old)))
@@ -172,12 +228,24 @@ fn insert_at_end(
 }
 
 /// Removes the entry of the key that a place ends at.
-fn remove_at_end(message: &mut DynamicMessage<'_>, place: Vec<PlaceStep>) -> Result<(), Unchanged>
-    ensures { IsEnded (OrElse (Refused Absent) (entry_place place.items) (λ q. FieldEnds q.0 (remove q.1) message.old)) message.old message.new result }
+fn remove_entry(message: &mut DynamicMessage<'_>, place: Vec<PlaceStep>) -> Result<(), Unchanged>
+    ensures { IsEnded (EntryRemoved place.items message.old) message.old message.new result }
 {
     match key_at_end(place) {
         Some((parent, key)) => remove(message, &parent, key),
         None => Err(Unchanged::Refused(ChangeError::Absent)),
+    }
+}
+
+/// Removes the element or the entry that a place ends at.
+fn remove_at_end(message: &mut DynamicMessage<'_>, place: Vec<PlaceStep>) -> Result<(), Unchanged>
+    ensures { IsEnded (ByIndex (index_place place.items) (ElementEnds place.items remove_element message.old) (EntryRemoved place.items message.old))
+        message.old message.new result }
+{
+    if ends_at_index(&place) {
+        remove_element(message, &place)
+    } else {
+        remove_entry(message, place)
     }
 }
 

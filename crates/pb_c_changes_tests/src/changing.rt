@@ -71,7 +71,27 @@ const LISTS_AND_MAPS: &str = "
 19:[m1=i5] | push 21.19 = 11.0 | ok | 19:[m1=i5,m]
 19:[m1=i5,m] | set 21.19 22.1 21.1 = 5.7 | ok | 19:[m1=i5,m1=i7]
 19:[m1=i5] | set 21.19 22.1 21.1 = 5.7 | Absent | same
-19:[m1=i5] | set 21.19 22.0 = 11.0 | Absent | same
+19:[m1=i5,m] | set 21.19 22.0 = 11.0 | ok | 19:[m,m]
+6:[i4,i5] | set 21.6 22.1 = 5.7 | ok | 6:[i4,i7]
+6:[i4,i5] | set 21.6 22.0 = 5.0 | ok | 6:[i0,i5]
+6:[i4] | set 21.6 22.1 = 5.7 | Absent | same
+6:[i4] | set 21.6 22.0 = 4.7 | WrongKind | same
+6:[i4] | set 21.6 22.0 = 0.7 | value | same
+6:[i4] | set 21.6 22.0 22.0 = 5.7 | Absent | same
+13:[tp,ta] | set 21.13 22.0 = 9.1 | ok | 13:[tk,ta]
+13:[tp] | set 21.13 22.0 = 9.2 | value | same
+9:{ta=i8} | set 21.9 22.0 = 5.7 | Absent | same
+9:{ta=i8} | set 21.9 9.0 = 5.7 | Absent | same
+6:[i4,i5,i6] | remove 21.6 22.1 | ok | 6:[i4,i6]
+6:[i4] | remove 21.6 22.0 | ok |
+6:[i4] | remove 21.6 22.1 | Absent | same
+6:[i4] | remove 22.0 | Absent | same
+13:[tp,ta] | remove 21.13 22.0 | ok | 13:[ta]
+19:[m1=i5,m] | remove 21.19 22.0 | ok | 19:[m]
+19:[m1=i5] | remove 21.19 22.0 21.1 | Absent | same
+9:{ta=i8} | remove 21.9 22.0 | Absent | same
+1:i5 | remove 21.1 22.0 | Absent | same
+1:i5 | remove | Absent | same
 1:i5 | push 21.9 = 5.7 | WrongShape | same
 9:{ta=i8} | insert 21.9 9.1 = 5.7 | ok | 9:{ta=i8,tk=i7}
 9:{ta=i8} | insert 21.9 9.0 = 5.0 | ok | 9:{ta=i0}

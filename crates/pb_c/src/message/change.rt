@@ -98,12 +98,12 @@ fn change_held(
     answer
 }
 
-/// Sets the field that the place ends at to a value. A string or bytes are those of the index that the value has as its number, among the
-/// strings; a message is an empty one.
+/// Sets the field that the place ends at to a value, or puts it in place of the element of a list that the place ends at. A string or bytes are those
+/// of the index that the value has as its number, among the strings; a message is an empty one.
 ///
 /// Answers DONE; EMPTY where the handle holds nothing; BAD_PLACE where the steps say no place; BAD_VALUE where the value is none; ABSENT where
-/// the message of the field is not there, or the place does not end at a field; the cause, 21 to 30, why the message refuses the change; or
-/// MEMORY. The message is changed at DONE alone.
+/// the message of the field is not there, the list has no such element, or the place ends at neither; the cause, 21 to 30, why the message refuses
+/// the change; or MEMORY. The message is changed at DONE alone.
 #[unsafe(no_mangle)]
 pub extern "C" fn mb_message_set(
     alloc: Global,
@@ -190,9 +190,9 @@ pub extern "C" fn mb_message_insert(
     )
 }
 
-/// Removes the entry of the key that the place ends at, if it is there.
+/// Removes the entry of the key that the place ends at, if it is there, or the element of a list that the place ends at.
 ///
-/// Answers as `mb_message_insert` does.
+/// Answers as `mb_message_insert` does, and ABSENT where the list has no such element.
 #[unsafe(no_mangle)]
 pub extern "C" fn mb_message_remove(
     alloc: Global,

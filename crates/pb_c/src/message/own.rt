@@ -44,7 +44,7 @@ impl Model for OwnMessage {
 }
 
 /// A box of a message of this pool.
-pub(super) fn boxed(
+pub(crate) fn boxed(
     alloc: Global,
     pool: &Arc<Pool>,
     message: DynamicMessage<'_>,

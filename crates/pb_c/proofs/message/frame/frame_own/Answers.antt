@@ -1,0 +1,18 @@
+-- The bytes that are held are the canonical ones.
+use Rattle.std.proofs.Common.{◌≡◌, ◌<◌, ◌^◌, List, ℕ, length, ap, subst, ◌∙◌}
+use Rattle.pb_encode.specs.Encoding.{bytes_of}
+use Rattle.pb_stream.specs.Writing.{frame_of}
+use Rattle.pb_c_held.specs.Holds.{message_held}
+use Rattle.pb_c.specs.Reporting.{IsLaid}
+use Rattle.pb_c.proofs.message.frame.frame_own.Goals as goal
+
+pub returns-in-Some-clause-written : goal.returns-in-Some-clause-written
+returns-in-Some-clause-written c = λ done.
+    let pool = c.own.inside.pool.value in let m = c.own.inside.message_type.0 in let seen = c.own.view_is in
+    let there : message_held pool m c.own.inside.held ≡ c.args.own.now = cc in
+    let rules = rw c.deref.ensures at c.messages-types.ensures.rules in
+    let same : c.in-Some.bytes.now ≡ bytes_of c.args.own.now = c.in-Some.ensures.written pool m rules c.own.invariant.1 ∙ ap bytes_of there in
+    let canonical = c.in-Some.ensures.canonical pool m c.own.invariant.1 in let out = c.write_framed.new.out in let size = c.write_framed.new.size in (
+      subst (λ (b : List ℕ). length b < 2 ^ 31) same canonical.small,
+      subst (λ (b : List ℕ). IsLaid (frame_of b) c.args.out.now out size) same (c.write_framed.ensures.written done),
+    )
