@@ -65,6 +65,15 @@ static bool read_here(const std::string& json, mb_message* message) {
 
 static bool read_there(const std::string& json, Message* message) { return util::JsonStringToMessage(json, message).ok(); }
 
+// Whether two messages are the same, where a NaN is any NaN.
+static bool are_same(const Message& one, const Message& other) {
+    util::MessageDifferencer differ;
+    util::DefaultFieldComparator floats;
+    floats.set_treat_nan_as_equal(true);
+    differ.set_field_comparator(&floats);
+    return differ.Compare(one, other);
+}
+
 // Decodes a message, and has each read what the other writes of it.
 static bool make(const std::string& text, Pair& pair) {
     if (mb_message_decode(&types, number, bytes_of(text), text.size(), MB_MAX_BYTES, MB_MAX_DEPTH, &pair.here, &fault, path, MB_MAX_STEPS) != MB_DONE)
@@ -77,7 +86,7 @@ static bool make(const std::string& text, Pair& pair) {
     const std::string written(reinterpret_cast<const char*>(out.data()), size);
     bool same = read_here(pair.json, &read) && mb_message_encode(&read, out.data(), out.size(), &size) == MB_DONE &&
                 again->ParseFromArray(out.data(), int(size)) && read_there(written, other.get()) &&
-                util::MessageDifferencer::Equals(*again, *pair.there) && util::MessageDifferencer::Equals(*other, *pair.there);
+                are_same(*again, *pair.there) && are_same(*other, *pair.there);
     mb_message_free(&read);
     return same;
 }
