@@ -176,6 +176,8 @@ static void fill(Message* message, int depth) {
         bool deep = field->cpp_type() == FieldDescriptor::CPPTYPE_MESSAGE && !field->is_map();
         if ((deep && depth <= 0) || below(type->field_count()) >= 8) continue;
         if (field->cpp_type() == FieldDescriptor::CPPTYPE_MESSAGE && field->message_type()->full_name() == "google.protobuf.Any") continue;
+        // libprotobuf neither writes nor reads groups as JSON.
+        if (field->type() == FieldDescriptor::TYPE_GROUP) continue;
         // Of a set that is read leniently these are lists of entries.
         if (field->is_map() && is_closed(field->message_type()->map_value())) continue;
         for (uint64_t n = field->is_repeated() ? below(4) : 1; n > 0; n--) fill_field(message, field, depth);
