@@ -12,12 +12,13 @@ ghost use Rattle.pb_whole.specs.Reads.{HasTagAt, IsAtTag, Passes, ReadsOne};
 ghost use Rattle.pb_whole.specs.Listed.{ReadsList, IsElement, AreElements};
 
 use crate::reader::{Left, Reader};
+use crate::tokens::tag_again;
 use pb_parts::error::NoMemory;
 use pb_parts::open::part::Part;
 use pb_parts::open::purpose::Purpose;
 use pb_parts::tokens::number::number_value;
 use pb_parts::tokens::number_token::{NumberToken, number_at};
-use pb_parts::tokens::record_tag::{RecordTag, left_behind, record_tag};
+use pb_parts::tokens::record_tag::{RecordTag, left_behind};
 use pb_parts::values::put_elements::put_elements;
 use pb_parts::values::put_number::is_undeclared;
 use pb_parts::values::put_scalar::put_scalar;
@@ -77,13 +78,8 @@ impl Reader<'_> {
         ensures within { IfSome result (λ r. (0 < r.1) × (r.1 ≤ length bytes.now)) }
         ensures put { IsElement self.now.pool.now kind number bytes.now remaining result }
     {
-        let tag = record_tag(bytes, Some(remaining))?;
-        if tag.number == number {
-            if tag.wire_type == kind.wire_type() {
-                return self.element_after(kind, tag, bytes, remaining);
-            }
-        }
-        None
+        let tag = tag_again(number, kind.wire_type(), bytes, remaining)?;
+        self.element_after(kind, tag, bytes, remaining)
     }
 
     /// The values of a first record of this size and of those of the same list that follow it, and how many bytes they take.

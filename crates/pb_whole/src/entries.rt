@@ -5,17 +5,19 @@ ghost use Rattle.pb_schema.specs.Rules.{IsPool};
 ghost use Rattle.pb_parts.specs.declared.open.purpose.Purpose.TheVariants as purposes;
 ghost use Rattle.pb_parts.specs.Open.PartView.{part_view};
 ghost use Rattle.pb_parts.specs.Open.Purposes.{Means, part_context};
-ghost use Rattle.pb_whole.specs.Reads.{HasTagAt, IsAtTag, Passes, ReadsOne};
+ghost use Rattle.pb_parts.specs.Values.PayloadValue.{IsBytesPurpose};
+ghost use Rattle.pb_whole.specs.Reads.{CanRead, HasTagAt, IsAtTag, Passes, ReadsAll, ReadsOne};
 ghost use Rattle.pb_whole.specs.Entries.{IsMapOpen, AddsEntry, ReadsEntries};
 
 use crate::heap::keep_heap_after_list;
 use crate::reader::{Left, Reader};
-use crate::tokens::{payload_after, tag_again};
+use crate::tokens::{is_number, payload_after, tag_again};
 use pb_parts::close::closing::{key_or_default, value_or_missing};
 use pb_parts::close::put_entries::put_entries;
 use pb_parts::error::NoMemory;
 use pb_parts::open::part::Part;
-use pb_parts::tokens::record_tag::RecordTag;
+use pb_parts::open::purpose::{Purpose, purpose_of};
+use pb_parts::tokens::record_tag::{RecordTag, record_tag};
 use pb_schema::Kind;
 use pb_value::{MapKey, Value};
 
@@ -37,6 +39,78 @@ fn entry_tag(number: u32, last: usize, bytes: &[u8], remaining: u32) -> Option<R
 }
 
 impl Reader<'_> {
+    /// Puts the key or the scalar value after a tag into its entry, and how many bytes its record takes.
+    #[inline(always)]
+    fn read_scalar(
+        &self,
+        entry: &mut Part,
+        tag: RecordTag,
+        purpose: Purpose,
+        bytes: &[u8],
+        left: Left,
+    ) -> Result<usize, NoMemory>
+        requires at_tag { IsAtTag self.now.pool.now entry.old bytes.now left tag }
+        requires means { Means self.now.pool.now (part_context (part_view entry.old)) tag.number tag.wire_type purpose }
+        requires purpose { IsBytesPurpose purpose }
+        ensures passes { Passes tag.size bytes.now result }
+        ensures read { ReadsOne self.now.pool.now entry.old entry.new bytes.now left result }
+    {
+        if tag.wire_type == 2 {
+            self.read_bytes(entry, tag, purpose, bytes, left)
+        } else if is_number(tag.wire_type) {
+            self.read_one(entry, tag, purpose, bytes, left)
+        } else {
+            Err(NoMemory)
+        }
+    }
+
+    /// Puts the record of a tag that ends no group into its entry, and how many bytes it takes. Keys and scalars are most of them.
+    #[cycle(read)]
+    #[inline(always)]
+    fn read_in_entry(
+        &self,
+        entry: &mut Part,
+        tag: RecordTag,
+        bytes: &[u8],
+        left: Left,
+    ) -> Result<usize, NoMemory>
+        requires at_tag { IsAtTag self.now.pool.now entry.old bytes.now left tag }
+        ensures passes { Passes tag.size bytes.now result }
+        ensures read { ReadsOne self.now.pool.now entry.old entry.new bytes.now left result }
+    {
+        let purpose = purpose_of(self.pool, entry, tag.number, tag.wire_type);
+        match purpose {
+            Purpose::Key(_) | Purpose::EntryValue(_) => {
+                self.read_scalar(entry, tag, purpose, bytes, left)
+            }
+            _ => self.read_apart(entry, tag, bytes, left),
+        }
+    }
+
+    /// Puts the records of an entry's payload into it, as `read_records` does. In a loop of their own keys and scalars need little of
+    /// what other records do.
+    #[cycle(read)]
+    pub fn read_entry(&self, entry: &mut Part, bytes: &[u8], left: Left) -> Result<(), NoMemory>
+        requires can { CanRead self.now.pool.now entry.old bytes.now left }
+        requires whole { left.remaining ≤ length bytes.now }
+        ensures { ReadsAll self.now.pool.now entry.old entry.new bytes.now left result }
+    {
+        let mut here = 0;
+        while here < left.remaining as usize {
+            let rest = &bytes[here..];
+            let rest_left = left.after(here);
+            let Some(tag) = record_tag(rest, Some(rest_left.remaining)) else {
+                return Err(NoMemory);
+            };
+            let used = self.read_in_entry(entry, tag, rest, rest_left)?;
+            here += used;
+        }
+        if here != left.remaining as usize {
+            return Err(NoMemory);
+        }
+        Ok(())
+    }
+
     /// Puts the key and the value of the entry after a tag after those before them, and how many bytes its record takes.
     #[cycle(read)]
     #[inline(always)]
@@ -73,7 +147,7 @@ impl Reader<'_> {
             remaining: size,
             depth_left: left.depth_left - 1,
         };
-        self.read_records(&mut entry, &bytes[start..], within)?;
+        self.read_entry(&mut entry, &bytes[start..], within)?;
         match entry {
             Part::Entry {
                 key_kind,

@@ -5,7 +5,8 @@
 //! gives into the part around it. A record is read from its tag on, out of all bytes that follow, and its reader returns how many
 //! bytes it takes.
 //!
-//! An inner crate. `pb_decode` calls `build` first, and reads by `read_records` each message and map entry that is completely in a piece.
+//! An inner crate. `pb_decode` calls `build` first. It reads each message that is completely in a piece by `read_records`, and each such
+//! map entry by `read_entry`.
 #![tactic(auto)]
 
 mod bytes;

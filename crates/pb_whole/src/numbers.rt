@@ -1,5 +1,6 @@
 //! Numbers.
 
+ghost use Rattle.pb_parts.specs.declared.open.purpose.Purpose.TheVariants as purposes;
 ghost use Rattle.pb_parts.specs.Open.PartView.{part_view};
 ghost use Rattle.pb_parts.specs.Open.Purposes.{Means, part_context};
 ghost use Rattle.pb_parts.specs.Tokens.Number.{IsNumberType};
@@ -39,6 +40,24 @@ impl Reader<'_> {
             NumberToken::Short => Err(NoMemory),
             NumberToken::Fault(_) => Err(NoMemory),
         }
+    }
+
+    /// Puts the number after a tag among the unknown records of a part, and how many bytes its record takes.
+    #[inline(never)]
+    fn read_unknown(
+        &self,
+        part: &mut Part,
+        tag: RecordTag,
+        bytes: &[u8],
+        left: Left,
+    ) -> Result<usize, NoMemory>
+        requires at_tag { IsAtTag self.now.pool.now part.old bytes.now left tag }
+        requires number { IsNumberType tag.wire_type }
+        requires means { Means self.now.pool.now (part_context (part_view part.old)) tag.number tag.wire_type purposes.Unknown }
+        ensures passes { Passes tag.size bytes.now result }
+        ensures read { ReadsOne self.now.pool.now part.old part.new bytes.now left result }
+    {
+        self.read_one(part, tag, Purpose::Unknown, bytes, left)
     }
 
     /// As `read_one`, for what few numbers outside maps are for. A function of its own, so that `read_number` is small enough to be
@@ -81,6 +100,7 @@ impl Reader<'_> {
             Purpose::One(kind, shape) => {
                 self.read_one(part, tag, Purpose::One(kind, shape), bytes, left)
             }
+            Purpose::Unknown => self.read_unknown(part, tag, bytes, left),
             _ => self.read_other(part, tag, bytes, left),
         }
     }

@@ -71,6 +71,23 @@ impl Reader<'_> {
         }
     }
 
+    /// As `read_tagged`, in a function of its own, so that its caller stays small.
+    #[cycle(read)]
+    #[inline(never)]
+    pub(crate) fn read_apart(
+        &self,
+        part: &mut Part,
+        tag: RecordTag,
+        bytes: &[u8],
+        left: Left,
+    ) -> Result<usize, NoMemory>
+        requires at_tag { IsAtTag self.now.pool.now part.old bytes.now left tag }
+        ensures passes { Passes tag.size bytes.now result }
+        ensures read { ReadsOne self.now.pool.now part.old part.new bytes.now left result }
+    {
+        self.read_tagged(part, tag, bytes, left)
+    }
+
     /// Puts the records of a payload into its part. If one is no record or memory is refused, some of those before it may be in the part.
     #[cycle(read)]
     pub fn read_records(&self, part: &mut Part, bytes: &[u8], left: Left) -> Result<(), NoMemory>

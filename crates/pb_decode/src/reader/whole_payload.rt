@@ -118,7 +118,7 @@ pub(crate) fn take_entry(
         remaining: size,
         depth_left: reader.scope.room - 1,
     };
-    let Ok(()) = whole.read_records(&mut entry, &bytes[start..], within) else {
+    let Ok(()) = whole.read_entry(&mut entry, &bytes[start..], within) else {
         *by_tokens = true;
         return Ok(None);
     };

@@ -13,8 +13,8 @@ use Rattle.pb_whole.proofs.Held.{entry_has_room}
 use Rattle.pb_whole.proofs.Payloads.{entry_inside, none_left}
 use Rattle.pb_decode.proofs.reader.whole_payload.take_entry.Goals as goal
 
-pub read_records-requires-clause-can : goal.read_records-requires-clause-can
-read_records-requires-clause-can c =
+pub read_entry-requires-clause-can : goal.read_entry-requires-clause-can
+read_entry-requires-clause-can c =
     let is = ap length (slice_from c.in-Some.start c.args.bytes.now) ∙ length-drop c.in-Some.start c.args.bytes.now in
     let small = c.requires.at_tag.reading.small in
     let s = state_view c.args.reader.now in

@@ -253,15 +253,57 @@ read_messages-returns-clause-read t c =
     subst (λ (z : Part). ReadsTo c.args.self.now.pool.now (part_view c.args.part.now) z c.args.bytes.now c.args.left.remaining c.args.left.depth_left c.in_ok-messages.used) (sym c.in_ok-put_elements.ensures)
     (c.in_ok-messages.ensures.put (part_view c.args.part.now) c.requires.means)
 
+-- AN ENTRY's records
+pub read_entry-read_in_entry-requires : goal.read_entry-read_in_entry-requires
+read_entry-read_in_entry-requires t c =
+    let here = c.loop-here.here in
+    let size = ap length (slice_from here c.args.bytes.now) ∙ length-drop here c.args.bytes.now in
+    let small = c.requires.can.small in
+    let less : 16 * length (take (length c.args.bytes.now - here) (drop here c.args.bytes.now)) + 9 < 16 * length c.args.bytes.now + 10 = omega (arith, size) in (
+      search (rules, less),
+      record {
+        can =
+            subst (λ (z : Left). CanRead c.args.self.now.pool.now c.loop-here.entry (take (length c.args.bytes.now - here) (drop here c.args.bytes.now)) z) (sym c.after-rest_left.ensures) (record {
+              rules = c.requires.can.rules;
+              is_open = still_open (part_view c.args.entry.now) (part_view c.loop-here.entry) c.args.bytes.now c.args.left.remaining c.args.left.depth_left here c.requires.can.is_open c.loop-here.invariant.read;
+              small = omega (arith, size, small);
+            });
+        some = c.in-Some.ensures.within.0;
+        within = c.in-Some.ensures.within.1;
+        there = c.in-Some.ensures.whole;
+      },
+    )
+
+pub read_entry-loop-here-preserved : goal.read_entry-loop-here-preserved
+read_entry-loop-here-preserved t c =
+    let here = c.loop-here.here in
+    let size = ap length (slice_from here c.args.bytes.now) ∙ length-drop here c.args.bytes.now in
+    let used = c.in_ok-used.ensures.passes.1 in
+    let within = c.loop-here.invariant.within in
+    record {
+      within = omega (arith, size, used, within);
+      read = filled_further (part_view c.args.entry.now) (part_view c.loop-here.entry) (part_view c.read_in_entry.new.entry) c.args.bytes.now c.args.left.remaining c.args.left.depth_left here c.in_ok-used.used c.loop-here.invariant.read
+          (subst (λ (z : Left). ReadsTo c.args.self.now.pool.now (part_view c.loop-here.entry) (part_view c.read_in_entry.new.entry) (take (length c.args.bytes.now - here) (drop here c.args.bytes.now)) z.remaining z.depth_left c.in_ok-used.used) c.after-rest_left.ensures c.in_ok-used.ensures.read);
+    }
+
+pub read_entry-returns : goal.read_entry-returns
+read_entry-returns t c =
+    let same = c.if-here-left.false in
+    let all : c.loop-here.here ≡ c.args.left.remaining = omega (arith, same) in
+    subst (ReadsTo c.args.self.now.pool.now (part_view c.args.entry.now) (part_view c.loop-here.entry) c.args.bytes.now c.args.left.remaining c.args.left.depth_left) all c.loop-here.invariant.read
+
+pub read_in_entry-purpose_of-purpose-requires : goal.read_in_entry-purpose_of-purpose-requires
+read_in_entry-purpose_of-purpose-requires t c = open_can c.requires.at_tag.can.rules c.requires.at_tag.can.is_open
+
 -- AN ENTRY
-pub entry_after-read_records-requires : goal.entry_after-read_records-requires
-entry_after-read_records-requires t c =
+pub entry_after-read_entry-requires : goal.entry_after-read_entry-requires
+entry_after-read_entry-requires t c =
     let is = ap length (slice_from c.in-Some.start c.args.bytes.now) ∙ length-drop c.in-Some.start c.args.bytes.now in
     let small = c.requires.small in
     let some = c.requires.within.0 in
     let later = c.in-Some.ensures.within.0 in
     let within = c.in-Some.ensures.within.1 in
-    let less : 16 * length (take (length c.args.bytes.now - c.in-Some.start) (drop c.in-Some.start c.args.bytes.now)) + 8 < 16 * length c.args.bytes.now + 3 = omega (arith, is, some, later, within) in (
+    let less : 16 * length (take (length c.args.bytes.now - c.in-Some.start) (drop c.in-Some.start c.args.bytes.now)) + 10 < 16 * length c.args.bytes.now + 3 = omega (arith, is, some, later, within) in (
       search (rules, less),
       (
         record {
@@ -280,7 +322,7 @@ pub entry_after-key_or_default-key-requires : goal.entry_after-key_or_default-ke
 entry_after-key_or_default-key-requires t c =
     let from = c.requires.open in
     let has = typed_tag c.args.bytes.now (Some c.args.left.remaining) c.args.tag.number c.args.tag.wire_type 2 c.args.tag.size c.requires.bytes c.requires.tag in
-    let read = entry_inside from.at (Some c.args.left.remaining) c.args.bytes.now c.args.tag.number c.args.tag.size c.in-Some.start c.in-Some.size c.args.left.depth_left c.args.key_kind c.args.value_kind c.requires.rules (from.scope, from.stands, from.level) (has from.at) (c.in-Some.ensures.whole from.at c.args.tag.number c.args.tag.wire_type (c.requires.tag from.at)) from.means c.requires.level c.in_ok-read_records.ensures (ap part_view c.in-Entry.is) in
+    let read = entry_inside from.at (Some c.args.left.remaining) c.args.bytes.now c.args.tag.number c.args.tag.size c.in-Some.start c.in-Some.size c.args.left.depth_left c.args.key_kind c.args.value_kind c.requires.rules (from.scope, from.stands, from.level) (has from.at) (c.in-Some.ensures.whole from.at c.args.tag.number c.args.tag.wire_type (c.requires.tag from.at)) from.means c.requires.level c.in_ok-read_entry.ensures (ap part_view c.in-Entry.is) in
     can_hold c.requires.rules (entry_part c.in-Entry.key_kind c.in-Entry.value_kind (option_map key_view c.in-Entry.key) (option_map value_view c.in-Entry.value)) read.1
 
 pub entry_after-returns-in_ok-push-in-Entry-clause-put : goal.entry_after-returns-in_ok-push-in-Entry-clause-put
@@ -289,7 +331,7 @@ entry_after-returns-in_ok-push-in-Entry-clause-put t c = (
   c.in_ok-push-in-Entry.ensures.items,
   λ m depth levels at base p0 frames scope now stands level means.
       let has = typed_tag c.args.bytes.now (Some c.args.left.remaining) c.args.tag.number c.args.tag.wire_type 2 c.args.tag.size c.requires.bytes c.requires.tag in
-      let read = entry_inside at (Some c.args.left.remaining) c.args.bytes.now c.args.tag.number c.args.tag.size c.in-Some.start c.in-Some.size c.args.left.depth_left c.args.key_kind c.args.value_kind c.requires.rules (scope, stands, level) (has at) (c.in-Some.ensures.whole at c.args.tag.number c.args.tag.wire_type (c.requires.tag at)) means c.requires.level c.in_ok-read_records.ensures (ap part_view c.in-Entry.is) in
+      let read = entry_inside at (Some c.args.left.remaining) c.args.bytes.now c.args.tag.number c.args.tag.size c.in-Some.start c.in-Some.size c.args.left.depth_left c.args.key_kind c.args.value_kind c.requires.rules (scope, stands, level) (has at) (c.in-Some.ensures.whole at c.args.tag.number c.args.tag.wire_type (c.requires.tag at)) means c.requires.level c.in_ok-read_entry.ensures (ap part_view c.in-Entry.is) in
       entry_taken at (Some c.args.left.remaining) c.args.bytes.now c.args.tag.number c.in-Some.start c.in-Some.size (c.args.left.depth_left - 1) c.in-Entry.key_kind c.in-Entry.value_kind (option_map key_view c.in-Entry.key) (option_map value_view c.in-Entry.value) (key_view c.key_or_default-key.result) (value_view c.value_or_missing-value.result) c.requires.rules stands read c.key_or_default-key.ensures c.value_or_missing-value.ensures,
 )
 

@@ -9,6 +9,15 @@ use Rattle.pb_whole.specs.Listed.{ReadsRun}
 use Rattle.pb_whole.specs.Reads.{ReadsTo}
 use Rattle.pb_whole.proofs.reader.Reader.+read.Given as goal
 
+abbrev pub decreases-read_entry : goal.decreases-read_entry
+decreases-read_entry l = 16 * length l.bytes.now + 10
+
+abbrev pub decreases-read_in_entry : goal.decreases-read_in_entry
+decreases-read_in_entry l = 16 * length l.bytes.now + 9
+
+abbrev pub decreases-read_apart : goal.decreases-read_apart
+decreases-read_apart l = 16 * length l.bytes.now + 8
+
 abbrev pub decreases-read_records : goal.decreases-read_records
 decreases-read_records l = 16 * length l.bytes.now + 8
 
@@ -65,6 +74,15 @@ invariant-read_records-loop-here l = record {
 
 abbrev pub decreases-read_records-loop-here : goal.decreases-read_records-loop-here
 decreases-read_records-loop-here l = l.left.remaining - l.here
+
+abbrev pub invariant-read_entry-loop-here : goal.invariant-read_entry-loop-here
+invariant-read_entry-loop-here l = record {
+  within : l.here ≤ length l.bytes;
+  read : ReadsTo l.self.pool.now (part_view l.initial.entry) (part_view l.entry) l.bytes l.left.remaining l.left.depth_left l.here;
+}
+
+abbrev pub decreases-read_entry-loop-here : goal.decreases-read_entry-loop-here
+decreases-read_entry-loop-here l = l.left.remaining - l.here
 
 abbrev pub invariant-read_to_end-loop-tag : goal.invariant-read_to_end-loop-tag
 invariant-read_to_end-loop-tag l = record {
