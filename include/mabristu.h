@@ -374,7 +374,7 @@ uint32_t mb_message_show(struct mb_message *message, uint8_t *out, size_t out_le
 uint32_t mb_message_show_decimal(struct mb_message *message, uint8_t *out, size_t out_len, size_t *size);
 
 /* Why a part of a message has no JSON form: a google.protobuf.Value holds nothing, or a NaN or an infinity; a Timestamp or a Duration is out of its
- * range; a path of a FieldMask would not be read back; an Any, whose JSON is not written. */
+ * range; a path of a FieldMask would not be read back; an Any that holds no message of a type of its pool. */
 enum { MB_JSON_NO_KIND = 91, MB_JSON_NOT_FINITE = 92, MB_JSON_OUT_OF_RANGE = 93, MB_JSON_BAD_PATH = 94, MB_JSON_UNSUPPORTED = 95 };
 
 /* Writes the message as JSON (ProtoJSON), as mb_message_encode writes its bytes: with field names as declared or in lowerCamelCase, and indented or on

@@ -27,3 +27,11 @@ pub no_strings :
     → option_map (λ y. content_view y.now) r ≡ get_field n (fields_view fs) → r ≡ None → [] ≡ strings_at n (fields_view fs)
 no_strings r n fs found is =
     ap (λ (o : Option Holding). option_map_or strings_held o []) (sym (ap (λ (o : Option (Bor Content)). option_map (λ y. content_view y.now) o) is) ∙ found)
+
+-- what a field holds, read as a list
+pub held_found :
+    (read : Holding → List ℕ) (r : Option (Bor Content)) (n : ℕ) (fs : List (ℕ × Content)) (x : Bor Content) (s : List ℕ)
+    → option_map (λ y. content_view y.now) r ≡ get_field n (fields_view fs) → r ≡ Some x → s ≡ read (content_view x.now)
+    → s ≡ option_map_or read (get_field n (fields_view fs)) []
+held_found read r n fs x s found is e =
+    e ∙ ap (λ (o : Option Holding). option_map_or read o []) (sym (ap (λ (o : Option (Bor Content)). option_map (λ y. content_view y.now) o) is) ∙ found)

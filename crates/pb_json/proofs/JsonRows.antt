@@ -17,9 +17,9 @@ use Rattle.pb_json.specs.declared.error.JsonCause.TheVariants as cause
 use Rattle.pb_json.specs.Json.{Json, null, truth, number, plain, string, array, object, no_elements, element, no_members, member}
 use Rattle.pb_json.specs.JsonNames.{lower_camel}
 use Rattle.pb_json.specs.JsonText.{IsJsonText, string_text}
-use Rattle.pb_json.specs.Mapping.{json_of}
+use Rattle.pb_json.specs.Mapping.{json_of, message_json}
 use Rattle.pb_json.specs.Masks.{is_path, mask_text}
-use Rattle.pb_json.specs.Refusals.{refused}
+use Rattle.pb_json.specs.Refusals.{message_refused, refused}
 use Rattle.pb_json.specs.Times.{IsInstantText, is_instant, is_span, span_text}
 
 -- NAMES AND STRINGS
@@ -76,7 +76,7 @@ abbrev json : List ℕ → Json
 json b = json_of LowerCamel (record { pool = pool; kind = 0; body = value pool 0 (records_spelled b) })
 
 nothing : json [] ≡ object no_members
-unfolding value value_within records_spelled front_within first_varint after_varint named_length digits encode_with
+unfolding json_of message_json value value_within records_spelled front_within first_varint after_varint named_length digits encode_with
 nothing = refl
 
 -- int_a = -2, b = "z", c { int_a = 1 }, e = [3, 4], m { true: 7 }, p = false, k = [1, 5]
@@ -89,24 +89,24 @@ each_shape :
     (member (codes "m") (object (member (codes "true") (plain (codes "7")) no_members))
     (member (codes "p") (truth false)
     (member (codes "k") (array (element (string (codes "ONE")) (element (number (codes "5")) no_elements))) no_members)))))))
-unfolding value value_within records_spelled front_within first_varint after_varint named_length digits encode_with
+unfolding json_of message_json value value_within records_spelled front_within first_varint after_varint named_length digits encode_with
 each_shape = refl
 
 -- v { null_value: NULL_VALUE }
 a_null : json (0x62 ∷ 0x02 ∷ 0x08 ∷ 0x00 ∷ []) ≡ object (member (codes "v") null no_members)
-unfolding value value_within records_spelled front_within first_varint after_varint named_length digits encode_with
+unfolding json_of message_json value value_within records_spelled front_within first_varint after_varint named_length digits encode_with
 a_null = refl
 
 -- v { string_value: "x" }
 a_string : json (0x62 ∷ 0x03 ∷ 0x1a ∷ 0x01 ∷ 0x78 ∷ []) ≡ object (member (codes "v") (string (codes "x")) no_members)
-unfolding value value_within records_spelled front_within first_varint after_varint named_length digits encode_with
+unfolding json_of message_json value value_within records_spelled front_within first_varint after_varint named_length digits encode_with
 a_string = refl
 
 -- c { v { } }
 no_kind :
     refused (record { pool = pool; kind = 0; body = value pool 0 (records_spelled (0x1a ∷ 0x02 ∷ 0x62 ∷ 0x00 ∷ [])) })
     ≡ Some (record { path = 3 ∷ 12 ∷ []; cause = cause.NoKind })
-unfolding value value_within records_spelled front_within first_varint after_varint named_length digits encode_with
+unfolding refused message_refused value value_within records_spelled front_within first_varint after_varint named_length digits encode_with
 no_kind = refl
 
 -- LAYOUT

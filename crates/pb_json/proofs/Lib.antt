@@ -12,6 +12,10 @@ pub mod MappingLemmas
 pub mod HeldLemmas
 pub mod PathLemmas
 pub mod TimeLemmas
+-- for the message in an Any
+pub mod SlashLemmas
+pub mod AnyLemmas
+pub mod TaggedLemmas
 -- for what is refused
 pub mod RefusalLemmas
 -- messages as JSON, worked out by the definitions

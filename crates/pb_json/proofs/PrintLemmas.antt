@@ -1,8 +1,9 @@
 -- Bytes that are put part by part, of which it is said what they may be.
-use Rattle.std.proofs.Common.{◌≡◌, ℕ, ◌+◌, ◌≤◌, max, List, [], ◌++◌, Option, refl, sym, subst, append_assoc, arith}
+use Rattle.std.proofs.Common.{◌≡◌, ℕ, List, [], ◌++◌, Result, Ok, Err, IfErr, Option, Some, refl, sym, ap, ◌∙◌, subst, append_assoc}
+use Rattle.std.specs.Option.{option_map_or}
 use Rattle.pb_output.specs.declared.sink.Sink.{Sink}
 use Rattle.pb_output.specs.Sink.{Puts}
-use Rattle.pb_output.proofs.SinkLemmas.{puts_then}
+use Rattle.pb_output.proofs.SinkLemmas.{puts_none, puts_then}
 use Rattle.pb_json.specs.declared.form.Layout.{Layout}
 use Rattle.pb_json.specs.Json.{Json}
 use Rattle.pb_json.specs.JsonText.{IsJsonText}
@@ -13,9 +14,8 @@ use Rattle.pb_json.specs.declared.error.JsonError.TheVariants as error
 use Rattle.pb_json.specs.declared.form.JsonForm.{JsonForm}
 use Rattle.pb_value.specs.Dynamic.{Dynamic}
 
--- A prefix of a whole is put, and it is known what may follow. What is left belongs to a message at a level, with some levels below.
-pub record IsLeft {D : Type 0} (written : D → Option (List ℕ)) (failures : D → ℕ) (old new : D) (a b : Sink) (level below : ℕ) (IsRest IsWhole : List ℕ → Type 0) : Type 0 where
-  pub within : level + below ≤ 101
+-- A prefix of a whole is put, and it is known what may follow.
+pub record IsLeft {D : Type 0} (written : D → Option (List ℕ)) (failures : D → ℕ) (old new : D) (a b : Sink) (IsRest IsWhole : List ℕ → Type 0) : Type 0 where
   pub prefix : List ℕ
   pub joins : (rest : List ℕ) → IsRest rest → IsWhole (prefix ++ rest)
   pub put : Puts written failures old new a b prefix
@@ -49,53 +49,61 @@ module _ {D : Type 0} {written : D → Option (List ℕ)} {failures : D → ℕ}
       → Prints written failures d0 d2 a c (Begins start IsMeant)
   prints_after {start = start} IsMeant first p = record { bytes = start ++ p.bytes; is = (p.bytes, refl, p.is); puts = puts_then first p.puts }
 
-  pub left_start : {d0 d1 : D} {a b : Sink} {start : List ℕ} (level below : ℕ) (IsRest : List ℕ → Type 0) → level + below ≤ 101 → Puts written failures d0 d1 a b start
-      → IsLeft written failures d0 d1 a b level below IsRest (Begins start IsRest)
-  left_start {start = start} level below IsRest within put = record { within = within; prefix = start; joins = λ rest h. (rest, refl, h); put = put }
+  -- nothing but the start is put
+  pub left_start : {d0 d1 : D} {a b : Sink} {start : List ℕ} (IsRest : List ℕ → Type 0) → Puts written failures d0 d1 a b start
+      → IsLeft written failures d0 d1 a b IsRest (Begins start IsRest)
+  left_start {start = start} IsRest put = record { prefix = start; joins = λ rest h. (rest, refl, h); put = put }
 
   -- the same where an iterator has all of it left
-  pub left_start_at : {X : Type 0} {d0 d1 : D} {a b : Sink} {start : List ℕ} (level : ℕ) (below : X → ℕ) (IsRest : X → List ℕ → Type 0) (left whole : X) → left ≡ whole
-      → level + below whole ≤ 101 → Puts written failures d0 d1 a b start → IsLeft written failures d0 d1 a b level (below left) (IsRest left) (Begins start (IsRest whole))
-  left_start_at {X} {d0} {d1} {a} {b} {start} level below IsRest left whole e within put =
-      subst (λ (x : X). IsLeft written failures d0 d1 a b level (below x) (IsRest x) (Begins start (IsRest whole))) (sym e) (left_start level (below whole) (IsRest whole) within put)
+  pub left_start_at : {X : Type 0} {d0 d1 : D} {a b : Sink} {start : List ℕ} (IsRest : X → List ℕ → Type 0) (left whole : X) → left ≡ whole
+      → Puts written failures d0 d1 a b start → IsLeft written failures d0 d1 a b (IsRest left) (Begins start (IsRest whole))
+  left_start_at {X} {d0} {d1} {a} {b} {start} IsRest left whole e put =
+      subst (λ (x : X). IsLeft written failures d0 d1 a b (IsRest x) (Begins start (IsRest whole))) (sym e) (left_start (IsRest whole) put)
+
+  -- all of it is left, of a sink and an output where nothing is put yet
+  pub left_all : {X : Type 0} {d : D} {a : Sink} (IsRest : X → List ℕ → Type 0) (left whole : X) → left ≡ whole
+      → IsLeft written failures d d a a (IsRest left) (IsRest whole)
+  left_all {X} {d} {a} IsRest left whole e =
+      subst (λ (x : X). IsLeft written failures d d a a (IsRest x) (IsRest whole)) (sym e)
+      (record { prefix = []; joins = λ rest h. h; put = puts_none })
 
   -- a part is put
   pub left_more :
-      {d0 d1 d2 : D} {a b c : Sink} {level below : ℕ} {IsRest IsWhole : List ℕ → Type 0} (part_below rest_below : ℕ) (IsPart IsAfter : List ℕ → Type 0)
-      → IsLeft written failures d0 d1 a b level below IsRest IsWhole → below ≡ max part_below rest_below
+      {d0 d1 d2 : D} {a b c : Sink} {IsRest IsWhole : List ℕ → Type 0} (IsPart IsAfter : List ℕ → Type 0)
+      → IsLeft written failures d0 d1 a b IsRest IsWhole
       → ((part after : List ℕ) → IsPart part → IsAfter after → IsRest (part ++ after))
-      → (level + part_below ≤ 101 → Prints written failures d1 d2 b c IsPart) → IsLeft written failures d0 d2 a c level rest_below IsAfter IsWhole
-  left_more {level = level} {IsWhole = IsWhole} part_below rest_below IsPart IsAfter h deep joins print =
-      let within = h.within in
-      let p = print (omega (arith, within, deep)) in record {
-        within = omega (arith, within, deep);
-        prefix = h.prefix ++ p.bytes;
-        joins = λ after is. subst IsWhole (sym (append_assoc h.prefix p.bytes after)) (h.joins (p.bytes ++ after) (joins p.bytes after p.is is));
-        put = puts_then h.put p.puts;
-      }
+      → Prints written failures d1 d2 b c IsPart → IsLeft written failures d0 d2 a c IsAfter IsWhole
+  left_more {IsWhole = IsWhole} IsPart IsAfter h joins p = record {
+    prefix = h.prefix ++ p.bytes;
+    joins = λ after is. subst IsWhole (sym (append_assoc h.prefix p.bytes after)) (h.joins (p.bytes ++ after) (joins p.bytes after p.is is));
+    put = puts_then h.put p.puts;
+  }
 
   -- nothing is put
   pub left_same :
-      {d0 d1 : D} {a b : Sink} {level below : ℕ} {IsRest IsWhole : List ℕ → Type 0} (part_below rest_below : ℕ) (IsAfter : List ℕ → Type 0)
-      → IsLeft written failures d0 d1 a b level below IsRest IsWhole → below ≡ max part_below rest_below
-      → ((after : List ℕ) → IsAfter after → IsRest after) → IsLeft written failures d0 d1 a b level rest_below IsAfter IsWhole
-  left_same {level = level} part_below rest_below IsAfter h deep joins =
-      let within = h.within in record {
-        within = omega (arith, within, deep);
-        prefix = h.prefix;
-        joins = λ after is. h.joins after (joins after is);
-        put = h.put;
-      }
+      {d0 d1 : D} {a b : Sink} {IsRest IsWhole : List ℕ → Type 0} (IsAfter : List ℕ → Type 0)
+      → IsLeft written failures d0 d1 a b IsRest IsWhole
+      → ((after : List ℕ) → IsAfter after → IsRest after) → IsLeft written failures d0 d1 a b IsAfter IsWhole
+  left_same IsAfter h joins = record { prefix = h.prefix; joins = λ after is. h.joins after (joins after is); put = h.put }
 
   -- the rest is put
   pub left_done :
-      {d0 d1 d2 : D} {a b c : Sink} {level below : ℕ} {IsRest IsWhole : List ℕ → Type 0} {rest : List ℕ} → IsLeft written failures d0 d1 a b level below IsRest IsWhole
+      {d0 d1 d2 : D} {a b c : Sink} {IsRest IsWhole : List ℕ → Type 0} {rest : List ℕ} → IsLeft written failures d0 d1 a b IsRest IsWhole
       → IsRest rest → Puts written failures d1 d2 b c rest → Prints written failures d0 d2 a c IsWhole
   left_done {rest = rest} h is put = record { bytes = h.prefix ++ rest; is = h.joins rest is; puts = puts_then h.put put }
 
+-- what went out to a device that held nothing
+pub written_whole : (old new bytes : List ℕ) → Some old ≡ Some [] → new ≡ old ++ bytes → new ≡ bytes
+written_whole old new bytes empty grown = grown ∙ ap (λ (o : Option (List ℕ)). option_map_or (λ l. l) o [] ++ bytes) empty
+
+-- a fact that does not ask for an error
+pub always_err : {T E P : Type 0} (r : Result T E) → P → IfErr r (λ _. P)
+always_err (Ok x) h = tt
+always_err (Err e) h = h
+
 -- WHAT IS REFUSED
 
-pub refuses_as : (m : Dynamic) (e : JsonError) → RefusesWith (refused m) e → RefusedAs m e
+pub refuses_as : (m : Dynamic) (e : JsonError) → RefusesWith m.pool (refused m) e → RefusedAs m e
 refuses_as m (error.Refused x) h = h
 refuses_as m error.Memory h = h
 refuses_as m error.Output h = h

@@ -61,3 +61,39 @@ strings_held (map es) = []
 -- the strings of the list in the field of a number
 abbrev pub strings_at : ℕ → Fields → List (List ℕ)
 strings_at n fs = option_map_or strings_held (get_field n fs) []
+
+-- the string in the field of a number, and the empty one where there is none
+abbrev pub string_held : Holding → List ℕ
+string_held (one d) = string_of d
+string_held (list ds) = []
+string_held (map es) = []
+
+abbrev pub string_at : ℕ → Fields → List ℕ
+string_at n fs = option_map_or string_held (get_field n fs) []
+
+-- BYTES
+
+abbrev pub bytes_of_scalar : Scalar → List ℕ
+bytes_of_scalar (int32 z) = []
+bytes_of_scalar (int64 z) = []
+bytes_of_scalar (uint32 n) = []
+bytes_of_scalar (uint64 n) = []
+bytes_of_scalar (boolean b) = []
+bytes_of_scalar (float n) = []
+bytes_of_scalar (double n) = []
+bytes_of_scalar (enum z) = []
+bytes_of_scalar (text s) = []
+bytes_of_scalar (bytes s) = s
+
+abbrev pub bytes_of : Datum → List ℕ
+bytes_of (scalar x) = bytes_of_scalar x
+bytes_of (message b) = []
+
+abbrev pub bytes_held : Holding → List ℕ
+bytes_held (one d) = bytes_of d
+bytes_held (list ds) = []
+bytes_held (map es) = []
+
+-- the bytes in the field of a number, and none where there is none
+abbrev pub bytes_at : ℕ → Fields → List ℕ
+bytes_at n fs = option_map_or bytes_held (get_field n fs) []

@@ -7,6 +7,8 @@ pub mod Masks
 -- ---- what messages are as JSON
 pub mod WellKnown
 pub mod Held
+pub mod Encoded
+pub mod Anys
 pub mod Mapping
 pub mod Refusals
 -- ---- what the calls answer

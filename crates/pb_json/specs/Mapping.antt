@@ -1,6 +1,6 @@
 -- The JSON value of a message (ProtoJSON format, "JSON representation"): an object with a member for each field that is set, or what the type has
 -- as its own form.
-use Rattle.std.specs.Prelude.{ℕ, ℤ, List, [], Bool, true, false, Option, Some, None, option_map, codes, decimal, from_bits, if◌then◌else◌}
+use Rattle.std.specs.Prelude.{ℕ, zero, suc, ℤ, List, [], Bool, true, false, Option, Some, None, option_map, codes, decimal, from_bits, if◌then◌else◌}
 use Rattle.std.specs.Float.{Float, Format, binary32, binary64, nan, inf, fin}
 use Rattle.std.specs.Fmt.{signed_decimal}
 use Rattle.std.specs.Option.{option_map_or}
@@ -23,6 +23,7 @@ use Rattle.pb_json.specs.JsonNames.{member_name}
 use Rattle.pb_json.specs.JsonText.{bool_text}
 use Rattle.pb_json.specs.WellKnown.{well_known, is_null_enum}
 use Rattle.pb_json.specs.Held.{integer_at, strings_at}
+use Rattle.pb_json.specs.Anys.{any_json}
 use Rattle.pb_json.specs.Times.{is_instant, is_span, span_text}
 use Rattle.pb_json.specs.Masks.{mask_text}
 
@@ -125,23 +126,24 @@ duration_json fs = span_json (integer_at 1 fs) (integer_at 2 fs)
 abbrev pub mask_json : Fields → Json
 mask_json fs = string (mask_text (strings_at 1 fs))
 
--- a message of a form, by its fields, by these as members and by what the first of them holds
-abbrev pub in_form : WellKnown → Fields → Members → Json → Json
-in_form Other fs ms only = object ms
-in_form Wrapper fs ms only = only
-in_form Struct fs ms only = only
-in_form ListValue fs ms only = only
-in_form Value fs ms only = only
-in_form Timestamp fs ms only = timestamp_json fs
-in_form Duration fs ms only = duration_json fs
-in_form FieldMask fs ms only = mask_json fs
-in_form Any fs ms only = null
+-- a message of a form, by its fields, by these as members, by what the first of them holds, and by its JSON as an Any
+abbrev pub in_form : WellKnown → Fields → Members → Json → Json → Json
+in_form Other fs ms only any = object ms
+in_form Wrapper fs ms only any = only
+in_form Struct fs ms only any = only
+in_form ListValue fs ms only any = only
+in_form Value fs ms only any = only
+in_form Timestamp fs ms only any = timestamp_json fs
+in_form Duration fs ms only any = duration_json fs
+in_form FieldMask fs ms only any = mask_json fs
+in_form Any fs ms only any = any
 
-module _ (pool : Types) (names : Names) where
+-- by what messages one level further in are as JSON
+module _ (pool : Types) (names : Names) (Inside : ℕ → Message → Json) where
   abbrev mutual
     pub datum_json : Kind → Datum → Json
     datum_json k (scalar x) = scalar_json pool k x
-    datum_json k (message b) = option_map_or (λ m. message_json m b) (message_of_kind k) null
+    datum_json k (message b) = option_map_or (λ m. Inside m b) (message_of_kind k) null
 
     pub elements_json : Kind → Datums → Elements
     elements_json k no_datums = no_elements
@@ -167,10 +169,17 @@ module _ (pool : Types) (names : Names) where
     only_json w all no_fields = absent_json pool w all
     only_json w all (field n h fs) = option_map_or (λ f. holding_json f.kind h) (field_numbered n all) null
 
-    -- a message of a type
-    pub message_json : ℕ → Message → Json
-    message_json m (body fs us) =
-        in_form (well_known pool m) fs (fields_json (message_fields pool m) fs) (only_json (well_known pool m) (message_fields pool m) fs)
+  -- a message of a type
+  abbrev pub message_here : ℕ → Message → Json
+  message_here m (body fs us) =
+      in_form (well_known pool m) fs (fields_json (message_fields pool m) fs) (only_json (well_known pool m) (message_fields pool m) fs)
+      (any_json pool Inside fs)
 
-abbrev pub json_of : Names → Dynamic → Json
-json_of names m = message_json m.pool names m.kind m.body
+-- a message of a type, of at most this many levels; nothing of one that is nested deeper
+unfoldable pub message_json : Types → Names → ℕ → ℕ → Message → Json
+message_json pool names zero m b = null
+message_json pool names (suc levels) m b = message_here pool names (message_json pool names levels) m b
+
+-- the levels are 0 to 100; the message in an Any is one level further in
+unfoldable pub json_of : Names → Dynamic → Json
+json_of names m = message_json m.pool names 101 m.kind m.body

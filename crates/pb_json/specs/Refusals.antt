@@ -1,5 +1,5 @@
 -- Which messages have no JSON form: why, and the numbers of the fields that lead to what has none.
-use Rattle.std.specs.Prelude.{ℕ, List, [], ◌∷◌, Bool, Option, Some, None, option_map, from_bits, if◌then◌else◌}
+use Rattle.std.specs.Prelude.{ℕ, zero, suc, List, [], ◌∷◌, Bool, Option, Some, None, option_map, from_bits, if◌then◌else◌}
 use Rattle.std.specs.Float.{binary64, float_is_finite}
 use Rattle.std.specs.Option.{option_map_or, option_or}
 use Rattle.pb_schema.specs.declared.types.Kind.{Kind}
@@ -15,6 +15,7 @@ use Rattle.pb_json.specs.declared.error.JsonCause.{JsonCause}
 use Rattle.pb_json.specs.declared.error.JsonCause.TheVariants as cause
 use Rattle.pb_json.specs.WellKnown.{well_known}
 use Rattle.pb_json.specs.Held.{integer_at, strings_at}
+use Rattle.pb_json.specs.Anys.{any_message, is_unset}
 use Rattle.pb_json.specs.Times.{is_instant, is_span}
 use Rattle.pb_json.specs.Masks.{are_paths}
 
@@ -71,23 +72,41 @@ duration_cause fs = unless (is_span (integer_at 1 fs) (integer_at 2 fs)) cause.O
 abbrev pub mask_cause : Fields → Option JsonCause
 mask_cause fs = unless (are_paths (strings_at 1 fs)) cause.BadPath
 
--- what is wrong with a message itself
+-- what is wrong with a message itself, apart from what it holds
 abbrev pub own_cause : WellKnown → Fields → Option JsonCause
 own_cause Value fs = value_cause fs
 own_cause Timestamp fs = timestamp_cause fs
 own_cause Duration fs = duration_cause fs
 own_cause FieldMask fs = mask_cause fs
-own_cause Any fs = Some cause.Unsupported
+own_cause Any fs = None
 own_cause Other fs = None
 own_cause Wrapper fs = None
 own_cause Struct fs = None
 own_cause ListValue fs = None
 
-module _ (pool : Types) where
+-- an Any that holds something has the form of a message that its bytes encode; the way there leads through the field of the bytes
+abbrev pub any_refused : Types → (ℕ → Message → Option Refused) → Fields → Option Refused
+any_refused pool Inside fs =
+    if is_unset fs then None
+    else option_map_or (λ x. option_map (below 2) (Inside x.0 x.1)) (any_message pool fs) (Some (here cause.Unsupported))
+
+abbrev pub any_or_fields : WellKnown → Option Refused → Option Refused → Option Refused
+any_or_fields Any any fields = any
+any_or_fields Other any fields = fields
+any_or_fields Wrapper any fields = fields
+any_or_fields Struct any fields = fields
+any_or_fields ListValue any fields = fields
+any_or_fields Value any fields = fields
+any_or_fields Timestamp any fields = fields
+any_or_fields Duration any fields = fields
+any_or_fields FieldMask any fields = fields
+
+-- by what is refused of messages one level further in
+module _ (pool : Types) (Inside : ℕ → Message → Option Refused) where
   abbrev mutual
     pub datum_refused : Kind → Datum → Option Refused
     datum_refused k (scalar x) = None
-    datum_refused k (message b) = option_map_or (λ m. message_refused m b) (message_of_kind k) None
+    datum_refused k (message b) = option_map_or (λ m. Inside m b) (message_of_kind k) None
 
     pub datums_refused : Kind → Datums → Option Refused
     datums_refused k no_datums = None
@@ -108,10 +127,17 @@ module _ (pool : Types) where
     fields_refused all (field n h fs) =
         option_or (option_map (below n) (option_map_or (λ f. holding_refused f.kind h) (field_numbered n all) None)) (fields_refused all fs)
 
-    -- the message itself, and then its fields
-    pub message_refused : ℕ → Message → Option Refused
-    message_refused m (body fs us) = option_or (option_map here (own_cause (well_known pool m) fs)) (fields_refused (message_fields pool m) fs)
+  -- the message itself, and then what it holds
+  abbrev pub refused_here : ℕ → Message → Option Refused
+  refused_here m (body fs us) =
+      option_or (option_map here (own_cause (well_known pool m) fs))
+      (any_or_fields (well_known pool m) (any_refused pool Inside fs) (fields_refused (message_fields pool m) fs))
 
--- the first part of a message that has no JSON form
-abbrev pub refused : Dynamic → Option Refused
-refused m = message_refused m.pool m.kind m.body
+-- a message of at most this many levels; one that is nested deeper, as only messages in an Any can be, has no form
+unfoldable pub message_refused : Types → ℕ → ℕ → Message → Option Refused
+message_refused pool zero m b = Some (here cause.Unsupported)
+message_refused pool (suc levels) m b = refused_here pool (message_refused pool levels) m b
+
+-- the first part of a message that has no JSON form; the levels are 0 to 100
+unfoldable pub refused : Dynamic → Option Refused
+refused m = message_refused m.pool 101 m.kind m.body

@@ -1,4 +1,4 @@
-//! What stays the same while a message is written.
+//! What is known where a part of a message is written.
 
 use crate::form::JsonForm;
 use pb_schema::Pool;
@@ -10,4 +10,11 @@ pub(crate) struct Context<'a> {
     pub alloc: Global,
     pub pool: &'a Pool,
     pub form: JsonForm,
+}
+
+/// Where a value is: how many levels of messages may be nested in it, and the indentation of its line.
+#[derive(Clone, Copy)]
+pub(crate) struct Place {
+    pub levels: usize,
+    pub indent: usize,
 }

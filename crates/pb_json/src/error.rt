@@ -19,7 +19,7 @@ pub enum JsonCause {
     OutOfRange,
     /// A path of a `google.protobuf.FieldMask` would not be read back from lowerCamelCase.
     BadPath,
-    /// The form of a `google.protobuf.Any` is not written.
+    /// A `google.protobuf.Any` names no type of the pool, or its bytes are no encoding of that type, or what it holds is nested too deep.
     Unsupported,
 }
 
@@ -62,7 +62,7 @@ pub struct Refusal {
 pub enum JsonError {
     /// A part of the message has no JSON form, and nothing was written.
     Refused(Refusal),
-    /// There is no memory for the path of a part that has no JSON form, and nothing was written.
+    /// There is no memory for the path of a part that has no JSON form, or for the message in a `google.protobuf.Any`, and nothing was written.
     Memory,
     /// The output failed, after a prefix of what was to be written.
     Output,
@@ -80,10 +80,11 @@ impl Refusal {
     ghost use Rattle.std.specs.Prelude.{Some};
     ghost use Rattle.pb_json.specs.Answers.{RefusesWith, refused_view};
     ghost use Rattle.pb_json.specs.Refusals.{below};
+    ghost use Rattle.pb_schema.specs.Types.{Types};
 
     /// The error of a part, as that of the message that has the part at the field of a number.
     fn below(mut self, number: u32) -> JsonError
-        ensures { RefusesWith (Some (below number (refused_view self))) result }
+        ensures { (pool : Types) → RefusesWith pool (Some (below number (refused_view self))) result }
     {
         match self.path.insert(0, number) {
             Ok(()) => JsonError::Refused(self),
@@ -96,10 +97,11 @@ impl JsonError {
     ghost use Rattle.std.specs.Prelude.{Option, option_map};
     ghost use Rattle.pb_json.specs.Answers.{RefusesWith};
     ghost use Rattle.pb_json.specs.Refusals.{Refused, below};
+    ghost use Rattle.pb_schema.specs.Types.{Types};
 
     /// The error of a part, as that of the message that has the part at the field of a number.
     pub(crate) fn below(self, number: u32) -> JsonError
-        ensures { (r : Option Refused) → RefusesWith r self → RefusesWith (option_map (below number) r) result }
+        ensures { (pool : Types) (r : Option Refused) → RefusesWith pool r self → RefusesWith pool (option_map (below number) r) result }
     {
         match self {
             JsonError::Refused(refusal) => refusal.below(number),

@@ -1,66 +1,132 @@
 //! Whether a message has a JSON form.
 
-ghost use Rattle.std.specs.Prelude.{◌≡◌, ◌+◌, ◌<◌, ◌≤◌, None, length, option_map, suc};
-ghost use Rattle.std.specs.Option.{option_map_or};
-ghost use Rattle.pb_schema.specs.Kinds.{message_of_kind};
+ghost use Rattle.std.specs.Prelude.{◌≡◌, ◌<◌, length, option_map, true, Some};
 ghost use Rattle.pb_schema.specs.Rules.{NamesType};
-ghost use Rattle.pb_schema.specs.Types.{message_fields};
-ghost use Rattle.pb_value.specs.Data.{message_depth, fields_depth, holding_depth, datums_depth, entries_depth, levels_of};
+ghost use Rattle.pb_schema.specs.Types.{Types, message_fields};
 ghost use Rattle.pb_value.specs.View.{body_view, content_view, entries_view, fields_view, value_view, values_view};
 ghost use Rattle.pb_json.specs.Answers.{Judges, RefusesWith};
-ghost use Rattle.pb_json.specs.Refusals.{below, datum_cause, datum_refused, double_cause, datums_refused, entries_refused, fields_refused};
-ghost use Rattle.pb_json.specs.Refusals.{held_cause, holding_refused, message_refused, own_cause, value_cause};
-ghost use Rattle.pb_json.specs.WellKnown.{well_known as form_of};
+ghost use Rattle.pb_json.specs.Refusals.{any_refused, below, datum_cause, datum_refused, datums_refused, double_cause, entries_refused, fields_refused};
+ghost use Rattle.pb_json.specs.Refusals.{held_cause, here, holding_refused, message_refused, own_cause, refused_here, value_cause};
+ghost use Rattle.pb_json.specs.WellKnown.{declares_any};
 
+use crate::anys::{VALUE, is_unset, open_any};
 use crate::error::{JsonCause, JsonError, Refusal};
 use crate::masks::mask_cause;
 use crate::times::{duration_cause, timestamp_cause};
 use crate::well_known::{WellKnown, well_known};
 use pb_schema::{Kind, MessageId, Pool};
-use pb_value::{Body, Content, MapKey, Value};
+use pb_value::{Body, Content, DynamicMessage, MapKey, Value};
 use std::alloc::Global;
 use std::collections::BTreeMap;
 use std::num::f64_from_bits_with_nan;
 
-/// The greatest level of a message.
-pub(crate) const DEEPEST: usize = 101;
+/// The levels of a message, 0 to 100.
+pub(crate) const LEVELS: usize = 101;
 
-/// What is refused in a message, at a level.
+/// A message that has no JSON form itself.
+fn formless(alloc: Global, cause: JsonCause) -> JsonError
+    ensures { (pool : Types) → RefusesWith pool (Some (here cause)) result }
+{
+    let path = Vec::new(alloc);
+    JsonError::Refused(Refusal { path, cause })
+}
+
+/// What is refused in a message of at most this many levels.
 #[cycle(judging)]
 pub(crate) fn judge_message(
     alloc: Global,
     pool: &Pool,
-    level: usize,
+    levels: usize,
     id: MessageId,
     body: &Body,
 ) -> Result<(), JsonError>
-    requires low { level ≤ 101 }
     requires within { id.0 < length pool.now.messages }
-    ensures { level + message_depth (body_view body.now) ≤ 101 → Judges (message_refused pool.now id.0 (body_view body.now)) result }
+    ensures { Judges pool.now (message_refused pool.now levels id.0 (body_view body.now)) result }
 {
-    if let Some(cause) = own_cause(well_known(pool, id), &body.fields) {
-        let path = Vec::new(alloc);
-        return Err(JsonError::Refused(Refusal { path, cause }));
+    // Only a message in an Any is nested so deep.
+    if levels == 0 {
+        return Err(formless(alloc, JsonCause::Unsupported));
     }
-    judge_fields(alloc, pool, level, id, &body.fields)
+    judge_here(alloc, pool, levels - 1, id, body)
+}
+
+/// What is refused in a message, in which messages of at most this many levels may be nested.
+#[cycle(judging)]
+fn judge_here(
+    alloc: Global,
+    pool: &Pool,
+    levels: usize,
+    id: MessageId,
+    body: &Body,
+) -> Result<(), JsonError>
+    requires within { id.0 < length pool.now.messages }
+    ensures { Judges pool.now (refused_here pool.now (message_refused pool.now levels) id.0 (body_view body.now)) result }
+{
+    let form = well_known(pool, id);
+    if let Some(cause) = own_cause(form, &body.fields) {
+        return Err(formless(alloc, cause));
+    }
+    match form {
+        WellKnown::Any => judge_any(alloc, pool, levels, &body.fields),
+        _ => judge_fields(alloc, pool, levels, id, &body.fields),
+    }
+}
+
+/// What is refused in an Any.
+#[cycle(judging)]
+fn judge_any(
+    alloc: Global,
+    pool: &Pool,
+    levels: usize,
+    fields: &BTreeMap<u32, Content>,
+) -> Result<(), JsonError>
+    requires { declares_any pool.now ≡ true }
+    ensures { Judges pool.now (any_refused pool.now (message_refused pool.now levels) (fields_view fields.now.entries)) result }
+{
+    if is_unset(fields) {
+        return Ok(());
+    }
+    let opened = open_any(alloc, pool, fields)?;
+    match opened {
+        Some(message) => judge_opened(alloc, pool, levels, &message),
+        None => Err(formless(alloc, JsonCause::Unsupported)),
+    }
+}
+
+/// What is refused in the message in an Any.
+#[cycle(judging)]
+fn judge_opened(
+    alloc: Global,
+    pool: &Pool,
+    levels: usize,
+    message: &DynamicMessage<'_>,
+) -> Result<(), JsonError>
+    requires { message.now.pool ≡ pool.now }
+    ensures { Judges pool.now (option_map (below 2) (message_refused pool.now levels message.now.kind message.now.body)) result }
+{
+    let id = message.message_type();
+    let body = message.body();
+    match judge_message(alloc, pool, levels, id, body) {
+        Ok(()) => Ok(()),
+        Err(error) => Err(error.below(VALUE)),
+    }
 }
 
 #[cycle(judging)]
 fn judge_fields(
     alloc: Global,
     pool: &Pool,
-    level: usize,
+    levels: usize,
     id: MessageId,
     fields: &BTreeMap<u32, Content>,
 ) -> Result<(), JsonError>
-    requires low { level ≤ 101 }
     requires within { id.0 < length pool.now.messages }
-    ensures { level + fields_depth (fields_view fields.now.entries) ≤ 101
-        → Judges (fields_refused pool.now (message_fields pool.now id.0) (fields_view fields.now.entries)) result }
+    ensures { Judges pool.now
+        (fields_refused pool.now (message_refused pool.now levels) (message_fields pool.now id.0) (fields_view fields.now.entries)) result }
 {
     for (number, content) in fields {
         if let Some(field) = pool.field_by_number(id, *number) {
-            if let Err(error) = judge_content(alloc, pool, level, field.kind, content) {
+            if let Err(error) = judge_content(alloc, pool, levels, field.kind, content) {
                 return Err(error.below(*number));
             }
         }
@@ -72,19 +138,17 @@ fn judge_fields(
 fn judge_content(
     alloc: Global,
     pool: &Pool,
-    level: usize,
+    levels: usize,
     kind: Kind,
     content: &Content,
 ) -> Result<(), JsonError>
-    requires low { level ≤ 101 }
     requires kind { NamesType (length pool.now.messages) (length pool.now.enums) kind }
-    ensures { level + holding_depth (content_view content.now) ≤ 101
-        → Judges (holding_refused pool.now kind (content_view content.now)) result }
+    ensures { Judges pool.now (holding_refused pool.now (message_refused pool.now levels) kind (content_view content.now)) result }
 {
     match content {
-        Content::One(value) => judge_value(alloc, pool, level, kind, value),
-        Content::List(values) => judge_values(alloc, pool, level, kind, values),
-        Content::Map(entries) => judge_entries(alloc, pool, level, kind, entries),
+        Content::One(value) => judge_value(alloc, pool, levels, kind, value),
+        Content::List(values) => judge_values(alloc, pool, levels, kind, values),
+        Content::Map(entries) => judge_entries(alloc, pool, levels, kind, entries),
     }
 }
 
@@ -92,17 +156,15 @@ fn judge_content(
 fn judge_values(
     alloc: Global,
     pool: &Pool,
-    level: usize,
+    levels: usize,
     kind: Kind,
     values: &Vec<Value>,
 ) -> Result<(), JsonError>
-    requires low { level ≤ 101 }
     requires kind { NamesType (length pool.now.messages) (length pool.now.enums) kind }
-    ensures { level + datums_depth (values_view values.now.items) ≤ 101
-        → Judges (datums_refused pool.now kind (values_view values.now.items)) result }
+    ensures { Judges pool.now (datums_refused pool.now (message_refused pool.now levels) kind (values_view values.now.items)) result }
 {
     for value in values {
-        judge_value(alloc, pool, level, kind, value)?;
+        judge_value(alloc, pool, levels, kind, value)?;
     }
     Ok(())
 }
@@ -111,17 +173,15 @@ fn judge_values(
 fn judge_entries(
     alloc: Global,
     pool: &Pool,
-    level: usize,
+    levels: usize,
     kind: Kind,
     entries: &BTreeMap<MapKey, Value>,
 ) -> Result<(), JsonError>
-    requires low { level ≤ 101 }
     requires kind { NamesType (length pool.now.messages) (length pool.now.enums) kind }
-    ensures { level + entries_depth (entries_view entries.now.entries) ≤ 101
-        → Judges (entries_refused pool.now kind (entries_view entries.now.entries)) result }
+    ensures { Judges pool.now (entries_refused pool.now (message_refused pool.now levels) kind (entries_view entries.now.entries)) result }
 {
     for (_key, value) in entries {
-        judge_value(alloc, pool, level, kind, value)?;
+        judge_value(alloc, pool, levels, kind, value)?;
     }
     Ok(())
 }
@@ -130,45 +190,23 @@ fn judge_entries(
 fn judge_value(
     alloc: Global,
     pool: &Pool,
-    level: usize,
+    levels: usize,
     kind: Kind,
     value: &Value,
 ) -> Result<(), JsonError>
-    requires low { level ≤ 101 }
     requires kind { NamesType (length pool.now.messages) (length pool.now.enums) kind }
-    ensures { level + levels_of (value_view value.now) ≤ 101 → Judges (datum_refused pool.now kind (value_view value.now)) result }
+    ensures { Judges pool.now (datum_refused pool.now (message_refused pool.now levels) kind (value_view value.now)) result }
 {
     let Value::Message(body) = value else {
         return Ok(());
     };
-    judge_inside(alloc, pool, level, kind, body)
-}
-
-/// What is refused in a message of a kind, one level in.
-#[cycle(judging)]
-fn judge_inside(
-    alloc: Global,
-    pool: &Pool,
-    level: usize,
-    kind: Kind,
-    body: &Body,
-) -> Result<(), JsonError>
-    requires low { level ≤ 101 }
-    requires kind { NamesType (length pool.now.messages) (length pool.now.enums) kind }
-    ensures { level + suc (message_depth (body_view body.now)) ≤ 101
-        → Judges (option_map_or (λ m. message_refused pool.now m (body_view body.now)) (message_of_kind kind) None) result }
-{
-    let Some(id) = kind.message() else {
-        return Ok(());
-    };
-    // No message nests so deep.
-    if level >= DEEPEST {
-        return Ok(());
+    match kind.message() {
+        Some(id) => judge_message(alloc, pool, levels, id, body),
+        None => Ok(()),
     }
-    judge_message(alloc, pool, level + 1, id, body)
 }
 
-/// What is wrong with a message itself.
+/// What is wrong with a message itself, apart from what it holds.
 fn own_cause(form: WellKnown, fields: &BTreeMap<u32, Content>) -> Option<JsonCause>
     ensures { result ≡ own_cause form (fields_view fields.now.entries) }
 {
@@ -177,8 +215,8 @@ fn own_cause(form: WellKnown, fields: &BTreeMap<u32, Content>) -> Option<JsonCau
         WellKnown::Timestamp => timestamp_cause(fields),
         WellKnown::Duration => duration_cause(fields),
         WellKnown::FieldMask => mask_cause(fields),
-        WellKnown::Any => Some(JsonCause::Unsupported),
         WellKnown::Other | WellKnown::Wrapper | WellKnown::Struct | WellKnown::ListValue => None,
+        WellKnown::Any => None,
     }
 }
 

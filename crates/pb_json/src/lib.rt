@@ -1,6 +1,7 @@
 //! Messages as JSON, by the ProtoJSON format.
 #![tactic(auto)]
 
+mod anys;
 mod context;
 mod error;
 mod form;

@@ -1,10 +1,10 @@
 //! The names of members.
 
-ghost use Rattle.std.specs.Prelude.{◌≡◌, ◌==◌, ◌≤◌};
+ghost use Rattle.std.specs.Prelude.{◌≡◌, ◌==◌, ◌≤◌, ◌++◌, codes, false, true};
 ghost use Rattle.std.specs.List.{flat_map};
 ghost use Rattle.pb_value.specs.View.{key_view};
 ghost use Rattle.pb_json.specs.JsonNames.{camel_bytes, cased, lower_camel, member_name};
-ghost use Rattle.pb_json.specs.JsonText.{member_start, string_byte, string_text};
+ghost use Rattle.pb_json.specs.JsonText.{colon, member_start, new_line, separator, string_byte, string_text};
 ghost use Rattle.pb_json.specs.Mapping.{key_name};
 ghost use Rattle.pb_output.specs.Sink.{Puts};
 
@@ -118,4 +118,39 @@ fn put_key<O: Output>(sink: &mut Sink, out: &mut O, key: &MapKey)
         MapKey::Bool(false) => put_string(sink, out, b"false"),
         MapKey::Text(text) => put_string(sink, out, text.as_str().as_bytes()),
     }
+}
+
+/// Puts the start of an Any's object, and the URL of its type as the first member.
+pub(crate) fn put_type<O: Output>(
+    sink: &mut Sink,
+    out: &mut O,
+    layout: Layout,
+    indent: usize,
+    url: &str,
+)
+    requires { indent ≤ 256 }
+    ensures { Puts O.written O.failures out.old out.new sink.old sink.new
+        (codes "{" ++ (member_start layout indent true (codes "@type") ++ string_text url.now)) }
+{
+    sink.put(out, b"{");
+    put_line(sink, out, layout, indent);
+    put_string(sink, out, b"@type");
+    put_colon(sink, out, layout);
+    put_string(sink, out, url.as_bytes());
+}
+
+/// Puts what comes before the form of the message in an Any.
+pub(crate) fn put_value_start<O: Output>(
+    sink: &mut Sink,
+    out: &mut O,
+    layout: Layout,
+    indent: usize,
+)
+    requires { indent ≤ 256 }
+    ensures { Puts O.written O.failures out.old out.new sink.old sink.new (member_start layout indent false (codes "value")) }
+{
+    put_separator(sink, out, false);
+    put_line(sink, out, layout, indent);
+    put_string(sink, out, b"value");
+    put_colon(sink, out, layout);
 }

@@ -2,7 +2,7 @@
 
 ghost use Rattle.std.specs.Prelude.{◌≡◌, ◌<◌, length};
 ghost use Rattle.pb_schema.specs.Rules.{NamesType};
-ghost use Rattle.pb_json.specs.WellKnown.{is_null_enum, is_wrapper_name, well_known, well_known_named};
+ghost use Rattle.pb_json.specs.WellKnown.{declares_any, is_null_enum, is_plain, is_wrapper_name, well_known, well_known_named};
 
 use pb_schema::{Kind, MessageId, Pool};
 
@@ -25,7 +25,7 @@ pub enum WellKnown {
     Duration,
     /// A string of the paths.
     FieldMask,
-    /// The object of an Any, which is not written.
+    /// An object with the URL of its type, and the members of the message in it or their form.
     Any,
 }
 
@@ -84,4 +84,18 @@ pub(crate) fn is_null_enum(pool: &Pool, kind: Kind) -> bool
         Some(id) => pool.enum_name(id) == b"google.protobuf.NullValue".as_slice(),
         None => false,
     }
+}
+
+/// Whether a type has no form of its own.
+pub(crate) fn is_plain(form: WellKnown) -> bool
+    ensures { result ≡ is_plain form }
+{
+    matches!(form, WellKnown::Other)
+}
+
+/// Whether some type of a pool is `google.protobuf.Any`.
+pub(crate) fn declares_any(pool: &Pool) -> bool
+    ensures { result ≡ declares_any pool.now }
+{
+    pool.message_by_name("google.protobuf.Any").is_some()
 }
