@@ -47,7 +47,7 @@ fn reads_json() {
     let (order, bytes) = (order(), example("shop_order.bin"));
     let message = order.decode(&bytes).unwrap();
     for form in [JsonForm::default(), JsonForm { declared_names: true, indented: true }] {
-        assert_eq!(order.from_json(&message.to_json(form).unwrap()).unwrap(), message);
+        assert_eq!(order.from_json(message.to_json(form).unwrap()).unwrap(), message);
     }
     assert_eq!(order.from_json("{}").unwrap(), order.empty().unwrap());
     let error = order.from_json(r#"{"number":1,"nothing":2}"#).unwrap_err();
