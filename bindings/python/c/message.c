@@ -364,28 +364,23 @@ PyObject *nothing_there(uint32_t answer)
     return NULL;
 }
 
-/* The string or the bytes at a place, of a length that was reported. */
-static PyObject *read_bytes(const struct reached *place, struct mb_message *handle, size_t size, bool is_text)
+/* The string or the bytes at a place: to the stack, and once more where they are longer. NULL, with an exception, or without one where nothing is there. */
+static PyObject *read_bytes(const struct reached *place, struct mb_message *handle, bool is_text)
 {
     uint8_t small[256], *out = small;
-    uint32_t answer;
-    PyObject *result;
+    size_t size = 0;
+    PyObject *result = NULL;
+    uint32_t answer = mb_message_read(handle, PLACE(place), small, sizeof small, &size);
 
-    if (!is_text) {
-        result = PyBytes_FromStringAndSize(NULL, (Py_ssize_t)size);
-        if (result == NULL)
-            return NULL;
-        answer = mb_message_read(handle, PLACE(place), (uint8_t *)PyBytes_AsString(result), size, &size);
-        if (answer != MB_DONE) {
-            Py_DECREF(result);
-            return nothing_there(answer);
-        }
-        return result;
+    if (answer == MB_DONE && size > sizeof small) {
+        if ((out = PyMem_Malloc(size)) == NULL)
+            return PyErr_NoMemory();
+        answer = mb_message_read(handle, PLACE(place), out, size, &size);
     }
-    if (size > sizeof small && (out = PyMem_Malloc(size)) == NULL)
-        return PyErr_NoMemory();
-    answer = mb_message_read(handle, PLACE(place), out, size, &size);
-    result = answer == MB_DONE ? as_str(out, size) : nothing_there(answer);
+    if (answer == MB_DONE)
+        result = is_text ? as_str(out, size) : as_bytes(out, size);
+    else if (answer != MB_ABSENT && answer != MB_BAD_PLACE)
+        refuse(answer, NULL);
     if (out != small)
         PyMem_Free(out);
     return result;
@@ -411,7 +406,7 @@ static PyObject *value_at(const struct reached *place, struct mb_message *handle
     case MB_UINT32: case MB_UINT64:
         return PyLong_FromUnsignedLongLong(value->number);
     case MB_STRING: case MB_BYTES:
-        return read_bytes(place, handle, (size_t)value->number, value->kind == MB_STRING);
+        return read_bytes(place, handle, value->kind == MB_STRING);
     default:
         return PyLong_FromLongLong((long long)value->number);
     }
@@ -449,22 +444,41 @@ static bool is_part(const struct mb_value *value)
     return value->kind == MB_LIST || value->kind == MB_MAP || value->kind == MB_MESSAGE;
 }
 
-/* What is one step further in, or NULL: with an exception, or without one where nothing is there. */
+/* The kind of what is one step further in than a node, where it is known and is one value, or 0. */
+static uint32_t kind_of_inner(const Node *node, const struct mb_field *field)
+{
+    if (field == NULL)
+        return node->kind;
+    return field->shape < 3 ? field->kind : 0;
+}
+
+/* What is at a place one step further in than a node, or NULL: with an exception, or without one where nothing is there. */
+static PyObject *got(Node *node, struct mb_message *handle, const struct reached *place, struct mb_value step, PyObject *key, const struct mb_field *field)
+{
+    struct mb_value value = {0, 0};
+    uint32_t answer = mb_message_get(handle, PLACE(place), &value);
+
+    if (answer == MB_DONE)
+        return is_part(&value) ? inner_part(node, step, key, &value, field) : value_at(place, handle, &value);
+    if (answer != MB_ABSENT && answer != MB_BAD_PLACE)
+        refuse(answer, NULL);
+    return NULL;
+}
+
+/* What is one step further in, or NULL: with an exception, or without one where nothing is there. A string or bytes are read by one call. */
 static PyObject *inner(Node *node, struct mb_value step, PyObject *key, const struct mb_field *field)
 {
     struct mb_message *handle = handle_of(node);
-    struct mb_value value = {0, 0};
+    uint32_t kind = kind_of_inner(node, field);
     struct reached place;
-    PyObject *result = NULL;
-    uint32_t answer;
+    PyObject *result;
 
     if (handle == NULL || !reach(node, &step, key, &place))
         return NULL;
-    answer = mb_message_get(handle, PLACE(&place), &value);
-    if (answer == MB_DONE)
-        result = is_part(&value) ? inner_part(node, step, key, &value, field) : value_at(&place, handle, &value);
-    else if (answer != MB_ABSENT && answer != MB_BAD_PLACE)
-        refuse(answer, NULL);
+    if (kind == MB_STRING || kind == MB_BYTES)
+        result = read_bytes(&place, handle, kind == MB_STRING);
+    else
+        result = got(node, handle, &place, step, key, field);
     leave(&place);
     return result;
 }
@@ -493,7 +507,7 @@ static PyObject *node_read(PyObject *self, PyObject *args)
             return NULL;
         answer = mb_message_get(handle, PLACE(&place), &value);
         if (answer == MB_DONE && (value.kind == MB_STRING || value.kind == MB_BYTES))
-            found = read_bytes(&place, handle, (size_t)value.number, false);
+            found = read_bytes(&place, handle, false);
         else if (answer == MB_DONE && is_part(&value))
             found = inner_part(node, step, key, &value, NULL);
         leave(&place);
@@ -512,7 +526,7 @@ bool field_of(Node *node, PyObject *name, struct mb_field *field)
 {
     Field *found;
 
-    if (PyLong_Check(name) && !PyBool_Check(name)) {
+    if (Py_TYPE(name) != &PyUnicode_Type && PyLong_Check(name) && !PyBool_Check(name)) {
         unsigned long number = PyLong_AsUnsignedLong(name);
         if (PyErr_Occurred())
             return false;
