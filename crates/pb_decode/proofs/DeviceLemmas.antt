@@ -73,7 +73,7 @@ pub reads_on : {pool : Types} {r s : Reading} {x y : Option (List ℕ)} {n : ℕ
 reads_on o h took = (further o h.bytes, h.onward o took)
 
 pub told_behind :
-    {pool : Types} (o : Origin) (f : Fault) (x y z : Option (List ℕ)) (front : List ℕ) {room most : ℕ} → length front + room ≤ most → Consumes x y front → ToldOf pool (further o front) y z room f → ToldOf pool o x z most f
+    {pool : Types} (o : Origin) (f : Fault) (x y z : Option (List ℕ)) (front : List ℕ) {depth_left most : ℕ} → length front + depth_left ≤ most → Consumes x y front → ToldOf pool (further o front) y z depth_left f → ToldOf pool o x z most f
 told_behind {pool} o f x y z front fits given g = record {
   bytes = front ++ g.bytes;
   few = let b = g.few in let joined = length-append front g.bytes in omega (arith, fits, b, joined);
@@ -82,17 +82,17 @@ told_behind {pool} o f x y z front fits given g = record {
 }
 
 pub told_more :
-    {pool : Types} {r s : Reading} {x y z : Option (List ℕ)} {n room most : ℕ} (o : Origin) (f : Fault) → n + room ≤ most → (h : ReadsOn pool r s x y n) → ToldOf pool (further o h.bytes) y z room f → ToldOf pool o x z most f
+    {pool : Types} {r s : Reading} {x y z : Option (List ℕ)} {n depth_left most : ℕ} (o : Origin) (f : Fault) → n + depth_left ≤ most → (h : ReadsOn pool r s x y n) → ToldOf pool (further o h.bytes) y z depth_left f → ToldOf pool o x z most f
 told_more {x = x} {y = y} {z = z} o f fits h g = told_behind o f x y z h.bytes (let a = h.size in omega (arith, fits, a)) h.given g
 
-pub takes_behind : (x y z : Option (List ℕ)) (front : List ℕ) {room most : ℕ} → length front + room ≤ most → Consumes x y front → TakesAtMost room y z → TakesAtMost most x z
+pub takes_behind : (x y z : Option (List ℕ)) (front : List ℕ) {depth_left most : ℕ} → length front + depth_left ≤ most → Consumes x y front → TakesAtMost depth_left y z → TakesAtMost most x z
 takes_behind x y z front fits given (bytes, few, more) = (
   front ++ bytes,
   let joined = length-append front bytes in omega (arith, fits, few, joined),
   Consumes-trans x y z front bytes given more,
 )
 
-pub takes_more : {pool : Types} {r s : Reading} {x y : Option (List ℕ)} (z : Option (List ℕ)) {n room most : ℕ} → n + room ≤ most → ReadsOn pool r s x y n → TakesAtMost room y z → TakesAtMost most x z
+pub takes_more : {pool : Types} {r s : Reading} {x y : Option (List ℕ)} (z : Option (List ℕ)) {n depth_left most : ℕ} → n + depth_left ≤ most → ReadsOn pool r s x y n → TakesAtMost depth_left y z → TakesAtMost most x z
 takes_more {x = x} {y = y} z fits h more = takes_behind x y z h.bytes (let a = h.size in omega (arith, fits, a)) h.given more
 
 pub takes_read : {pool : Types} {r s : Reading} {x y : Option (List ℕ)} {n most : ℕ} → n ≤ most → ReadsOn pool r s x y n → TakesAtMost most x y

@@ -22,7 +22,7 @@ few_records (r ∷ rs) b h =
     let others = few_records rs h.1 h.3 in
     omega (arith, some, first, whole, others)
 
-counts_behind : {S : Schema} {o : Open S.Context} {room : ℕ} {p q : Place} {rs : List Record} (counts : ℕ → ℕ) (k : ℕ) → Behind S o room p rs q → CountsOf counts rs → counts k ≤ q.at
+counts_behind : {S : Schema} {o : Open S.Context} {depth_left : ℕ} {p q : Place} {rs : List Record} (counts : ℕ → ℕ) (k : ℕ) → Behind S o depth_left p rs q → CountsOf counts rs → counts k ≤ q.at
 counts_behind {rs = rs} counts k b h =
     let is = h k in
     let fit = occurrence-le-length k rs in
@@ -30,7 +30,7 @@ counts_behind {rs = rs} counts k b h =
     let at = b.moves.at in
     omega (arith, is, fit, few, at)
 
-begun_later : {S : Schema} {a o : Open S.Context} {room below k : ℕ} {q u : Place} → Begun S a room k q o below u → q.at ≤ u.at
+begun_later : {S : Schema} {a o : Open S.Context} {depth_left below k : ℕ} {q u : Place} → Begun S a depth_left k q o below u → q.at ≤ u.at
 begun_later (a_message levels tag re l is_open is_place) = let x = ap (λ (z : Place). z.at) is_place in let y = tag.tag.2.at in let z = l.length_is.2.at in omega (arith, x, y, z)
 begun_later (a_value levels tag re l is_open is_place) = let x = ap (λ (z : Place). z.at) is_place in let y = tag.tag.2.at in let z = l.length_is.2.at in omega (arith, x, y, z)
 begun_later (a_group levels tag is_open is_place) = let x = ap (λ (z : Place). z.at) is_place in let y = tag.tag.2.at in omega (arith, x, y)
@@ -49,7 +49,7 @@ frame_counts_fit {pool} {m} {depth} {levels} {base} {p0} {frame} {frames} {scope
     let at = s.behind.moves.at in
     omega (arith, before, at)
   where
-    outer_counts : {o : Open Context} {room inner : ℕ} {path : List PathStep} {p : Place} {earlier : List Record} → Held pool m depth levels base p0 (frame ∷ frames) now o room inner path p earlier → frame.scope.counts k ≤ p.at
+    outer_counts : {o : Open Context} {depth_left inner : ℕ} {path : List PathStep} {p : Place} {earlier : List Record} → Held pool m depth levels base p0 (frame ∷ frames) now o depth_left inner path p earlier → frame.scope.counts k ≤ p.at
     outer_counts (inside up h begun form can deep completes is_path counts ends goes_on takes) =
         let few = counts_behind frame.scope.counts k h counts in
         let later = begun_later begun in

@@ -84,11 +84,11 @@ inner_cut : {f g : Fault} {s : PathStep} → f ≡ inside s g → IsCut f → Is
 inner_cut is cut = sym (ap (λ (z : Fault). z.cause) is) ∙ cut
 
 mutual
-  pub never_cut : {S : Schema} {o : Open S.Context} {room : ℕ} {p : Place} {f : Fault} → IsGiven p → Bad S o room p f → IsCut f → ⊥
+  pub never_cut : {S : Schema} {o : Open S.Context} {depth_left : ℕ} {p : Place} {f : Fault} → IsGiven p → Bad S o depth_left p f → IsCut f → ⊥
   never_cut g (Bad.at_record {front = front} w m goes bad) cut = record_given (given_moves front m g) bad cut
   never_cut g (Bad.at_end is w m ends e) cut = let same = other _ e cut in absurd (cc)
 
-  record_given : {S : Schema} {o : Open S.Context} {before : List Record} {room : ℕ} {p : Place} {f : Fault} → IsGiven p → RecordFault S o before room p f → IsCut f → ⊥
+  record_given : {S : Schema} {o : Open S.Context} {before : List Record} {depth_left : ℕ} {p : Place} {f : Fault} → IsGiven p → RecordFault S o before depth_left p f → IsCut f → ⊥
   record_given g (RecordFault.tag t) cut = tag_given g t cut
   record_given g (RecordFault.group_too_deep t z is) cut = let e = other _ is cut in absurd (cc)
   record_given g (RecordFault.message_too_deep t re z is) cut = let e = other _ is cut in absurd (cc)

@@ -69,13 +69,13 @@ module _ (n : ℕ) where
   begins_later (in_group k c) p b = b
 
   mutual
-    pub bad_later : {S : Schema} {o : Open S.Context} {room : ℕ} {p : Place} {f : Fault} → Bad S o room p f → Bad S o room (place_later n p) (later n f)
+    pub bad_later : {S : Schema} {o : Open S.Context} {depth_left : ℕ} {p : Place} {f : Fault} → Bad S o depth_left p f → Bad S o depth_left (place_later n p) (later n f)
     bad_later (Bad.at_record {o = o} {q = q} {front = front} w m goes bad) = Bad.at_record w (moves_later front m) (begins_later o q goes) (record_later bad)
     bad_later (Bad.at_end {front = front} is w m end e) = Bad.at_end is w (moves_later front m) end (ap (later n) e)
 
     record_later :
-        {S : Schema} {o : Open S.Context} {before : List Record} {room : ℕ} {p : Place} {f : Fault} → RecordFault S o before room p f
-        → RecordFault S o before room (place_later n p) (later n f)
+        {S : Schema} {o : Open S.Context} {before : List Record} {depth_left : ℕ} {p : Place} {f : Fault} → RecordFault S o before depth_left p f
+        → RecordFault S o before depth_left (place_later n p) (later n f)
     record_later (RecordFault.tag t) = RecordFault.tag (tag_fault_later t)
     record_later (RecordFault.group_too_deep t z is) = RecordFault.group_too_deep (tag_later t) z (ap (later n) is)
     record_later (RecordFault.message_too_deep t re z is) = RecordFault.message_too_deep (tag_later t) re z (ap (later n) is)

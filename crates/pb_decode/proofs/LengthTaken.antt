@@ -11,7 +11,7 @@ use Rattle.pb_wire.specs.Grammar.{Bad}
 use Rattle.pb_wire.specs.Token.{given_at, passed}
 use Rattle.pb_schema.specs.Types.{Types}
 use Rattle.pb_schema.specs.Context.{a_message as in_message, schema_of}
-use Rattle.pb_parts.specs.declared.open.purpose.Purpose.{Purpose}
+use Rattle.pb_parts.specs.declared.open.target.Target.{Target}
 use Rattle.pb_parts.specs.declared.tokens.step.Step.{Step}
 use Rattle.pb_parts.specs.declared.tokens.step.Step.TheVariants as step
 use Rattle.pb_parts.specs.Open.Frames.{EndsAt, path_of, next_step}
@@ -28,26 +28,26 @@ length_ends s rest n size begun h = ends_along h.0 s.scope.end h.2 begun.ends
 
 -- the reader awaits the length of this record
 pub at_length :
-    {pool : Types} {m depth levels : ℕ} {base : List Record} {p0 : Place} (s : State) (rest : List ℕ) (k : ℕ) (p : Purpose) → Reads pool m depth levels base p0 s rest → s.next ≡ step.Length k p
+    {pool : Types} {m depth levels : ℕ} {base : List Record} {p0 : Place} (s : State) (rest : List ℕ) (k : ℕ) (p : Target) → Reads pool m depth levels base p0 s rest → s.next ≡ step.Length k p
     → After pool m depth levels base p0 s.frames (step.Length k p) s.now s.scope (here s rest)
 at_length {pool} {m} {depth} {levels} {base} {p0} s rest k p begun is = subst (λ (z : Step). After pool m depth levels base p0 s.frames z s.now s.scope (here s rest)) is begun
 
 -- A FAULT below the step of the record is one where the reader is
 length_told :
-    (pool : Types) (m depth : ℕ) (p0 : Place) (s : State) (k : ℕ) (p : Purpose) (byte : ℕ) (c : Cause) → s.next ≡ step.Length k p
+    (pool : Types) (m depth : ℕ) (p0 : Place) (s : State) (k : ℕ) (p : Target) (byte : ℕ) (c : Cause) → s.next ≡ step.Length k p
     → Bad (schema_of pool) (records (in_message m)) depth p0 (fault byte (path_of s.frames ++ next_step k s.scope ∷ []) c) → Bad (schema_of pool) (records (in_message m)) depth p0 (fault byte (path_here s) c)
 length_told pool m depth p0 s k p byte c is bad =
     let path : path_of s.frames ++ next_step k s.scope ∷ [] ≡ path_here s = ap (λ (z : Step). path_of s.frames ++ own_step z s.scope) (sym is) in
     subst (λ (z : List PathStep). Bad (schema_of pool) (records (in_message m)) depth p0 (fault byte z c)) path bad
 
 pub length_fault_told :
-    (pool : Types) (m depth : ℕ) (p0 : Place) (s : State) (k : ℕ) (p : Purpose) (c : Cause) → s.next ≡ step.Length k p → c ≢ Truncated
+    (pool : Types) (m depth : ℕ) (p0 : Place) (s : State) (k : ℕ) (p : Target) (c : Cause) → s.next ≡ step.Length k p → c ≢ Truncated
     → Bad (schema_of pool) (records (in_message m)) depth p0 (fault s.at (path_of s.frames ++ next_step k s.scope ∷ []) c) → Told pool m depth p0 (fault s.at (path_here s) c)
 length_fault_told pool m depth p0 s k p c is not_cut bad = record { bad = length_told pool m depth p0 s k p s.at c is bad; settled = not_cut }
 
 -- THE BYTES END inside the length
 pub length_short :
-    {pool : Types} {m depth levels : ℕ} {base : List Record} {p0 : Place} (s : State) (rest : List ℕ) (k : ℕ) (p : Purpose) → Reads pool m depth levels base p0 s rest → s.next ≡ step.Length k p
+    {pool : Types} {m depth levels : ℕ} {base : List Record} {p0 : Place} (s : State) (rest : List ℕ) (k : ℕ) (p : Target) → Reads pool m depth levels base p0 s rest → s.next ≡ step.Length k p
     → VarintFault (here s rest) (fault (input_end (here s rest)) [] Truncated) → Stops pool m depth p0 s rest
 length_short {pool} {m} {depth} {levels} {base} {p0} s rest k p begun is bad =
     cut (length_told pool m depth p0 s k p (input_end (here s rest)) Truncated is (length_refused k p (fault (input_end (here s rest)) [] Truncated) begun (ap awaited is) (LengthFault.token bad)))

@@ -20,21 +20,21 @@ use Rattle.pb_decode.proofs.OneElement.{one_front, varint_open, element_open}
 -- THE SAME FROM THE TOP: after whole records the bytes end in what comes next, or in what is begun there
 pub data EndsIn (S : Schema) : Open S.Context → ℕ → Place → ℕ → ℕ → ℕ → Type 0 where
   here :
-      {o : Open S.Context} {room held contexts declared lists : ℕ} {p q : Place} {rs : List Record}
-      → Behind S o room p rs q → Unfinished S (context_of o) room q held lists declared → contexts ≡ suc lists → EndsIn S o room p held contexts declared
+      {o : Open S.Context} {depth_left held contexts declared lists : ℕ} {p q : Place} {rs : List Record}
+      → Behind S o depth_left p rs q → Unfinished S (context_of o) depth_left q held lists declared → contexts ≡ suc lists → EndsIn S o depth_left p held contexts declared
   deeper :
-      {a o : Open S.Context} {room below k held contexts inner declared : ℕ} {p q u : Place} {rs : List Record}
-      → Behind S a room p rs q → Begun S a room k q o below u → EndsIn S o below u held inner declared → contexts ≡ suc inner → EndsIn S a room p held contexts declared
+      {a o : Open S.Context} {depth_left below k held contexts inner declared : ℕ} {p q u : Place} {rs : List Record}
+      → Behind S a depth_left p rs q → Begun S a depth_left k q o below u → EndsIn S o below u held inner declared → contexts ≡ suc inner → EndsIn S a depth_left p held contexts declared
 
 from_top :
-    {S : Schema} {top : Open S.Context} {depth : ℕ} {p0 : Place} {o : Open S.Context} {room : ℕ} {path : List PathStep} {p : Place} (held contexts declared : ℕ)
-    → Opened S top depth p0 o room path p → EndsIn S o room p held contexts declared → EndsIn S top depth p0 held (length path + contexts) declared
-from_top {S} {top} {depth} {p0} held contexts declared (opened.at_top {room = room} {path = path} {p = p} a b c d) h =
+    {S : Schema} {top : Open S.Context} {depth : ℕ} {p0 : Place} {o : Open S.Context} {depth_left : ℕ} {path : List PathStep} {p : Place} (held contexts declared : ℕ)
+    → Opened S top depth p0 o depth_left path p → EndsIn S o depth_left p held contexts declared → EndsIn S top depth p0 held (length path + contexts) declared
+from_top {S} {top} {depth} {p0} held contexts declared (opened.at_top {depth_left = depth_left} {path = path} {p = p} a b c d) h =
     let none = ap length c in
     let same : contexts ≡ length path + contexts = omega (arith, none) in
     subst (λ (n : ℕ). EndsIn S top depth p0 held n declared) same
     (subst (λ (z : Place). EndsIn S top depth z held contexts declared) d
-    (subst (λ (z : ℕ). EndsIn S top z p held contexts declared) b (subst (λ (z : Open S.Context). EndsIn S z room p held contexts declared) a h)))
+    (subst (λ (z : ℕ). EndsIn S top z p held contexts declared) b (subst (λ (z : Open S.Context). EndsIn S z depth_left p held contexts declared) a h)))
 from_top {S} {top} {depth} {p0} held contexts declared (opened.inner {k = k} {path = path} {steps = steps} {rs = rs} up h begun is_path) end =
     let size = ap length is_path ∙ length-append steps (step k rs ∷ []) in
     let same : length steps + suc contexts ≡ length path + contexts = omega (arith, size) in
@@ -48,8 +48,8 @@ ends_in {S} {c} {depth} {b} {held} {contexts} {declared} e =
 
 -- A FAULT: what is not finished is no whole record
 unfinished_bad :
-    {S : Schema} (o : Open S.Context) (before : List Record) {room held lists declared : ℕ} {q : Place} → Unfinished S (context_of o) room q held lists declared
-    → (f : Fault) × RecordFault S o before room q f
+    {S : Schema} (o : Open S.Context) (before : List Record) {depth_left held lists declared : ℕ} {q : Place} → Unfinished S (context_of o) depth_left q held lists declared
+    → (f : Fault) × RecordFault S o before depth_left q f
 unfinished_bad o before (in_tag short a b c) = (_, RecordFault.tag (TagFault.token short))
 unfinished_bad o before {q = q} (in_number {k = k} {u = u} tag (a_varint is h) a b c) = (_, RecordFault.varint (subst (λ (z : ℕ). HasTag q k z u) is tag) h refl)
 unfinished_bad o before {q = q} (in_number {k = k} {u = u} tag (eight_bytes is h) a b c) = (_, RecordFault.fixed64 (subst (λ (z : ℕ). HasTag q k z u) is tag) h refl)
@@ -59,7 +59,7 @@ unfinished_bad o before (in_payload {size = size} {u = u} tag re l short a b c) 
     (_, RecordFault.cut_payload tag re (record { size = size; payload = u; length_is = l; cut = short; fault_is = refl }) refl)
 unfinished_bad o before (in_list {e = e} {front = front} {u = u} tag re l es m bad a b c) = (_, RecordFault.in_a_list tag re l (front, u, es, m, element_open e u bad, bad) refl)
 
-unfinished_begins : {S : Schema} (o : Open S.Context) {room held lists declared : ℕ} {q : Place} → ((open_group o ≢ None) ⊎ (q.known ≢ None)) → Unfinished S (context_of o) room q held lists declared → Begins o q
+unfinished_begins : {S : Schema} (o : Open S.Context) {depth_left held lists declared : ℕ} {q : Place} → ((open_group o ≢ None) ⊎ (q.known ≢ None)) → Unfinished S (context_of o) depth_left q held lists declared → Begins o q
 unfinished_begins (records c) {q = q} (inl grouped) (in_tag short a b d) = absurd (grouped refl)
 unfinished_begins (records c) {q = q} (inr known) (in_tag short a b d) = (varint_open q short, λ none. absurd (known none))
 unfinished_begins (in_group k c) {q = q} ends (in_tag short a b d) = varint_open q short
@@ -75,17 +75,17 @@ none_known p q n is known = by_known p.known q.known is known
     by_known None b e ne = absurd (ne refl)
     by_known (Some x) b e ne = λ none. absurd (cc)
 
-goes_inside : {S : Schema} {a o : Open S.Context} {room below k : ℕ} {q u : Place} → Begun S a room k q o below u → (open_group o ≢ None) ⊎ (u.known ≢ None)
+goes_inside : {S : Schema} {a o : Open S.Context} {depth_left below k : ℕ} {q u : Place} → Begun S a depth_left k q o below u → (open_group o ≢ None) ⊎ (u.known ≢ None)
 goes_inside {u = u} (opened.a_message {n = n} levels tag re l is_open is_place) = inr (λ e. let known : u.known ≡ Some n = ap (λ (z : Place). z.known) is_place in absurd (cc))
 goes_inside {u = u} (opened.a_value {n = n} levels tag re l is_open is_place) = inr (λ e. let known : u.known ≡ Some n = ap (λ (z : Place). z.known) is_place in absurd (cc))
 goes_inside {S} {a} {o} {k = k} (opened.a_group levels tag is_open is_place) = inl (λ e. let grouped : open_group o ≡ Some k = ap (λ (z : Open S.Context). open_group z) is_open in absurd (cc))
 
-begun_begins : {S : Schema} {a o : Open S.Context} {room below k : ℕ} {q u : Place} → Begun S a room k q o below u → Begins a q
+begun_begins : {S : Schema} {a o : Open S.Context} {depth_left below k : ℕ} {q u : Place} → Begun S a depth_left k q o below u → Begins a q
 begun_begins {a = a} (opened.a_message levels tag re l is_open is_place) = begins_at_tag a tag
 begun_begins {a = a} (opened.a_value levels tag re l is_open is_place) = begins_at_tag a tag
 begun_begins {a = a} (opened.a_group levels tag is_open is_place) = begins_at_tag a tag
 
-pub end_bad : {S : Schema} {o : Open S.Context} {room : ℕ} {p : Place} {held contexts declared : ℕ} → ((open_group o ≢ None) ⊎ (p.known ≢ None)) → EndsIn S o room p held contexts declared → (f : Fault) × Bad S o room p f
+pub end_bad : {S : Schema} {o : Open S.Context} {depth_left : ℕ} {p : Place} {held contexts declared : ℕ} → ((open_group o ≢ None) ⊎ (p.known ≢ None)) → EndsIn S o depth_left p held contexts declared → (f : Fault) × Bad S o depth_left p f
 end_bad {o = o} {p = p} ends (here {q = q} {rs = rs} b h is) =
     let told = unfinished_bad o rs h in
     (told.0, bad_behind b (unfinished_begins o (along ends) h) told.1)
@@ -98,16 +98,16 @@ end_bad ends (deeper {rs = rs} b begun inner is) =
     (_, bad_behind b (begun_begins begun) (bad_begun rs begun told.1))
 
 begun_bad :
-    {S : Schema} {a o : Open S.Context} {room below k held contexts declared : ℕ} {q u : Place} (before : List Record) → Begun S a room k q o below u → EndsIn S o below u held contexts declared
-    → (f : Fault) × RecordFault S a before room q f
+    {S : Schema} {a o : Open S.Context} {depth_left below k held contexts declared : ℕ} {q u : Place} (before : List Record) → Begun S a depth_left k q o below u → EndsIn S o below u held contexts declared
+    → (f : Fault) × RecordFault S a before depth_left q f
 begun_bad before begun inner = let told = end_bad (goes_inside begun) inner in (_, bad_begun before begun told.1)
 
 -- ONE PLACE: no whole record is after either prefix
 one_place :
-    {S : Schema} {o : Open S.Context} {room : ℕ} {p q r : Place} {rs ss : List Record} → Behind S o room p rs q → Behind S o room p ss r → (f : Fault) × RecordFault S o rs room q f → (g : Fault) × RecordFault S o ss room r g → q ≡ r
-one_place {S} {o} {room} {p} {q} {r} {rs} {ss} b d f g = judge (align rs ss b.front d.front b.spelled d.spelled b.sound d.sound b.moves d.moves)
+    {S : Schema} {o : Open S.Context} {depth_left : ℕ} {p q r : Place} {rs ss : List Record} → Behind S o depth_left p rs q → Behind S o depth_left p ss r → (f : Fault) × RecordFault S o rs depth_left q f → (g : Fault) × RecordFault S o ss depth_left r g → q ≡ r
+one_place {S} {o} {depth_left} {p} {q} {r} {rs} {ss} b d f g = judge (align rs ss b.front d.front b.spelled d.spelled b.sound d.sound b.moves d.moves)
   where
-    judge : (q ≡ r) ⊎ (RecordAt S (context_of o) room q ⊎ RecordAt S (context_of o) room r) → q ≡ r
+    judge : (q ≡ r) ⊎ (RecordAt S (context_of o) depth_left q ⊎ RecordAt S (context_of o) depth_left r) → q ≡ r
     judge (inl same) = same
     judge (inr (inl h)) = absurd (bad_not_record f.1 h)
     judge (inr (inr h)) = absurd (bad_not_record g.1 h)
@@ -134,7 +134,7 @@ no_both : {C : Type 0} (r : Reading C) {d e : C} → r ≡ message d → r ≡ s
 no_both r {d} {e} x y = let both = sym x ∙ y in absurd (cc)
 
 one_begun :
-    {S : Schema} {a o x : Open S.Context} {room below low k l : ℕ} {q u v : Place} → Begun S a room k q o below u → Begun S a room l q x low v → (o ≡ x) × (below ≡ low) × (u ≡ v)
+    {S : Schema} {a o x : Open S.Context} {depth_left below low k l : ℕ} {q u v : Place} → Begun S a depth_left k q o below u → Begun S a depth_left l q x low v → (o ≡ x) × (below ≡ low) × (u ≡ v)
 one_begun {S} {a} (opened.a_message {n = n} {t = t} levels tag re h is_open is_place) (opened.a_message {n = m} {t = w} levels2 tag2 re2 h2 is_open2 is_place2) =
     let at = one_tag tag tag2 in
     let size = one_size at.2 h h2 in
@@ -194,7 +194,7 @@ same_list_place {e} {x} {p} {r} {u} {v} front back kind place es m h fs n k =
     (subst (λ (z : Element). ElementFault z v (fault (input_end v) [] Truncated)) (sym kind) k)
 
 one_unfinished :
-    {S : Schema} {c : S.Context} {room : ℕ} {q : Place} {h l d h2 l2 d2 : ℕ} → Unfinished S c room q h l d → Unfinished S c room q h2 l2 d2 → (h ≡ h2) × (l ≡ l2) × (d ≡ d2)
+    {S : Schema} {c : S.Context} {depth_left : ℕ} {q : Place} {h l d h2 l2 d2 : ℕ} → Unfinished S c depth_left q h l d → Unfinished S c depth_left q h2 l2 d2 → (h ≡ h2) × (l ≡ l2) × (d ≡ d2)
 one_unfinished (in_tag short a b c) (in_tag short2 a2 b2 c2) = (a ∙ sym a2, b ∙ sym b2, c ∙ sym c2)
 one_unfinished (in_tag short a b c) (in_number tag h a2 b2 c2) = absurd (no_tag short tag)
 one_unfinished (in_tag short a b c) (in_length tag allowed h a2 b2 c2) = absurd (no_tag short tag)
@@ -230,7 +230,7 @@ one_unfinished {S} {c = x} (in_list {size = n} {front = front} {t = t} tag re l 
     (left same a a2, b ∙ sym b2, c ∙ sym c2)
 
 -- what is begun is not unfinished before that
-not_begun : {S : Schema} {a o : Open S.Context} {room below k h l d : ℕ} {q u : Place} → Begun S a room k q o below u → Unfinished S (context_of a) room q h l d → ⊥
+not_begun : {S : Schema} {a o : Open S.Context} {depth_left below k h l d : ℕ} {q u : Place} → Begun S a depth_left k q o below u → Unfinished S (context_of a) depth_left q h l d → ⊥
 not_begun (opened.a_message levels tag re l is_open is_place) (in_tag short a b c) = no_tag short tag
 not_begun (opened.a_message levels tag re l is_open is_place) (in_number tag2 h a b c) = no_two h (one_tag tag2 tag).1
 not_begun (opened.a_message levels tag re l is_open is_place) (in_length tag2 allowed h a b c) = no_length (one_tag tag2 tag).2 h l
@@ -253,20 +253,20 @@ not_begun (opened.a_group levels tag is_open is_place) (in_length tag2 allowed h
 not_begun (opened.a_group levels tag is_open is_place) (in_payload tag2 re2 l2 h a b c) = let at = (one_tag tag2 tag).1 in absurd (omega (arith, at))
 not_begun (opened.a_group levels tag is_open is_place) (in_list tag2 re2 l2 es m h a b c) = let at = (one_tag tag2 tag).1 in absurd (omega (arith, at))
 
-one_end : {S : Schema} {o : Open S.Context} {room : ℕ} {p : Place} {h c d h2 c2 d2 : ℕ} → EndsIn S o room p h c d → EndsIn S o room p h2 c2 d2 → (h ≡ h2) × (c ≡ c2) × (d ≡ d2)
-one_end {S} {o} {room} {h2 = h2} {d2 = d2} (here {rs = rs} b un is) (here {lists = l2} {rs = ss} b2 un2 is2) =
+one_end : {S : Schema} {o : Open S.Context} {depth_left : ℕ} {p : Place} {h c d h2 c2 d2 : ℕ} → EndsIn S o depth_left p h c d → EndsIn S o depth_left p h2 c2 d2 → (h ≡ h2) × (c ≡ c2) × (d ≡ d2)
+one_end {S} {o} {depth_left} {h2 = h2} {d2 = d2} (here {rs = rs} b un is) (here {lists = l2} {rs = ss} b2 un2 is2) =
     let same = one_place b b2 (unfinished_bad o rs un) (unfinished_bad o ss un2) in
-    let e = one_unfinished un (subst (λ (z : Place). Unfinished S (context_of o) room z h2 l2 d2) (sym same) un2) in
+    let e = one_unfinished un (subst (λ (z : Place). Unfinished S (context_of o) depth_left z h2 l2 d2) (sym same) un2) in
     (e.0, is ∙ ap (λ (n : ℕ). suc n) e.1 ∙ sym is2, e.2)
-one_end {S} {o} {room} {h = h} {d = d} (here {lists = l} {rs = rs} b un is) (deeper {rs = ss} b2 begun2 inner2 is2) =
+one_end {S} {o} {depth_left} {h = h} {d = d} (here {lists = l} {rs = rs} b un is) (deeper {rs = ss} b2 begun2 inner2 is2) =
     let same = one_place b b2 (unfinished_bad o rs un) (begun_bad ss begun2 inner2) in
-    absurd (not_begun begun2 (subst (λ (z : Place). Unfinished S (context_of o) room z h l d) same un))
-one_end {S} {o} {room} {h2 = h2} {d2 = d2} (deeper {rs = rs} b begun inner is) (here {lists = l2} {rs = ss} b2 un2 is2) =
+    absurd (not_begun begun2 (subst (λ (z : Place). Unfinished S (context_of o) depth_left z h l d) same un))
+one_end {S} {o} {depth_left} {h2 = h2} {d2 = d2} (deeper {rs = rs} b begun inner is) (here {lists = l2} {rs = ss} b2 un2 is2) =
     let same = one_place b b2 (begun_bad rs begun inner) (unfinished_bad o ss un2) in
-    absurd (not_begun begun (subst (λ (z : Place). Unfinished S (context_of o) room z h2 l2 d2) (sym same) un2))
-one_end {S} {o} {room} {h2 = h2} {d2 = d2} (deeper {o = x} {below = low} {u = u} {rs = rs} b begun inner is) (deeper {o = y} {below = low2} {k = k2} {inner = n2} {u = v} {rs = ss} b2 begun2 inner2 is2) =
+    absurd (not_begun begun (subst (λ (z : Place). Unfinished S (context_of o) depth_left z h2 l2 d2) (sym same) un2))
+one_end {S} {o} {depth_left} {h2 = h2} {d2 = d2} (deeper {o = x} {below = low} {u = u} {rs = rs} b begun inner is) (deeper {o = y} {below = low2} {k = k2} {inner = n2} {u = v} {rs = ss} b2 begun2 inner2 is2) =
     let same = one_place b b2 (begun_bad rs begun inner) (begun_bad ss begun2 inner2) in
-    let one = one_begun begun (subst (λ (z : Place). Begun S o room k2 z y low2 v) (sym same) begun2) in
+    let one = one_begun begun (subst (λ (z : Place). Begun S o depth_left k2 z y low2 v) (sym same) begun2) in
     let there : EndsIn S x low u h2 n2 d2 =
     subst (λ (z : Place). EndsIn S x low z h2 n2 d2) (sym one.2) (subst (λ (z : ℕ). EndsIn S x z v h2 n2 d2) (sym one.1) (subst (λ (z : Open S.Context). EndsIn S z low2 v h2 n2 d2) (sym one.0) inner2)) in
     let r = one_end inner there in

@@ -37,9 +37,9 @@ use Rattle.pb_decode.proofs.OriginLemmas.{is_message, whole_there}
 
 -- THE START: the canonical records have the message as their value
 pub begun_onto :
-    {pool : Types} {k : ℕ} {v : Message} (room depth : ℕ) (s : State) (held : List ℕ) → room ≡ depth → IsPool pool → k < length pool.messages → IsWellFormed pool k v
-    → ((p : Types) (base : List Record) → k < length p.messages → IsWellFormed p k v → v ≡ value p k base → TookFrom p (origin k room base None) s held) → TookFrom pool (origin k depth (canon pool k v) None) s held
-begun_onto {pool} {k} {v} room depth s held same rules within good begun =
+    {pool : Types} {k : ℕ} {v : Message} (depth_left depth : ℕ) (s : State) (held : List ℕ) → depth_left ≡ depth → IsPool pool → k < length pool.messages → IsWellFormed pool k v
+    → ((p : Types) (base : List Record) → k < length p.messages → IsWellFormed p k v → v ≡ value p k base → TookFrom p (origin k depth_left base None) s held) → TookFrom pool (origin k depth (canon pool k v) None) s held
+begun_onto {pool} {k} {v} depth_left depth s held same rules within good begun =
     subst (λ (d : ℕ). TookFrom pool (origin k d (canon pool k v) None) s held) same (begun pool (canon pool k v) within good (sym (value-canon pool k v rules good)))
 
 -- THE ONE ANSWER
@@ -173,7 +173,7 @@ text_onto_none {pool} {m} {limits} {b} rules v w none t = record {
 
 -- more levels
 mutual
-  sound_deeper : {S : Schema} {c : S.Context} {room k : ℕ} {p : Payload} (more : ℕ) → room ≤ more → Sound S c room k p → Sound S c more k p
+  sound_deeper : {S : Schema} {c : S.Context} {depth_left k : ℕ} {p : Payload} (more : ℕ) → depth_left ≤ more → Sound S c depth_left k p → Sound S c more k p
   sound_deeper more enough Sound.is_varint = Sound.is_varint
   sound_deeper more enough Sound.is_fixed64 = Sound.is_fixed64
   sound_deeper more enough Sound.is_fixed32 = Sound.is_fixed32
@@ -186,7 +186,7 @@ mutual
   sound_deeper zero enough (Sound.a_group is h) = absurd (omega (arith, enough))
   sound_deeper (suc more) enough (Sound.a_group is h) = Sound.a_group is (all_deeper more (omega (arith, enough)) h)
 
-  all_deeper : {S : Schema} {c : S.Context} {room : ℕ} {rs : List Record} (more : ℕ) → room ≤ more → AllSound S c room rs → AllSound S c more rs
+  all_deeper : {S : Schema} {c : S.Context} {depth_left : ℕ} {rs : List Record} (more : ℕ) → depth_left ≤ more → AllSound S c depth_left rs → AllSound S c more rs
   all_deeper more enough AllSound.none = AllSound.none
   all_deeper more enough (AllSound.one s h) = AllSound.one (sound_deeper more enough s) (all_deeper more enough h)
 

@@ -68,16 +68,16 @@ unfolding value
 whole_read pool o k v scope q ended s = from_held s.held s.behind s.worth
   where
     from_held :
-        {a : Open Context} {room inner : ℕ} {path : List PathStep} {p : Place} {earlier rs : List Record}
-        → Held pool o.kind o.depth 101 o.base o.place [] (message_part k v) a room inner path p earlier → Behind (schema_of pool) a room p rs q → v ≡ value_within pool inner k (earlier ++ rs) → IsWhole pool o v
-    from_held {a} {room} {inner} {path} {p} {earlier} {rs} (at_top x form is_open is_room is_inner is_path is_place is_base goes_on) h worth = record {
+        {a : Open Context} {depth_left inner : ℕ} {path : List PathStep} {p : Place} {earlier rs : List Record}
+        → Held pool o.kind o.depth 101 o.base o.place [] (message_part k v) a depth_left inner path p earlier → Behind (schema_of pool) a depth_left p rs q → v ≡ value_within pool inner k (earlier ++ rs) → IsWhole pool o v
+    from_held {a} {depth_left} {inner} {path} {p} {earlier} {rs} (at_top x form is_open is_room is_inner is_path is_place is_base goes_on) h worth = record {
       records = rs;
       front = h.front;
       after = q;
       spelled = h.spelled;
       sound =
           subst (λ (z : ℕ). AllSound (schema_of pool) (in_message o.kind) z rs) is_room
-          (subst (λ (z : Open Context). AllSound (schema_of pool) (context_of z) room rs) is_open h.sound);
+          (subst (λ (z : Open Context). AllSound (schema_of pool) (context_of z) depth_left rs) is_open h.sound);
       moves = subst (λ (z : Place). Moves z h.front q) is_place h.moves;
       over = ended;
       valued =
@@ -123,8 +123,8 @@ ends_at_start (Some e) = (e, refl, omega arith)
 
 -- a message begins unless it ends at once
 begins_there :
-    {pool : Types} {m depth levels : ℕ} {base : List Record} {p0 : Place} {now : Part} {o : Open Context} {room inner : ℕ} {path : List PathStep} {p : Place} {earlier : List Record} (n : ℕ)
-    → Held pool m depth levels base p0 [] now o room inner path p earlier → Begins o (given_at 0 (Some (suc n)) [])
+    {pool : Types} {m depth levels : ℕ} {base : List Record} {p0 : Place} {now : Part} {o : Open Context} {depth_left inner : ℕ} {path : List PathStep} {p : Place} {earlier : List Record} (n : ℕ)
+    → Held pool m depth levels base p0 [] now o depth_left inner path p earlier → Begins o (given_at 0 (Some (suc n)) [])
 begins_there n (at_top v form is_open is_room is_inner is_path is_place is_base goes_on) =
     subst (λ (z : Open Context). Begins z (given_at 0 (Some (suc n)) [])) (sym is_open) ((λ e. let same : Some (suc n) ≡ Some 0 = e in absurd (cc)), (λ e. let same : Some (suc n) ≡ None = e in absurd (cc)))
 
@@ -137,10 +137,10 @@ stops_at_start k depth base v scope (Some zero) is stands = over refl refl (inl 
 stops_at_start k depth base v scope (Some (suc n)) is stands = cut (cut_told stands (begins_there n stands.held) refl (λ e. let same : Some (suc n) ≡ Some 0 = e in absurd (cc)))
 
 took_started :
-    (pool : Types) (k depth : ℕ) (base : List Record) (end : Option ℕ) (v : Message) (scope : Scope) → scope.room ≡ depth → scope.end ≡ end → ((n : ℕ) → scope.counts n ≡ 0) → depth ≤ 100 → k < length pool.messages
+    (pool : Types) (k depth : ℕ) (base : List Record) (end : Option ℕ) (v : Message) (scope : Scope) → scope.depth_left ≡ depth → scope.end ≡ end → ((n : ℕ) → scope.counts n ≡ 0) → depth ≤ 100 → k < length pool.messages
     → IsWellFormed pool k v → v ≡ value pool k base → TookFrom pool (origin k depth base end) (started (message_part k v) scope) []
 unfolding value started
-took_started pool k depth base end v scope room is_end counts deep within good is = record {
+took_started pool k depth base end v scope depth_left is_end counts deep within good is = record {
   reads = subst (λ (z : Place). After pool k depth 101 base (given_at 0 end []) [] step.Tag (message_part k v) scope z) placed (after_record stands);
   stops = stops_at_start k depth base (message_part k v) scope end is_end stands;
   at = omega arith;
@@ -148,24 +148,24 @@ took_started pool k depth base end v scope room is_end counts deep within good i
   where
     stands : Stands pool k depth 101 base (given_at 0 end []) [] (message_part k v) scope (given_at 0 end [])
     stands =
-        stands_at_start pool k depth 101 base (given_at 0 end []) scope v (omega (arith, deep)) is within good.parts (let low = good.depth in omega (arith, low)) tt room counts
+        stands_at_start pool k depth 101 base (given_at 0 end []) scope v (omega (arith, deep)) is within good.parts (let low = good.depth in omega (arith, low)) tt depth_left counts
         (subst (EndsAt (given_at 0 end [])) (sym is_end) (ends_at_start end))
 
     placed : given_at 0 end [] ≡ given_at 0 (option_map (λ (e : ℕ). e - 0) scope.end) []
     placed = ap (λ (z : Option ℕ). given_at 0 z []) (sym (left_at_start end) ∙ ap (option_map (λ (e : ℕ). e - 0)) (sym is_end))
 
 pub took_origin :
-    (pool : Types) (k depth : ℕ) (base : List Record) (end : Option ℕ) (v : Message) (s : State) (held : List ℕ) → s.at ≡ 0 → s.next ≡ step.Tag → s.frames ≡ [] → s.now ≡ message_part k v → s.scope.room ≡ depth → s.scope.end ≡ end
+    (pool : Types) (k depth : ℕ) (base : List Record) (end : Option ℕ) (v : Message) (s : State) (held : List ℕ) → s.at ≡ 0 → s.next ≡ step.Tag → s.frames ≡ [] → s.now ≡ message_part k v → s.scope.depth_left ≡ depth → s.scope.end ≡ end
     → ((n : ℕ) → s.scope.counts n ≡ 0) → held ≡ [] → depth ≤ 100 → k < length pool.messages → IsWellFormed pool k v → v ≡ value pool k base → TookFrom pool (origin k depth base end) s held
-took_origin pool k depth base end v s held at tag none part room is_end counts empty_held deep within good is =
+took_origin pool k depth base end v s held at tag none part depth_left is_end counts empty_held deep within good is =
     subst (λ (z : State). TookFrom pool (origin k depth base end) z held) (sym (state_is s (message_part k v) at tag none part))
-    (subst (TookFrom pool (origin k depth base end) (started (message_part k v) s.scope)) (sym empty_held) (took_started pool k depth base end v s.scope room is_end counts deep within good is))
+    (subst (TookFrom pool (origin k depth base end) (started (message_part k v) s.scope)) (sym empty_held) (took_started pool k depth base end v s.scope depth_left is_end counts deep within good is))
 
 -- onto nothing
 pub begun_empty :
-    {pool : Types} (k room depth : ℕ) (end : Option ℕ) (v : Message) (s : State) (held : List ℕ) → v ≡ empty → room ≡ depth → k < length pool.messages
-    → ((p : Types) (base : List Record) → k < length p.messages → IsWellFormed p k v → v ≡ value p k base → TookFrom p (origin k room base end) s held) → TookFrom pool (origin k depth [] end) s held
+    {pool : Types} (k depth_left depth : ℕ) (end : Option ℕ) (v : Message) (s : State) (held : List ℕ) → v ≡ empty → depth_left ≡ depth → k < length pool.messages
+    → ((p : Types) (base : List Record) → k < length p.messages → IsWellFormed p k v → v ≡ value p k base → TookFrom p (origin k depth_left base end) s held) → TookFrom pool (origin k depth [] end) s held
 unfolding value
-begun_empty {pool} k room depth end v s held none same within begun =
+begun_empty {pool} k depth_left depth end v s held none same within begun =
     subst (λ (d : ℕ). TookFrom pool (origin k d [] end) s held) same
     (begun pool [] within (subst (IsWellFormed pool k) (sym none) (record { parts = (tt, tt, tt, tt); depth = omega arith })) (none ∙ sym (value_of_nothing pool 101 k)))

@@ -12,13 +12,13 @@ use Rattle.pb_wire.proofs.TokenLemmas.{moves_passed}
 use Rattle.pb_schema.specs.Types.{Types}
 use Rattle.pb_schema.specs.Rules.{IsPool}
 use Rattle.pb_schema.specs.Context.{a_message as in_message, schema_of}
-use Rattle.pb_parts.specs.declared.open.purpose.Purpose.{Purpose}
+use Rattle.pb_parts.specs.declared.open.target.Target.{Target}
 use Rattle.pb_parts.specs.declared.tokens.step.Step.{Step}
 use Rattle.pb_parts.specs.declared.tokens.step.Step.TheVariants as step
 use Rattle.pb_parts.specs.Open.Frames.{CanHold, next_step, path_of}
 use Rattle.pb_parts.specs.declared.values.payload_value.PayloadError.{PayloadError}
 use Rattle.pb_parts.specs.declared.values.payload_value.PayloadError.TheVariants as error
-use Rattle.pb_parts.specs.Values.PayloadValue.{IsBytesPurpose, IfBadText}
+use Rattle.pb_parts.specs.Values.PayloadValue.{IsBytesTarget, IfBadText}
 use Rattle.pb_parts.specs.Tokens.After.{After}
 use Rattle.pb_decode.specs.Reader.{State, here, own_step, path_here, Reads, Stops, cut, Told}
 use Rattle.pb_parts.proofs.AfterLemmas.{at_payload}
@@ -27,15 +27,15 @@ use Rattle.pb_parts.proofs.WellLemmas.{can_hold}
 use Rattle.pb_decode.proofs.FewRecords.{counts_fit}
 
 -- the step of a payload's record
-pub payload_path : (s : State) (k : ℕ) (meant : Purpose) (n : ℕ) → s.next ≡ step.Payload k meant n → path_of s.frames ++ next_step k s.scope ∷ [] ≡ path_here s
+pub payload_path : (s : State) (k : ℕ) (meant : Target) (n : ℕ) → s.next ≡ step.Payload k meant n → path_of s.frames ++ next_step k s.scope ∷ [] ≡ path_here s
 payload_path s k meant n is = ap (λ (z : Step). path_of s.frames ++ own_step z s.scope) (sym is)
 
-module _ {pool : Types} {m depth levels : ℕ} {base : List Record} {p0 : Place} (s : State) (rest : List ℕ) (k : ℕ) (meant : Purpose) (n : ℕ) (begun : Reads pool m depth levels base p0 s rest) (is : s.next ≡ step.Payload k meant n) where
+module _ {pool : Types} {m depth levels : ℕ} {base : List Record} {p0 : Place} (s : State) (rest : List ℕ) (k : ℕ) (meant : Target) (n : ℕ) (begun : Reads pool m depth levels base p0 s rest) (is : s.next ≡ step.Payload k meant n) where
   pub payload_next : After pool m depth levels base p0 s.frames (step.Payload k meant n) s.now s.scope (here s rest)
   payload_next = subst (λ (z : Step). After pool m depth levels base p0 s.frames z s.now s.scope (here s rest)) is begun
 
-  pub payload_purpose : IsBytesPurpose meant
-  payload_purpose = (at_payload k meant n payload_next).for_bytes
+  pub payload_target : IsBytesTarget meant
+  payload_target = (at_payload k meant n payload_next).for_bytes
 
   pub payload_can : IsPool pool → CanHold pool s.now
   payload_can ok = can_hold ok s.now (at_payload k meant n payload_next).stands
@@ -58,7 +58,7 @@ module _ {pool : Types} {m depth levels : ℕ} {base : List Record} {p0 : Place}
 
   -- where they are not all here nothing can be taken
   pub payload_short : IsPool pool → length rest < n → Stops pool m depth p0 s rest
-  payload_short ok short = cut (payload_bad (s.at + length rest) Truncated (payload_cut k meant n payload_next (payload_can ok) payload_purpose short))
+  payload_short ok short = cut (payload_bad (s.at + length rest) Truncated (payload_cut k meant n payload_next (payload_can ok) payload_target short))
 
   -- a string that is not UTF-8 is refused at once
   pub payload_refused : (e : PayloadError) (valid : ℕ) → e ≡ error.BadText valid

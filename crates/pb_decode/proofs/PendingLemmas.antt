@@ -43,8 +43,8 @@ use Rattle.pb_decode.proofs.PushLemmas.{top_known}
 
 -- AS MANY STEPS AS FRAMES
 pub path_size :
-    {pool : Types} {m depth levels : ℕ} {base : List Record} {p0 : Place} {frames : List Frame} {now : Part} {o : Open Context} {room inner : ℕ} {path : List PathStep} {p : Place} {earlier : List Record}
-    → Held pool m depth levels base p0 frames now o room inner path p earlier → length path ≡ length frames
+    {pool : Types} {m depth levels : ℕ} {base : List Record} {p0 : Place} {frames : List Frame} {now : Part} {o : Open Context} {depth_left inner : ℕ} {path : List PathStep} {p : Place} {earlier : List Record}
+    → Held pool m depth levels base p0 frames now o depth_left inner path p earlier → length path ≡ length frames
 path_size (at_top v form is_open is_room is_inner is_path is_place is_base goes_on) = ap length is_path
 path_size (inside {frames = frames} {steps = steps} up h begun form can deep completes is_path counts ends goes_on takes) =
     let outer = path_size up in
@@ -54,10 +54,10 @@ path_size (inside {frames = frames} {steps = steps} up h begun form can deep com
 -- WHERE THE BYTES END
 from_stands :
     {pool : Types} {m depth held lists declared : ℕ} {b : List ℕ} {frames : List Frame} {now : Part} {scope : Scope} {q : Place} → (s : Stands pool m depth 101 [] (text_at b) frames now scope q)
-    → Unfinished (schema_of pool) (context_of s.open_now) scope.room q held lists declared → EndsInside (schema_of pool) (in_message m) depth b held (suc (length frames) + lists) declared
+    → Unfinished (schema_of pool) (context_of s.open_now) scope.depth_left q held lists declared → EndsInside (schema_of pool) (in_message m) depth b held (suc (length frames) + lists) declared
 from_stands {lists = lists} {frames = frames} {scope = scope} {q = q} s h = record {
   open_now = s.open_now;
-  room = scope.room;
+  depth_left = scope.depth_left;
   path = s.path;
   begin = s.begin;
   before = s.records_so_far;
@@ -106,7 +106,7 @@ ends_at {pool} ok (step.Length n p) {now = now} {scope = scope} a w =
     let at = at_tag (tag n 2 p) a refl in
     from_stands at.stands
     (in_length at.has
-    (subst (λ (c : Context). IsAllowed scope.room ((schema_of pool).reading c n)) (sym (part_of_context now (context_of at.stands.open_now) at.stands.form)) (reads_allowed pool now n scope.room p at.means at.room_for))
+    (subst (λ (c : Context). IsAllowed scope.depth_left ((schema_of pool).reading c n)) (sym (part_of_context now (context_of at.stands.open_now) at.stands.form)) (reads_allowed pool now n scope.depth_left p at.means at.room_for))
     w refl refl refl)
 ends_at ok (step.Payload n p size) {now = now} a w =
     let at = at_payload n p size a in
@@ -217,12 +217,12 @@ no_entry_inside slot.Entry (entry_part key k x d) (entry_part key2 k2 x2 d2) tak
 no_entry_inside (slot.Unknown n) (entry_part key k x d) (entry_part key2 k2 x2 d2) takes one = absurd takes
 
 few_frames :
-    {pool : Types} {m depth levels : ℕ} {base : List Record} {p0 : Place} {frames : List Frame} {now : Part} {o : Open Context} {room inner : ℕ} {path : List PathStep} {p : Place} {earlier : List Record}
-    → Held pool m depth levels base p0 frames now o room inner path p earlier → length frames + entries now + 2 * room ≤ 2 * depth
+    {pool : Types} {m depth levels : ℕ} {base : List Record} {p0 : Place} {frames : List Frame} {now : Part} {o : Open Context} {depth_left inner : ℕ} {path : List PathStep} {p : Place} {earlier : List Record}
+    → Held pool m depth levels base p0 frames now o depth_left inner path p earlier → length frames + entries now + 2 * depth_left ≤ 2 * depth
 few_frames {m = m} {now = now} (at_top v form is_open is_room is_inner is_path is_place is_base goes_on) = let none = none_at_top now m v form in omega (arith, none, is_room)
 few_frames {pool} {depth = depth} (inside {frame = frame} {frames = frames} {now = now} {o = o} {a = a} {below = below} {q = q} {u = u} up h begun form can deep completes is_path counts ends goes_on takes) = by_begun (few_frames up) begun
   where
-    by_begun : length frames + entries frame.part + 2 * frame.scope.room ≤ 2 * depth → Begun (schema_of pool) a frame.scope.room frame.number q o below u → length (frame ∷ frames) + entries now + 2 * below ≤ 2 * depth
+    by_begun : length frames + entries frame.part + 2 * frame.scope.depth_left ≤ 2 * depth → Begun (schema_of pool) a frame.scope.depth_left frame.number q o below u → length (frame ∷ frames) + entries now + 2 * below ≤ 2 * depth
     by_begun outer (opened.a_message levels tag re l is_open is_place) = let low = one_at_most now in omega (arith, outer, low, levels)
     by_begun outer (opened.a_group levels tag is_open is_place) = let low = one_at_most now in omega (arith, outer, low, levels)
     by_begun outer (opened.a_value {d = d} levels tag re l is_open is_place) =

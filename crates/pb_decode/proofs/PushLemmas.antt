@@ -77,7 +77,7 @@ pub top_known : {pool : Types} {m depth levels : ℕ} {b : List ℕ} {now : Part
 top_known {pool} {m} {depth} {levels} {b} {now} {q = q} s = from_held (length s.behind.front) s.held s.behind.moves.known
   where
     from_held :
-        {o : Open Context} {room inner : ℕ} {path : _} {p : Place} {earlier : List Record} (n : ℕ) → Held pool m depth levels [] (text_at b) [] now o room inner path p earlier
+        {o : Open Context} {depth_left inner : ℕ} {path : _} {p : Place} {earlier : List Record} (n : ℕ) → Held pool m depth levels [] (text_at b) [] now o depth_left inner path p earlier
         → q.known ≡ option_map (λ (e : ℕ). e - n) p.known → q.known ≡ None
     from_held n (at_top v form is_open is_room is_inner is_path is_place is_base goes_on) known = known ∙ ap (λ (z : Place). option_map (λ (e : ℕ). e - n) z.known) is_place
 
@@ -108,12 +108,12 @@ text_there {pool} {m} {limits} b s held size none tag empty h = from_top (is_top
 
 -- TOO MANY BYTES: those within the limit are read first
 pub front_bad :
-    {pool : Types} {m : ℕ} {limits : Bounds} (b piece : List ℕ) (room : ℕ) (f : Fault) → length b + room ≡ limits.bytes → room < length piece → Told pool m limits.depth (longer (text_at b) (take room piece)) f
+    {pool : Types} {m : ℕ} {limits : Bounds} (b piece : List ℕ) (depth_left : ℕ) (f : Fault) → length b + depth_left ≡ limits.bytes → depth_left < length piece → Told pool m limits.depth (longer (text_at b) (take depth_left piece)) f
     → IsSettled pool m limits (b ++ piece) f
-front_bad {pool} {m} {limits} b piece room f is more h = record {
+front_bad {pool} {m} {limits} b piece depth_left f is more h = record {
   fault =
       HasFault.bad_front (let e = length-append b piece in omega (arith, e, is, more))
-      (subst (λ (z : List ℕ). Bad (schema_of pool) (records (in_message m)) limits.depth (text_at z) f) (front_within b piece limits.bytes room is (omega (arith, more))) h.bad) (beyond_settled limits.bytes f h.settled);
+      (subst (λ (z : List ℕ). Bad (schema_of pool) (records (in_message m)) limits.depth (text_at z) f) (front_within b piece limits.bytes depth_left is (omega (arith, more))) h.bad) (beyond_settled limits.bytes f h.settled);
   settled = h.settled;
 }
 
@@ -122,21 +122,21 @@ pub whole_bad :
 whole_bad b piece f size h = record { fault = HasFault.bad (let e = length-append b piece in omega (arith, e, size)) h.bad; settled = h.settled }
 
 pub too_large :
-    {pool : Types} {m : ℕ} {limits : Bounds} (b piece : List ℕ) (room : ℕ) (s : State) (held : List ℕ) → length b + room ≡ limits.bytes → room < length piece
-    → Reads pool m limits.depth 101 [] (longer (text_at b) (take room piece)) s held → Stops pool m limits.depth (longer (text_at b) (take room piece)) s held
+    {pool : Types} {m : ℕ} {limits : Bounds} (b piece : List ℕ) (depth_left : ℕ) (s : State) (held : List ℕ) → length b + depth_left ≡ limits.bytes → depth_left < length piece
+    → Reads pool m limits.depth 101 [] (longer (text_at b) (take depth_left piece)) s held → Stops pool m limits.depth (longer (text_at b) (take depth_left piece)) s held
     → IsSettled pool m limits (b ++ piece) (fault limits.bytes [] InputTooLarge)
-too_large {pool} {m} {limits} b piece room s held is more h (cut bad) = record {
+too_large {pool} {m} {limits} b piece depth_left s held is more h (cut bad) = record {
   fault =
       HasFault.bad_front (let e = length-append b piece in omega (arith, e, is, more))
-      (subst (λ (z : List ℕ). Bad (schema_of pool) (records (in_message m)) limits.depth (text_at z) (fault (s.at + length held) (path_here s) Truncated)) (front_within b piece limits.bytes room is (omega (arith, more))) bad) refl;
+      (subst (λ (z : List ℕ). Bad (schema_of pool) (records (in_message m)) limits.depth (text_at z) (fault (s.at + length held) (path_here s) Truncated)) (front_within b piece limits.bytes depth_left is (omega (arith, more))) bad) refl;
   settled = λ e. absurd (cc);
 }
-too_large {pool} {m} {limits} b piece room s held is more h (over none tag ended) =
-    let size : length (b ++ take room piece) ≤ limits.bytes = (let e = length-append b (take room piece) in let t = length-take-le room piece (omega (arith, more)) in omega (arith, e, t, is)) in
-    let (v, form, text) = text_there (b ++ take room piece) s held size none tag (top_over s held none tag h ended) h in
+too_large {pool} {m} {limits} b piece depth_left s held is more h (over none tag ended) =
+    let size : length (b ++ take depth_left piece) ≤ limits.bytes = (let e = length-append b (take depth_left piece) in let t = length-take-le depth_left piece (omega (arith, more)) in omega (arith, e, t, is)) in
+    let (v, form, text) = text_there (b ++ take depth_left piece) s held size none tag (top_over s held none tag h ended) h in
     record {
       fault =
           HasFault.too_large (let e = length-append b piece in omega (arith, e, is, more))
-          (subst (Whole (schema_of pool) (in_message m) limits.depth) (front_within b piece limits.bytes room is (omega (arith, more))) (text.derives.records, text.derives.spelled, text.derives.sound)) refl;
+          (subst (Whole (schema_of pool) (in_message m) limits.depth) (front_within b piece limits.bytes depth_left is (omega (arith, more))) (text.derives.records, text.derives.spelled, text.derives.sound)) refl;
       settled = λ e. absurd (cc);
     }

@@ -17,7 +17,7 @@ use Rattle.pb_parts.specs.declared.tokens.step.Step.TheVariants as step
 use Rattle.pb_parts.specs.Open.Frames.{Scope, path_of, next_step}
 use Rattle.pb_parts.specs.Tokens.Numbers.{NumberFault}
 use Rattle.pb_parts.specs.Tokens.After.{Tag, tag, awaited, After}
-use Rattle.pb_parts.specs.declared.open.purpose.Purpose.{Purpose}
+use Rattle.pb_parts.specs.declared.open.target.Target.{Target}
 use Rattle.pb_decode.specs.Reader.{State, here, own_step, path_here, Reads, Stops, cut, Taken, Told, StandsAt, IfFault}
 use Rattle.pb_parts.proofs.AfterLemmas.{after_record, number_told}
 use Rattle.pb_parts.proofs.PlaceLemmas.{slice_from}
@@ -53,7 +53,7 @@ passed_here s t size rest at end =
     ∙ ap (λ (z : Option ℕ). record { at = t.at; known = option_map (λ (e : ℕ). e - t.at) z; rest = drop size rest }) (sym end)
 
 -- the tag's number
-ap_number : (t : Tag) (n w : ℕ) (p : Purpose) → Some (tag n w p) ≡ Some t → n ≡ t.number
+ap_number : (t : Tag) (n w : ℕ) (p : Target) → Some (tag n w p) ≡ Some t → n ≡ t.number
 ap_number t n w p is = cc
 
 -- the step of a record whose value or length comes next

@@ -53,14 +53,14 @@ front_short at e f rest o is same h =
     (subst (λ (z : Option (ℕ × ℕ)). IfNone z (VarintFault (given_at at e rest) (fault (input_end (given_at at e rest)) [] Truncated))) is h)
 
 -- WHERE A RECORD BEGINS: the open part inside something else has a known end, or ends by a tag
-begun_known : (pool : Types) {a o : Open Context} {room below k : ℕ} {q u : Place} (c : Context) → Begun (schema_of pool) a room k q o below u → o ≡ records c → u.known ≡ None → ⊥
+begun_known : (pool : Types) {a o : Open Context} {depth_left below k : ℕ} {q u : Place} (c : Context) → Begun (schema_of pool) a depth_left k q o below u → o ≡ records c → u.known ≡ None → ⊥
 begun_known pool c (opened.a_message {n = n} levels has re l is_open is_place) is none = let never : Some n ≡ None = sym (ap (λ (z : Place). z.known) is_place) ∙ none in cc
 begun_known pool c (opened.a_value {n = n} levels has re l is_open is_place) is none = let never : Some n ≡ None = sym (ap (λ (z : Place). z.known) is_place) ∙ none in cc
 begun_known pool c (opened.a_group levels has is_open is_place) is none = let never = sym is_open ∙ is in cc
 
 held_known :
-    {pool : Types} {m depth levels : ℕ} {base : List Record} {p0 : Place} {frame : Frame} {frames : List Frame} {now : Part} {o : Open Context} {room inner : ℕ} {path : List PathStep} {p : Place} {earlier : List Record} (c : Context)
-    → Held pool m depth levels base p0 (frame ∷ frames) now o room inner path p earlier → o ≡ records c → p.known ≡ None → ⊥
+    {pool : Types} {m depth levels : ℕ} {base : List Record} {p0 : Place} {frame : Frame} {frames : List Frame} {now : Part} {o : Open Context} {depth_left inner : ℕ} {path : List PathStep} {p : Place} {earlier : List Record} (c : Context)
+    → Held pool m depth levels base p0 (frame ∷ frames) now o depth_left inner path p earlier → o ≡ records c → p.known ≡ None → ⊥
 held_known {pool} c (inside up h begun form can deep completes is_path counts ends goes_on takes) is none = begun_known pool c begun is none
 
 still_none : (front : ℕ) (e f : Option ℕ) → f ≡ option_map (λ (z : ℕ). z - front) e → f ≡ None → e ≡ None
@@ -74,7 +74,7 @@ begins_inside {pool} {m} {depth} {levels} {base} {p0} {scope} {now} {q} frames s
     by_frames : (c : Context) (fs : List Frame) → frames ≡ fs → s.open_now ≡ records c → q.known ≡ None → ⊥
     by_frames c [] is is_open none = top is none
     by_frames c (f ∷ fs) is is_open none =
-        held_known c (subst (λ (z : List Frame). Held pool m depth levels base p0 z now s.open_now scope.room s.inner s.path s.begin s.earlier) is s.held) is_open (still_none (length s.behind.front) s.begin.known q.known s.behind.moves.known none)
+        held_known c (subst (λ (z : List Frame). Held pool m depth levels base p0 z now s.open_now scope.depth_left s.inner s.path s.begin s.earlier) is s.held) is_open (still_none (length s.behind.front) s.begin.known q.known s.behind.moves.known none)
 
     by_open : (o : Open Context) → s.open_now ≡ o → Begins o q
     by_open (records c) is = (open_end, λ none e. by_frames c frames refl is none)
@@ -95,7 +95,7 @@ refused_at_tag {pool} {m} {depth} {p0} s c tag settled bad = record { bad = subs
 -- THE INPUT ENDS TOO EARLY
 cut_here :
     {pool : Types} {m depth levels : ℕ} {base : List Record} {p0 : Place} (s : State) (rest : List ℕ) → s.next ≡ step.Tag → (h : Stands pool m depth levels base p0 s.frames s.now s.scope (here s rest)) → Begins h.open_now (here s rest)
-    → RecordFault (schema_of pool) h.open_now h.records_so_far s.scope.room (here s rest) (fault (input_end (here s rest)) [] Truncated) → Stops pool m depth p0 s rest
+    → RecordFault (schema_of pool) h.open_now h.records_so_far s.scope.depth_left (here s rest) (fault (input_end (here s rest)) [] Truncated) → Stops pool m depth p0 s rest
 cut_here {pool} {m} {depth} {p0 = p0} s rest tag h goes bad =
     cut (subst (λ (z : Step). Bad (schema_of pool) (records (in_message m)) depth p0 (fault (s.at + length rest) (path_of s.frames ++ own_step z s.scope) Truncated)) (sym tag)
     (told_here (fault (input_end (here s rest)) [] Truncated) h goes bad))

@@ -1,7 +1,7 @@
 -- A reader that stops waits for the rest of what comes next.
 use Rattle.std.proofs.Common.{◌≡◌, ◌≢◌, ◌⊎◌, ℕ, zero, suc, ◌-◌, List, [], take, drop, length, ◌<◌, refl, sym, ◌∙◌, subst, inl, inr, Option, Some, None}
 use Rattle.std.specs.Prelude.{IfNone}
-use Rattle.pb_parts.specs.declared.open.purpose.Purpose.{Purpose}
+use Rattle.pb_parts.specs.declared.open.target.Target.{Target}
 use Rattle.pb_parts.specs.declared.tokens.step.Step.{Step}
 use Rattle.pb_parts.specs.declared.tokens.step.Step.TheVariants as step
 use Rattle.pb_schema.specs.declared.types.Kind.{Kind}
@@ -41,14 +41,14 @@ pub element_waits : (s : State) (rest : List ℕ) (n : ℕ) (k : Kind) (outer : 
 element_waits s rest n k outer is h = subst (λ (z : Step). WaitsAt z s.frames (here s rest)) (sym is) h
 
 -- and a payload
-pub payload_waits : (s : State) (rest : List ℕ) (n : ℕ) (p : Purpose) (size : ℕ) → s.next ≡ step.Payload n p size → length rest < size → Waits s rest
+pub payload_waits : (s : State) (rest : List ℕ) (n : ℕ) (p : Target) (size : ℕ) → s.next ≡ step.Payload n p size → length rest < size → Waits s rest
 payload_waits s rest n p size is h = subst (λ (z : Step). WaitsAt z s.frames (here s rest)) (sym is) h
 
 pub none_waits : (s : State) (n : ℕ) (l : List ℕ) (o : Option ℕ) → o ≡ None → IfNone o (Waits s (take (length l - n) (drop n l))) → Waits s (drop n l)
 none_waits s n l o none h = subst (Waits s) (slice_from n l) (subst (λ (z : Option ℕ). IfNone z (Waits s (take (length l - n) (drop n l)))) none h)
 
 -- a length that is cut
-pub length_waits : (s : State) (rest : List ℕ) (n : ℕ) (p : Purpose) → s.next ≡ step.Length n p → IsCutVarint (here s rest) → Waits s rest
+pub length_waits : (s : State) (rest : List ℕ) (n : ℕ) (p : Target) → s.next ≡ step.Length n p → IsCutVarint (here s rest) → Waits s rest
 length_waits s rest n p is h = subst (λ (z : Step). WaitsAt z s.frames (here s rest)) (sym is) h
 
 -- a tag that is cut

@@ -10,14 +10,14 @@ use Rattle.pb_schema.specs.Rules.{IsPool}
 use Rattle.pb_value.specs.Data.{Message}
 use Rattle.pb_parts.specs.declared.open.part.Slot.{Slot}
 use Rattle.pb_parts.specs.declared.open.part.Slot.TheVariants as slot
-use Rattle.pb_parts.specs.declared.open.purpose.Purpose.TheVariants as purpose
+use Rattle.pb_parts.specs.declared.open.target.Target.TheVariants as target
 use Rattle.pb_parts.specs.declared.tokens.record_tag.RecordTag.{RecordTag}
 use Rattle.pb_parts.specs.declared.tokens.step.Step.{Step}
 use Rattle.pb_parts.specs.declared.tokens.step.Step.TheVariants as step
 use Rattle.pb_parts.specs.Open.Frames.{Part, message_part, entry_part, frame_of, CanHold, up_to, Stands}
-use Rattle.pb_parts.specs.Open.Openings.{taken_message, without_message, room_in}
-use Rattle.pb_parts.specs.Open.Purposes.{Means, part_context}
-use Rattle.pb_parts.specs.Tokens.After.{IsRoomFor, After}
+use Rattle.pb_parts.specs.Open.Openings.{taken_message, without_message, depth_left_in}
+use Rattle.pb_parts.specs.Open.Targets.{Means, part_context}
+use Rattle.pb_parts.specs.Tokens.After.{HasLevelFor, After}
 use Rattle.pb_whole.specs.Reads.{IsOpen}
 use Rattle.pb_decode.specs.declared.reader.state.Reader.{Reader}
 use Rattle.pb_decode.specs.Reader.{State, state_view, left_of, here, Reads, StandsAt, IsReading}
@@ -65,7 +65,7 @@ length_here s rest number type used start size is told has =
 pub entry_in_reader :
     {pool : Types} (s : State) (rest : List ℕ) (number tag_size start size : ℕ) (key kd : Kind) → IsPool pool → IsReading pool s rest
     → s.next ≡ step.Tag → HasTag (here s rest) number 2 (passed (here s rest) tag_size) → HasLength (passed (here s rest) tag_size) size (passed (here s rest) start)
-    → Means pool (part_context s.now) number 2 (purpose.Entry key kd) → 0 < s.scope.room → IsOpen pool (entry_part key kd None None) (take (length rest - start) (drop start rest)) size (s.scope.room - 1)
+    → Means pool (part_context s.now) number 2 (target.Entry key kd) → 0 < s.scope.depth_left → IsOpen pool (entry_part key kd None None) (take (length rest - start) (drop start rest)) size (s.scope.depth_left - 1)
 entry_in_reader s rest number tag_size start size key kd ok from tag has l means some = record {
   m = from.m;
   depth = from.depth;
@@ -74,13 +74,13 @@ entry_in_reader s rest number tag_size start size key kd ok from tag has l means
   base = from.base;
   p0 = from.p0;
   frames = frame_of s.now number (slot.Map number) false s.scope ∷ s.frames;
-  stands = entry_begun s.at (left_of s) rest number tag_size start size s.scope.room key kd ok (tag_stands s rest from.reads tag) refl has l means some;
+  stands = entry_begun s.at (left_of s) rest number tag_size start size s.scope.depth_left key kd ok (tag_stands s rest from.reads tag) refl has l means some;
 }
 
 pub message_in_reader :
-    {pool : Types} (s : State) (rest : List ℕ) (number tag_size start size below : ℕ) (j : MessageId) (t : Slot) (outer : Part) (w : Message) → IsPool pool → IsReading pool s rest → below ≡ room_in t s.scope.room
+    {pool : Types} (s : State) (rest : List ℕ) (number tag_size start size below : ℕ) (j : MessageId) (t : Slot) (outer : Part) (w : Message) → IsPool pool → IsReading pool s rest → below ≡ depth_left_in t s.scope.depth_left
     → s.next ≡ step.Tag → HasTag (here s rest) number 2 (passed (here s rest) tag_size) → HasLength (passed (here s rest) tag_size) size (passed (here s rest) start)
-    → Means pool (part_context s.now) number 2 (purpose.Message j t) → IsRoomFor s.scope.room (purpose.Message j t) → outer ≡ without_message t s.now → w ≡ taken_message t s.now
+    → Means pool (part_context s.now) number 2 (target.Message j t) → HasLevelFor s.scope.depth_left (target.Message j t) → outer ≡ without_message t s.now → w ≡ taken_message t s.now
     → IsOpen pool (message_part j.0 w) (take (length rest - start) (drop start rest)) size below
 message_in_reader s rest number tag_size start size below j t outer w ok from is_below tag has l means some is_outer is_taken = record {
   m = from.m;
@@ -90,7 +90,7 @@ message_in_reader s rest number tag_size start size below j t outer w ok from is
   base = from.base;
   p0 = from.p0;
   frames = frame_of outer number t false s.scope ∷ s.frames;
-  stands = message_begun s.at (left_of s) rest number tag_size start size s.scope.room below j t outer w ok (tag_stands s rest from.reads tag) refl is_below has l means some is_outer is_taken;
+  stands = message_begun s.at (left_of s) rest number tag_size start size s.scope.depth_left below j t outer w ok (tag_stands s rest from.reads tag) refl is_below has l means some is_outer is_taken;
 }
 
 -- AFTER IT the reader has read that record

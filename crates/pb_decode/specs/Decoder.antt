@@ -15,7 +15,7 @@ use Rattle.pb_decode.specs.Reader.{State}
 
 -- the scope of a part, with the counts of its records as a list
 pub record OpenScope : Type 0 where
-  pub room : ℕ
+  pub depth_left : ℕ
   pub end : Option ℕ
   pub counts : List (ℕ × ℕ)
 
@@ -45,7 +45,7 @@ pub record Decoder : Type 0 where
   pub reading : Option Reading
 
 abbrev pub scope_of : OpenScope → Scope
-scope_of s = record { room = s.room; end = s.end; counts = counts_view s.counts }
+scope_of s = record { depth_left = s.depth_left; end = s.end; counts = counts_view s.counts }
 
 abbrev pub frame_of : OpenFrame → Frame
 frame_of f = record { part = f.part; number = f.number; slot = f.slot; group = f.group; scope = scope_of f.scope }

@@ -13,7 +13,7 @@ use Rattle.pb_decode.specs.Push.{TookSome}
 use Rattle.pb_decode.specs.Reader.Waiting.{Waits}
 
 abbrev pub open_scope : Scope → decoder.OpenScope
-open_scope s = record { room = s.room; end = s.end; counts = s.occurrences }
+open_scope s = record { depth_left = s.depth_left; end = s.end; counts = s.occurrences }
 
 abbrev pub open_frame : Frame → decoder.OpenFrame
 open_frame f = record { part = part_view f.part; number = f.number; slot = f.slot; group = f.group; scope = open_scope f.scope }

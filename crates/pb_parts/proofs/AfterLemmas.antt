@@ -27,12 +27,12 @@ use Rattle.pb_parts.specs.declared.tokens.step.Step.{Step}
 use Rattle.pb_parts.specs.declared.tokens.step.Step.TheVariants as step
 use Rattle.pb_parts.specs.Open.Frames.{Part, next_step, Frame, path_of, Held, at_top, inside, Stands, Scope}
 use Rattle.pb_parts.specs.Open.Occurrences.{CountsOf}
-use Rattle.pb_parts.specs.declared.open.purpose.Purpose.{Purpose}
+use Rattle.pb_parts.specs.declared.open.target.Target.{Target}
 use Rattle.pb_parts.specs.Tokens.Numbers.{NumberFault, a_varint, eight_bytes, four_bytes}
 use Rattle.pb_parts.specs.Open.Opened.{below}
-use Rattle.pb_parts.specs.Open.Purposes.{Means, part_context}
-use Rattle.pb_parts.specs.Values.PayloadValue.{IsBytesPurpose}
-use Rattle.pb_parts.specs.Tokens.After.{Tag, tag, awaited, IsRoomFor, end_of_part, part_scope, Elements, with_numbers, with_elements, Underway, nothing, a_tag, a_length, some_elements, After}
+use Rattle.pb_parts.specs.Open.Targets.{Means, part_context}
+use Rattle.pb_parts.specs.Values.PayloadValue.{IsBytesTarget}
+use Rattle.pb_parts.specs.Tokens.After.{Tag, tag, awaited, HasLevelFor, end_of_part, part_scope, Elements, with_numbers, with_elements, Underway, nothing, a_tag, a_length, some_elements, After}
 use Rattle.pb_parts.proofs.OpenedLemmas.{begins_at_tag}
 use Rattle.pb_parts.proofs.FrameLemmas.{told, ends_longer, ends_along, stands_longer}
 use Rattle.pb_parts.proofs.PackedNumbers.{elements_next, elements_none, number_of, numbers_next}
@@ -43,7 +43,7 @@ elements_longer : {e : Element} {p u : Place} {front : List ℕ} (more : List �
 elements_longer {front = front} more h = record { whole = h.whole; moves = moves_longer front more h.moves }
 
 underway_longer :
-    {pool : Types} {room : ℕ} {v now : Part} {q u : Place} {next : Step} (more : List ℕ) → Underway pool room v q next now u → Underway pool room v (longer q more) next now (longer u more)
+    {pool : Types} {depth_left : ℕ} {v now : Part} {q u : Place} {next : Step} (more : List ℕ) → Underway pool depth_left v q next now u → Underway pool depth_left v (longer q more) next now (longer u more)
 underway_longer more (nothing is same place) = nothing is same (ap (λ (z : Place). longer z more) place)
 underway_longer more (a_tag t is has means room_for same) = a_tag t is (tag_longer more has) means room_for same
 underway_longer more (a_length is has l means room_for bytes same) = a_length is (tag_longer more has) (length_longer more l) means room_for bytes same
@@ -72,7 +72,7 @@ pub at_record :
     → After pool m depth levels base p0 frames step.Tag now scope u → Stands pool m depth levels base p0 frames now scope u
 at_record {pool} {m} {depth} {levels} {base} {p0} {frames} {scope} {now} {u} a = from_underway a.before a.place a.stands a.begun
   where
-    from_underway : (v : Part) (q : Place) → Stands pool m depth levels base p0 frames v scope q → Underway pool scope.room v q step.Tag now u → Stands pool m depth levels base p0 frames now scope u
+    from_underway : (v : Part) (q : Place) → Stands pool m depth levels base p0 frames v scope q → Underway pool scope.depth_left v q step.Tag now u → Stands pool m depth levels base p0 frames now scope u
     from_underway v q s (nothing at same place) = subst (λ (z : Part). Stands pool m depth levels base p0 frames z scope u) (sym same) (subst (λ (z : Place). Stands pool m depth levels base p0 frames v scope z) (sym place) s)
     from_underway v q s (a_tag t at has means room_for same) = absurd (cc)
     from_underway v q s (a_length at has l means room_for bytes same) = absurd (cc)
@@ -95,7 +95,7 @@ same_scope next t scope is = ap (λ (z : Option ℕ). record scope { end = z }) 
 
 pub after_tag :
     {pool : Types} {m depth levels : ℕ} {base : List Record} {p0 : Place} {frames : List Frame} {scope : Scope} {now : Part} {q u : Place} (next : Step) (t : Tag)
-    → Stands pool m depth levels base p0 frames now scope q → awaited next ≡ Some t → HasTag q t.number t.type u → Means pool (part_context now) t.number t.type t.meant → IsRoomFor scope.room t.meant
+    → Stands pool m depth levels base p0 frames now scope q → awaited next ≡ Some t → HasTag q t.number t.type u → Means pool (part_context now) t.number t.type t.meant → HasLevelFor scope.depth_left t.meant
     → After pool m depth levels base p0 frames next now scope u
 after_tag {pool} {m} {depth} {levels} {base} {p0} {frames} {scope} {now} {q} {u} next t s is has means room_for = record {
   before = now;
@@ -143,7 +143,7 @@ pub record AtTag (pool : Types) (m depth levels : ℕ) (base : List Record) (p0 
   pub stands : Stands pool m depth levels base p0 frames now scope place
   pub has : HasTag place t.number t.type u
   pub means : Means pool (part_context now) t.number t.type t.meant
-  pub room_for : IsRoomFor scope.room t.meant
+  pub room_for : HasLevelFor scope.depth_left t.meant
 
 pub at_tag :
     {pool : Types} {m depth levels : ℕ} {base : List Record} {p0 : Place} {frames : List Frame} {scope : Scope} {next : Step} {now : Part} {u : Place} (t : Tag)
@@ -151,7 +151,7 @@ pub at_tag :
 at_tag {pool} {m} {depth} {levels} {base} {p0} {frames} {scope} {next} {now} {u} t a is =
     from_underway a.before a.place (subst (λ (z : Scope). Stands pool m depth levels base p0 frames a.before z a.place) (same_scope next t scope is) a.stands) a.begun
   where
-    from_underway : (v : Part) (q : Place) → Stands pool m depth levels base p0 frames v scope q → Underway pool scope.room v q next now u → AtTag pool m depth levels base p0 frames now scope t u
+    from_underway : (v : Part) (q : Place) → Stands pool m depth levels base p0 frames v scope q → Underway pool scope.depth_left v q next now u → AtTag pool m depth levels base p0 frames now scope t u
     from_underway v q s (nothing at same place) = absurd (cc)
     from_underway v q s (a_length at has l means room_for bytes same) = absurd (cc)
     from_underway v q s (some_elements at has l means h was same) = absurd (cc)
@@ -162,26 +162,26 @@ at_tag {pool} {m} {depth} {levels} {base} {p0} {frames} {scope} {next} {now} {u}
           stands = subst (λ (z : Part). Stands pool m depth levels base p0 frames z scope q) (sym same) s;
           has = subst (λ (z : Tag). HasTag q z.number z.type u) alike has;
           means = subst (λ (z : Tag). Means pool (part_context now) z.number z.type z.meant) alike (subst (λ (z : Part). Means pool (part_context z) t2.number t2.type t2.meant) (sym same) means);
-          room_for = subst (λ (z : Tag). IsRoomFor scope.room z.meant) alike room_for;
+          room_for = subst (λ (z : Tag). HasLevelFor scope.depth_left z.meant) alike room_for;
         }
 
 -- after the tag and the length of a record in the part
-pub record AtPayload (pool : Types) (m depth levels : ℕ) (base : List Record) (p0 : Place) (frames : List Frame) (now : Part) (scope : Scope) (k : ℕ) (meant : Purpose) (n : ℕ) (u : Place) : Type 0 where
+pub record AtPayload (pool : Types) (m depth levels : ℕ) (base : List Record) (p0 : Place) (frames : List Frame) (now : Part) (scope : Scope) (k : ℕ) (meant : Target) (n : ℕ) (u : Place) : Type 0 where
   pub place : Place
   pub length_at : Place
   pub stands : Stands pool m depth levels base p0 frames now scope place
   pub has : HasTag place k 2 length_at
   pub length_is : HasLength length_at n u
   pub means : Means pool (part_context now) k 2 meant
-  pub room_for : IsRoomFor scope.room meant
-  pub for_bytes : IsBytesPurpose meant
+  pub room_for : HasLevelFor scope.depth_left meant
+  pub for_bytes : IsBytesTarget meant
 
 pub at_payload :
-    {pool : Types} {m depth levels : ℕ} {base : List Record} {p0 : Place} {frames : List Frame} {scope : Scope} {now : Part} {u : Place} (k : ℕ) (meant : Purpose) (n : ℕ)
+    {pool : Types} {m depth levels : ℕ} {base : List Record} {p0 : Place} {frames : List Frame} {scope : Scope} {now : Part} {u : Place} (k : ℕ) (meant : Target) (n : ℕ)
     → After pool m depth levels base p0 frames (step.Payload k meant n) now scope u → AtPayload pool m depth levels base p0 frames now scope k meant n u
 at_payload {pool} {m} {depth} {levels} {base} {p0} {frames} {scope} {now} {u} k meant n a = from_underway a.before a.place a.stands a.begun
   where
-    from_underway : (v : Part) (q : Place) → Stands pool m depth levels base p0 frames v scope q → Underway pool scope.room v q (step.Payload k meant n) now u → AtPayload pool m depth levels base p0 frames now scope k meant n u
+    from_underway : (v : Part) (q : Place) → Stands pool m depth levels base p0 frames v scope q → Underway pool scope.depth_left v q (step.Payload k meant n) now u → AtPayload pool m depth levels base p0 frames now scope k meant n u
     from_underway v q s (nothing at same place) = absurd (cc)
     from_underway v q s (a_tag t at has means room_for same) = absurd (cc)
     from_underway v q s (some_elements at has l means h was same) = absurd (cc)
@@ -196,16 +196,16 @@ at_payload {pool} {m} {depth} {levels} {base} {p0} {frames} {scope} {now} {u} k 
           has = subst (λ (z : ℕ). HasTag q z 2 r) own has;
           length_is = subst (λ (z : ℕ). HasLength r z u) size l;
           means =
-              subst (λ (z : Purpose). Means pool (part_context now) k 2 z) alike
+              subst (λ (z : Target). Means pool (part_context now) k 2 z) alike
               (subst (λ (z : ℕ). Means pool (part_context now) z 2 p) own (subst (λ (z : Part). Means pool (part_context z) k2 2 p) (sym same) means));
-          room_for = subst (IsRoomFor scope.room) alike room_for;
-          for_bytes = subst IsBytesPurpose alike bytes;
+          room_for = subst (HasLevelFor scope.depth_left) alike room_for;
+          for_bytes = subst IsBytesTarget alike bytes;
         }
 
 -- A LENGTH: its payload comes next
 pub after_length :
-    {pool : Types} {m depth levels : ℕ} {base : List Record} {p0 : Place} {frames : List Frame} {scope : Scope} {next : Step} {now : Part} {u t : Place} (k : ℕ) (meant : Purpose) (n : ℕ)
-    → After pool m depth levels base p0 frames next now scope u → awaited next ≡ Some (tag k 2 meant) → IsBytesPurpose meant → HasLength u n t → After pool m depth levels base p0 frames (step.Payload k meant n) now scope t
+    {pool : Types} {m depth levels : ℕ} {base : List Record} {p0 : Place} {frames : List Frame} {scope : Scope} {next : Step} {now : Part} {u t : Place} (k : ℕ) (meant : Target) (n : ℕ)
+    → After pool m depth levels base p0 frames next now scope u → awaited next ≡ Some (tag k 2 meant) → IsBytesTarget meant → HasLength u n t → After pool m depth levels base p0 frames (step.Payload k meant n) now scope t
 after_length {scope = scope} {now = now} k meant n a is bytes l =
     let behind = at_tag (tag k 2 meant) a is in
     record {
@@ -218,8 +218,8 @@ after_length {scope = scope} {now = now} k meant n a is bytes l =
 
 -- THE PATH: the steps of the frames
 pub path_held :
-    {pool : Types} {m depth levels : ℕ} {base : List Record} {p0 : Place} {frames : List Frame} {now : Part} {o : Open Context} {room inner : ℕ} {path : List PathStep} {p : Place} {earlier : List Record}
-    → Held pool m depth levels base p0 frames now o room inner path p earlier → path ≡ path_of frames
+    {pool : Types} {m depth levels : ℕ} {base : List Record} {p0 : Place} {frames : List Frame} {now : Part} {o : Open Context} {depth_left inner : ℕ} {path : List PathStep} {p : Place} {earlier : List Record}
+    → Held pool m depth levels base p0 frames now o depth_left inner path p earlier → path ≡ path_of frames
 path_held (at_top v form is_open is_room is_inner is_path is_place is_base goes_on) = is_path
 path_held (inside {frame = frame} {frames = frames} {rs = rs} up h begun form can deep completes is_path counts ends goes_on takes) =
     is_path ∙ ap (λ (z : List PathStep). z ++ step_into frame.number rs ∷ []) (path_held up) ∙ ap (λ (z : ℕ). path_of frames ++ record { number = frame.number; occurrence = z } ∷ []) (sym (counts frame.number))
@@ -231,14 +231,14 @@ step_here k scope rs counts = ap (λ (z : ℕ). record { number = k; occurrence 
 -- A FAULT OF THE RECORD THAT COMES NEXT is the fault of the whole, below the steps of the frames
 pub told_here :
     {pool : Types} {m depth levels : ℕ} {base : List Record} {p0 : Place} {frames : List Frame} {scope : Scope} {now : Part} {q : Place} (f : Fault)
-    → (s : Stands pool m depth levels base p0 frames now scope q) → Begins s.open_now q → RecordFault (schema_of pool) s.open_now s.records_so_far scope.room q f
+    → (s : Stands pool m depth levels base p0 frames now scope q) → Begins s.open_now q → RecordFault (schema_of pool) s.open_now s.records_so_far scope.depth_left q f
     → Bad (schema_of pool) (records (in_message m)) depth p0 (below (path_of frames) f)
 told_here {pool} {m} {depth} {p0 = p0} f s goes bad = subst (λ (z : List PathStep). Bad (schema_of pool) (records (in_message m)) depth p0 (below z f)) (path_held s.held) (told f s goes bad)
 
 -- and one inside it is below its own step too
 pub told_inside :
     {pool : Types} {m depth levels : ℕ} {base : List Record} {p0 : Place} {frames : List Frame} {scope : Scope} {now : Part} {q u : Place} (k w : ℕ) (g : Fault)
-    → (s : Stands pool m depth levels base p0 frames now scope q) → HasTag q k w u → RecordFault (schema_of pool) s.open_now s.records_so_far scope.room q (in_record (step_into k s.records_so_far) g)
+    → (s : Stands pool m depth levels base p0 frames now scope q) → HasTag q k w u → RecordFault (schema_of pool) s.open_now s.records_so_far scope.depth_left q (in_record (step_into k s.records_so_far) g)
     → Bad (schema_of pool) (records (in_message m)) depth p0 (below (path_of frames) (in_record (next_step k scope) g))
 told_inside {pool} {m} {depth} {p0 = p0} {frames} {scope} k w g s has bad =
     subst (λ (z : PathStep). Bad (schema_of pool) (records (in_message m)) depth p0 (below (path_of frames) (in_record z g))) (step_here k scope s.records_so_far s.counted)
@@ -246,14 +246,14 @@ told_inside {pool} {m} {depth} {p0 = p0} {frames} {scope} k w g s has bad =
 
 -- THE FAULT OF WHAT IS AFTER A TAG is the fault of the whole, below the step of its record
 record_fault :
-    (pool : Types) (o : Open Context) (before : List Record) (room k w : ℕ) {q u : Place} (g : Fault) → HasTag q k w u → NumberFault w u g → RecordFault (schema_of pool) o before room q (in_record (step_into k before) g)
-record_fault pool o before room k w {q} {u} g has (a_varint type bad) = RecordFault.varint (subst (λ (z : ℕ). HasTag q k z u) type has) bad refl
-record_fault pool o before room k w {q} {u} g has (eight_bytes type bad) = RecordFault.fixed64 (subst (λ (z : ℕ). HasTag q k z u) type has) bad refl
-record_fault pool o before room k w {q} {u} g has (four_bytes type bad) = RecordFault.fixed32 (subst (λ (z : ℕ). HasTag q k z u) type has) bad refl
+    (pool : Types) (o : Open Context) (before : List Record) (depth_left k w : ℕ) {q u : Place} (g : Fault) → HasTag q k w u → NumberFault w u g → RecordFault (schema_of pool) o before depth_left q (in_record (step_into k before) g)
+record_fault pool o before depth_left k w {q} {u} g has (a_varint type bad) = RecordFault.varint (subst (λ (z : ℕ). HasTag q k z u) type has) bad refl
+record_fault pool o before depth_left k w {q} {u} g has (eight_bytes type bad) = RecordFault.fixed64 (subst (λ (z : ℕ). HasTag q k z u) type has) bad refl
+record_fault pool o before depth_left k w {q} {u} g has (four_bytes type bad) = RecordFault.fixed32 (subst (λ (z : ℕ). HasTag q k z u) type has) bad refl
 
 pub number_told :
     {pool : Types} {m depth levels : ℕ} {base : List Record} {p0 : Place} {frames : List Frame} {scope : Scope} {next : Step} {now : Part} {u : Place} (t : Tag) (g : Fault)
     → After pool m depth levels base p0 frames next now scope u → awaited next ≡ Some t → NumberFault t.type u g → Bad (schema_of pool) (records (in_message m)) depth p0 (below (path_of frames) (in_record (next_step t.number scope) g))
 number_told {pool} {scope = scope} t g a is bad =
     let behind = at_tag t a is in
-    told_inside t.number t.type g behind.stands behind.has (record_fault pool behind.stands.open_now behind.stands.records_so_far scope.room t.number t.type g behind.has bad)
+    told_inside t.number t.type g behind.stands behind.has (record_fault pool behind.stands.open_now behind.stands.records_so_far scope.depth_left t.number t.type g behind.has bad)

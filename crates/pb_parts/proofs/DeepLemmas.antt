@@ -16,9 +16,9 @@ use Rattle.pb_schema.specs.Kinds.{wire_type_of, message_of_kind}
 use Rattle.pb_schema.specs.Fits.{fits_shape}
 use Rattle.pb_schema.specs.Context.{Context, a_message as in_message, read_singular, read_listed, read_field, read_shaped, schema_of}
 use Rattle.pb_parts.specs.declared.open.part.Slot.TheVariants as slot
-use Rattle.pb_parts.specs.declared.open.purpose.Purpose.{Purpose}
-use Rattle.pb_parts.specs.declared.open.purpose.Purpose.TheVariants as purpose
-use Rattle.pb_parts.specs.Open.Purposes.{OfShape, AtField, Means, part_context}
+use Rattle.pb_parts.specs.declared.open.target.Target.{Target}
+use Rattle.pb_parts.specs.declared.open.target.Target.TheVariants as target
+use Rattle.pb_parts.specs.Open.Targets.{OfShape, AtField, Means, part_context}
 use Rattle.pb_parts.specs.Open.Frames.{Part, message_part, entry_part, group_part, Scope, Frame, path_of, next_step, Stands}
 use Rattle.pb_parts.specs.Tokens.After.{goes_down}
 use Rattle.pb_parts.proofs.NumberSteps.{number_is}
@@ -43,66 +43,66 @@ below_list t j p (kind.Message m) w is e start = (number_is w 2 (never_packed (w
 below_list t j p (kind.Group m) w is e start = absurd (of_group w (never_packed (w == 3) (w == 2) e) start)
 below_list t j p k w is e start = absurd (cc)
 
-below_shape : (t : ℕ) (k : Kind) (s : Shape) (n w : ℕ) (meant : Purpose) → fits_shape s k w ≡ true → OfShape k s n w meant → goes_down meant ≡ true → (w ≡ 3 → ⊥)
+below_shape : (t : ℕ) (k : Kind) (s : Shape) (n w : ℕ) (meant : Target) → fits_shape s k w ≡ true → OfShape k s n w meant → goes_down meant ≡ true → (w ≡ 3 → ⊥)
     → (w ≡ 2) × ((d : Context) × (read_shaped (in_message t) s k ≡ message_reading d))
-below_shape t k (shape.Map key) n w (purpose.Entry key2 k2) e h deep start = (number_is w 2 e, (_, refl))
-below_shape t k (shape.Map key) n w (purpose.One k2 s2) e h deep start = absurd h
-below_shape t k (shape.Map key) n w (purpose.Element k2) e h deep start = absurd h
-below_shape t k (shape.Map key) n w (purpose.Packed k2) e h deep start = absurd h
-below_shape t k (shape.Map key) n w (purpose.Message j s2) e h deep start = absurd h
-below_shape t k (shape.Map key) n w (purpose.Key k2) e h deep start = absurd h
-below_shape t k (shape.Map key) n w (purpose.EntryValue k2) e h deep start = absurd h
-below_shape t k (shape.Map key) n w purpose.Unknown e h deep start = absurd h
-below_shape t k (shape.List p) n w (purpose.Message j (slot.List n2)) e h deep start =
+below_shape t k (shape.Map key) n w (target.Entry key2 k2) e h deep start = (number_is w 2 e, (_, refl))
+below_shape t k (shape.Map key) n w (target.One k2 s2) e h deep start = absurd h
+below_shape t k (shape.Map key) n w (target.Element k2) e h deep start = absurd h
+below_shape t k (shape.Map key) n w (target.Packed k2) e h deep start = absurd h
+below_shape t k (shape.Map key) n w (target.Message j s2) e h deep start = absurd h
+below_shape t k (shape.Map key) n w (target.Key k2) e h deep start = absurd h
+below_shape t k (shape.Map key) n w (target.EntryValue k2) e h deep start = absurd h
+below_shape t k (shape.Map key) n w target.Unknown e h deep start = absurd h
+below_shape t k (shape.List p) n w (target.Message j (slot.List n2)) e h deep start =
     below_list t j.0 p k w h.0 e start
-below_shape t k (shape.List p) n w (purpose.Message j (slot.One s2 n2)) e h deep start = absurd h
-below_shape t k (shape.List p) n w (purpose.Message j (slot.Map n2)) e h deep start = absurd h
-below_shape t k (shape.List p) n w (purpose.Message j slot.Entry) e h deep start = absurd h
-below_shape t k (shape.List p) n w (purpose.Message j (slot.Unknown n2)) e h deep start = absurd h
-below_shape t k (shape.List p) n w (purpose.Entry key2 k2) e h deep start = absurd h
-below_shape t k shape.Implicit n w (purpose.Message j (slot.One s2 n2)) e h deep start =
+below_shape t k (shape.List p) n w (target.Message j (slot.One s2 n2)) e h deep start = absurd h
+below_shape t k (shape.List p) n w (target.Message j (slot.Map n2)) e h deep start = absurd h
+below_shape t k (shape.List p) n w (target.Message j slot.Entry) e h deep start = absurd h
+below_shape t k (shape.List p) n w (target.Message j (slot.Unknown n2)) e h deep start = absurd h
+below_shape t k (shape.List p) n w (target.Entry key2 k2) e h deep start = absurd h
+below_shape t k shape.Implicit n w (target.Message j (slot.One s2 n2)) e h deep start =
     below_single t j.0 k w h.0 e start
-below_shape t k shape.Implicit n w (purpose.Message j (slot.List n2)) e h deep start = absurd h
-below_shape t k shape.Implicit n w (purpose.Message j (slot.Map n2)) e h deep start = absurd h
-below_shape t k shape.Implicit n w (purpose.Message j slot.Entry) e h deep start = absurd h
-below_shape t k shape.Implicit n w (purpose.Message j (slot.Unknown n2)) e h deep start = absurd h
-below_shape t k shape.Implicit n w (purpose.Entry key2 k2) e h deep start = absurd h
-below_shape t k shape.Explicit n w (purpose.Message j (slot.One s2 n2)) e h deep start =
+below_shape t k shape.Implicit n w (target.Message j (slot.List n2)) e h deep start = absurd h
+below_shape t k shape.Implicit n w (target.Message j (slot.Map n2)) e h deep start = absurd h
+below_shape t k shape.Implicit n w (target.Message j slot.Entry) e h deep start = absurd h
+below_shape t k shape.Implicit n w (target.Message j (slot.Unknown n2)) e h deep start = absurd h
+below_shape t k shape.Implicit n w (target.Entry key2 k2) e h deep start = absurd h
+below_shape t k shape.Explicit n w (target.Message j (slot.One s2 n2)) e h deep start =
     below_single t j.0 k w h.0 e start
-below_shape t k shape.Explicit n w (purpose.Message j (slot.List n2)) e h deep start = absurd h
-below_shape t k shape.Explicit n w (purpose.Message j (slot.Map n2)) e h deep start = absurd h
-below_shape t k shape.Explicit n w (purpose.Message j slot.Entry) e h deep start = absurd h
-below_shape t k shape.Explicit n w (purpose.Message j (slot.Unknown n2)) e h deep start = absurd h
-below_shape t k shape.Explicit n w (purpose.Entry key2 k2) e h deep start = absurd h
-below_shape t k (shape.OneofMember o) n w (purpose.Message j (slot.One s2 n2)) e h deep start =
+below_shape t k shape.Explicit n w (target.Message j (slot.List n2)) e h deep start = absurd h
+below_shape t k shape.Explicit n w (target.Message j (slot.Map n2)) e h deep start = absurd h
+below_shape t k shape.Explicit n w (target.Message j slot.Entry) e h deep start = absurd h
+below_shape t k shape.Explicit n w (target.Message j (slot.Unknown n2)) e h deep start = absurd h
+below_shape t k shape.Explicit n w (target.Entry key2 k2) e h deep start = absurd h
+below_shape t k (shape.OneofMember o) n w (target.Message j (slot.One s2 n2)) e h deep start =
     below_single t j.0 k w h.0 e start
-below_shape t k (shape.OneofMember o) n w (purpose.Message j (slot.List n2)) e h deep start = absurd h
-below_shape t k (shape.OneofMember o) n w (purpose.Message j (slot.Map n2)) e h deep start = absurd h
-below_shape t k (shape.OneofMember o) n w (purpose.Message j slot.Entry) e h deep start = absurd h
-below_shape t k (shape.OneofMember o) n w (purpose.Message j (slot.Unknown n2)) e h deep start = absurd h
-below_shape t k (shape.OneofMember o) n w (purpose.Entry key2 k2) e h deep start = absurd h
+below_shape t k (shape.OneofMember o) n w (target.Message j (slot.List n2)) e h deep start = absurd h
+below_shape t k (shape.OneofMember o) n w (target.Message j (slot.Map n2)) e h deep start = absurd h
+below_shape t k (shape.OneofMember o) n w (target.Message j slot.Entry) e h deep start = absurd h
+below_shape t k (shape.OneofMember o) n w (target.Message j (slot.Unknown n2)) e h deep start = absurd h
+below_shape t k (shape.OneofMember o) n w (target.Entry key2 k2) e h deep start = absurd h
 below_shape t k s n w meant e h deep start = absurd (false≢true deep)
 
-below_field : (t : ℕ) (o : Option FieldView) (n w : ℕ) (meant : Purpose) → AtField o n w meant → goes_down meant ≡ true → (w ≡ 3 → ⊥) → (w ≡ 2) × ((d : Context) × (read_field (in_message t) o ≡ message_reading d))
-below_field t None n w meant h deep start = absurd (let no : goes_down purpose.Unknown ≡ true = ap goes_down (sym h) ∙ deep in false≢true no)
-below_field t (Some f) n w (purpose.Message j s) h deep start = below_shape t f.kind f.shape n w (purpose.Message j s) h.0 h.1 deep start
-below_field t (Some f) n w (purpose.Entry key k) h deep start = below_shape t f.kind f.shape n w (purpose.Entry key k) h.0 h.1 deep start
+below_field : (t : ℕ) (o : Option FieldView) (n w : ℕ) (meant : Target) → AtField o n w meant → goes_down meant ≡ true → (w ≡ 3 → ⊥) → (w ≡ 2) × ((d : Context) × (read_field (in_message t) o ≡ message_reading d))
+below_field t None n w meant h deep start = absurd (let no : goes_down target.Unknown ≡ true = ap goes_down (sym h) ∙ deep in false≢true no)
+below_field t (Some f) n w (target.Message j s) h deep start = below_shape t f.kind f.shape n w (target.Message j s) h.0 h.1 deep start
+below_field t (Some f) n w (target.Entry key k) h deep start = below_shape t f.kind f.shape n w (target.Entry key k) h.0 h.1 deep start
 below_field t (Some f) n w meant h deep start = absurd (false≢true deep)
 
-pub reads_below : (pool : Types) (now : Part) (k w : ℕ) (meant : Purpose) → Means pool (part_context now) k w meant → goes_down meant ≡ true → (w ≡ 3 → ⊥) → ReadsBelow pool (part_context now) k w
+pub reads_below : (pool : Types) (now : Part) (k w : ℕ) (meant : Target) → Means pool (part_context now) k w meant → goes_down meant ≡ true → (w ≡ 3 → ⊥) → ReadsBelow pool (part_context now) k w
 reads_below pool (message_part t v) k w meant h deep start = below_field t (field_numbered k (message_fields pool t)) k w meant h deep start
-reads_below pool (entry_part key k2 x d) k w (purpose.Message j (slot.One s2 n2)) h deep start = absurd h
-reads_below pool (entry_part key k2 x d) k w (purpose.Message j (slot.List n2)) h deep start = absurd h
-reads_below pool (entry_part key k2 x d) k w (purpose.Message j (slot.Map n2)) h deep start = absurd h
-reads_below pool (entry_part key k2 x d) k w (purpose.Message j (slot.Unknown n2)) h deep start = absurd h
-reads_below pool (entry_part key k2 x d) k w (purpose.Entry key2 k3) h deep start = absurd h
+reads_below pool (entry_part key k2 x d) k w (target.Message j (slot.One s2 n2)) h deep start = absurd h
+reads_below pool (entry_part key k2 x d) k w (target.Message j (slot.List n2)) h deep start = absurd h
+reads_below pool (entry_part key k2 x d) k w (target.Message j (slot.Map n2)) h deep start = absurd h
+reads_below pool (entry_part key k2 x d) k w (target.Message j (slot.Unknown n2)) h deep start = absurd h
+reads_below pool (entry_part key k2 x d) k w (target.Entry key2 k3) h deep start = absurd h
 reads_below pool (entry_part key k2 x d) k w meant h deep start = absurd (false≢true deep)
-reads_below pool (group_part us) k w meant h deep start = absurd (let no : goes_down purpose.Unknown ≡ true = ap goes_down (sym h) ∙ deep in false≢true no)
+reads_below pool (group_part us) k w meant h deep start = absurd (let no : goes_down target.Unknown ≡ true = ap goes_down (sym h) ∙ deep in false≢true no)
 
 -- NO LEVEL IS LEFT
 pub too_deep_told :
-    {pool : Types} {m depth levels : ℕ} {base : List Record} {p0 : Place} {frames : List Frame} {scope : Scope} {now : Part} {q u : Place} (k w : ℕ) (meant : Purpose)
-    → Stands pool m depth levels base p0 frames now scope q → HasTag q k w u → Means pool (part_context now) k w meant → goes_down meant ≡ true → (w ≡ 3 → ⊥) → scope.room ≡ 0
+    {pool : Types} {m depth levels : ℕ} {base : List Record} {p0 : Place} {frames : List Frame} {scope : Scope} {now : Part} {q u : Place} (k w : ℕ) (meant : Target)
+    → Stands pool m depth levels base p0 frames now scope q → HasTag q k w u → Means pool (part_context now) k w meant → goes_down meant ≡ true → (w ≡ 3 → ⊥) → scope.depth_left ≡ 0
     → Bad (schema_of pool) (records (in_message m)) depth p0 (fault q.at (path_of frames ++ next_step k scope ∷ []) TooDeep)
 too_deep_told {pool} {scope = scope} {now = now} {q = q} {u = u} k w meant s has means deep start none =
     let (two, (d, reads)) = reads_below pool now k w meant means deep start in

@@ -31,7 +31,7 @@ use Rattle.pb_parts.specs.Open.Occurrences.{CountsOf}
 use Rattle.pb_parts.specs.Open.Opened.{Behind, Begun, Opened, below, outside}
 use Rattle.pb_parts.specs.Open.Opened as opened
 use Rattle.pb_parts.specs.Open.Frames.{Part, message_part, entry_part, group_part, put_message, put_group, put_entry, put_child, IsWorth, IsSameForm, IsPartOf, opening_type, open_type, Scope, one_more_in, Frame, EndsAt, up_to, GoesOnFrom, Takes, Held, at_top, inside, Stands}
-use Rattle.pb_parts.specs.Open.Purposes.{part_context}
+use Rattle.pb_parts.specs.Open.Targets.{part_context}
 use Rattle.pb_parts.proofs.StepCounts.{counts_of_none, counts_of_push}
 use Rattle.pb_parts.proofs.OpenedLemmas.{RecordTo, lift, bad_behind, behind_more, behind_nothing, behind_longer, begun_longer, begun_ends, begun_short}
 
@@ -39,15 +39,15 @@ use Rattle.pb_parts.proofs.OpenedLemmas.{RecordTo, lift, bad_behind, behind_more
 
 -- what is held is open
 pub held_opened :
-    {pool : Types} {m depth levels : ℕ} {base : List Record} {p0 : Place} {frames : List Frame} {now : Part} {o : Open Context} {room inner : ℕ} {path : List PathStep} {p : Place} {earlier : List Record}
-    → Held pool m depth levels base p0 frames now o room inner path p earlier → Opened (schema_of pool) (records (in_message m)) depth p0 o room path p
+    {pool : Types} {m depth levels : ℕ} {base : List Record} {p0 : Place} {frames : List Frame} {now : Part} {o : Open Context} {depth_left inner : ℕ} {path : List PathStep} {p : Place} {earlier : List Record}
+    → Held pool m depth levels base p0 frames now o depth_left inner path p earlier → Opened (schema_of pool) (records (in_message m)) depth p0 o depth_left path p
 held_opened (at_top v form is_open is_room is_inner is_path is_place is_base goes_on) = opened.at_top is_open is_room is_path is_place
 held_opened (inside up h begun form can deep completes is_path counts ends goes_on takes) = opened.inner (held_opened up) h begun is_path
 
 -- THE FAULT REPORTED: a record that has a fault at the reader's position gives the fault of the whole, below the numbers of the open records
 pub told :
     {pool : Types} {m depth levels : ℕ} {base : List Record} {p0 : Place} {frames : List Frame} {scope : Scope} {now : Part} {q : Place} (f : Fault)
-    → (s : Stands pool m depth levels base p0 frames now scope q) → Begins s.open_now q → RecordFault (schema_of pool) s.open_now s.records_so_far scope.room q f
+    → (s : Stands pool m depth levels base p0 frames now scope q) → Begins s.open_now q → RecordFault (schema_of pool) s.open_now s.records_so_far scope.depth_left q f
     → Bad (schema_of pool) (records (in_message m)) depth p0 (below s.path f)
 told f s goes bad = lift f (held_opened s.held) (bad_behind s.behind goes bad)
 
@@ -71,20 +71,6 @@ ends_along {p} {q} front (Some e) m (left, is, at) =
     let there = m.at in
     (left - length front, m.known ∙ ap (option_map (λ (e : ℕ). e - length front)) is, omega (arith, enough, there, at))
 
--- and so it was before them
-pub ends_back : {p q : Place} (front : List ℕ) (e : Option ℕ) → Moves p front q → EndsAt q e → EndsAt p e
-ends_back {p} {q} front e m h = by_known p.known refl e h
-  where
-    by_known : (known : Option ℕ) → p.known ≡ known → (e : Option ℕ) → EndsAt q e → EndsAt p e
-    by_known None is None h = is
-    by_known None is (Some e) (left, there, at) = absurd (let no : None ≡ Some left = sym (m.known ∙ ap (option_map (λ (e : ℕ). e - length front)) is) ∙ there in cc)
-    by_known (Some l) is None h = absurd (let no : Some (l - length front) ≡ None = sym (m.known ∙ ap (option_map (λ (e : ℕ). e - length front)) is) ∙ h in cc)
-    by_known (Some l) is (Some e) (left, there, at) =
-        let enough : length front ≤ l = subst (λ (z : Option ℕ). MatchOption z (Unit {0}) (λ (e : ℕ). length front ≤ e)) is m.within in
-        let same : l - length front ≡ left = (let both : Some (l - length front) ≡ Some left = sym (m.known ∙ ap (option_map (λ (e : ℕ). e - length front)) is) ∙ there in cc) in
-        let to = m.at in
-        (l, is, omega (arith, enough, same, to, at))
-
 -- a place is known by its known end
 pub place_up_to : (q : Place) (e : Option ℕ) → EndsAt q e → q ≡ up_to e q
 place_up_to q None h = ap (λ (z : Option ℕ). record q { known = z }) h
@@ -92,8 +78,8 @@ place_up_to q (Some e) (left, is, at) = let same : left ≡ e - q.at = omega (ar
 
 -- MORE BYTES: what is there after some bytes stays, whatever follows
 pub held_longer :
-    {pool : Types} {m depth levels : ℕ} {base : List Record} {p0 : Place} {frames : List Frame} {now : Part} {o : Open Context} {room inner : ℕ} {path : List PathStep} {p : Place} {earlier : List Record} (more : List ℕ)
-    → Held pool m depth levels base p0 frames now o room inner path p earlier → Held pool m depth levels base (longer p0 more) frames now o room inner path (longer p more) earlier
+    {pool : Types} {m depth levels : ℕ} {base : List Record} {p0 : Place} {frames : List Frame} {now : Part} {o : Open Context} {depth_left inner : ℕ} {path : List PathStep} {p : Place} {earlier : List Record} (more : List ℕ)
+    → Held pool m depth levels base p0 frames now o depth_left inner path p earlier → Held pool m depth levels base (longer p0 more) frames now o depth_left inner path (longer p more) earlier
 held_longer more (at_top v form is_open is_room is_inner is_path is_place is_base goes_on) = at_top v form is_open is_room is_inner is_path (ap (λ (z : Place). longer z more) is_place) is_base goes_on
 held_longer more (inside {frame = frame} {q = q} up h begun form can deep completes is_path counts ends goes_on takes) = inside (held_longer more up) (behind_longer more h) (begun_longer more begun) form can deep completes is_path counts (ends_longer q more frame.scope.end ends) goes_on takes
 
@@ -120,8 +106,8 @@ stands_longer {p0 = p0} {scope = scope} {q = q} more more_bytes s = record {
 -- THE START
 pub stands_at_start :
     (pool : Types) (m depth levels : ℕ) (base : List Record) (p0 : Place) (scope : Scope) (v : Message) → depth < levels → v ≡ value_within pool levels m base → m < length pool.messages → IsBody pool m v → message_depth v < levels → AreBytes p0.rest
-    → scope.room ≡ depth → ((k : ℕ) → scope.counts k ≡ 0) → EndsAt p0 scope.end → Stands pool m depth levels base p0 [] (message_part m v) scope p0
-stands_at_start pool m depth levels base p0 scope v deep is within good low bytes room none ends = record {
+    → scope.depth_left ≡ depth → ((k : ℕ) → scope.counts k ≡ 0) → EndsAt p0 scope.end → Stands pool m depth levels base p0 [] (message_part m v) scope p0
+stands_at_start pool m depth levels base p0 scope v deep is within good low bytes depth_left none ends = record {
   open_now = records (in_message m);
   inner = levels;
   path = [];
@@ -129,10 +115,10 @@ stands_at_start pool m depth levels base p0 scope v deep is within good low byte
   earlier = base;
   records_so_far = [];
   held =
-      at_top v refl refl room refl refl refl refl
+      at_top v refl refl depth_left refl refl refl refl
       (subst (λ (z : Message). (m < length pool.messages) × IsBody pool m z × (message_depth z < levels)) is (within, good, low));
   form = refl;
-  deep = subst (λ (z : ℕ). z < levels) (sym room) deep;
+  deep = subst (λ (z : ℕ). z < levels) (sym depth_left) deep;
   behind = behind_nothing p0;
   counted = counts_of_none scope.counts none;
   ends = ends;
@@ -285,8 +271,8 @@ takes_as s p (group_part us) (message_part k w) e h = absurd e
 takes_as s p (group_part us) (entry_part key2 k2 x2 d2) e h = absurd e
 
 pub held_as_well :
-    {pool : Types} {m depth levels : ℕ} {base : List Record} {p0 : Place} {frames : List Frame} {now : Part} {o : Open Context} {room inner : ℕ} {path : List PathStep} {p : Place} {earlier : List Record} (other : Part)
-    → IsSameForm now other → Held pool m depth levels base p0 frames now o room inner path p earlier → Held pool m depth levels base p0 frames other o room inner path p earlier
+    {pool : Types} {m depth levels : ℕ} {base : List Record} {p0 : Place} {frames : List Frame} {now : Part} {o : Open Context} {depth_left inner : ℕ} {path : List PathStep} {p : Place} {earlier : List Record} (other : Part)
+    → IsSameForm now other → Held pool m depth levels base p0 frames now o depth_left inner path p earlier → Held pool m depth levels base p0 frames other o depth_left inner path p earlier
 held_as_well {pool} {m = m} {now = now} {inner = inner} {earlier = earlier} other same (at_top v form is_open is_room is_inner is_path is_place is_base goes_on) =
     at_top v (form_through now other (message_part m v) same form) is_open is_room is_inner is_path is_place is_base (goes_on_as pool inner earlier now other same goes_on)
 held_as_well {pool} {now = now} {inner = inner} {earlier = earlier} other same (inside {frame = frame} up h begun form can deep completes is_path counts ends goes_on takes) =
@@ -295,7 +281,7 @@ held_as_well {pool} {now = now} {inner = inner} {earlier = earlier} other same (
 -- ONE MORE RECORD: a whole sound record after which the part is worth the records with it
 pub one_more :
     {pool : Types} {m depth levels : ℕ} {base : List Record} {p0 : Place} {frames : List Frame} {scope : Scope} {now : Part} {q u : Place} (s : Stands pool m depth levels base p0 frames now scope q) (r : Record) (next : Part)
-    → RecordTo (schema_of pool) (context_of s.open_now) scope.room q r u → IsSameForm now next → IsWorth pool s.inner next ((s.earlier ++ s.records_so_far) ++ r ∷ []) → Stands pool m depth levels base p0 frames next (one_more_in r.number scope) u
+    → RecordTo (schema_of pool) (context_of s.open_now) scope.depth_left q r u → IsSameForm now next → IsWorth pool s.inner next ((s.earlier ++ s.records_so_far) ++ r ∷ []) → Stands pool m depth levels base p0 frames next (one_more_in r.number scope) u
 one_more {pool} {scope = scope} {now = now} s r next h same worth = record {
   open_now = s.open_now;
   inner = s.inner;
@@ -316,8 +302,8 @@ one_more {pool} {scope = scope} {now = now} s r next h same worth = record {
 -- AN OPEN PART IS COMPLETE: with it the outer part is worth one record more, and the reader is in the outer part, after it
 pub closed_stands :
     {pool : Types} {m depth levels : ℕ} {base : List Record} {p0 : Place} {frames : List Frame} {a : Open Context} {outer : ℕ} {steps : List PathStep} {p q w : Place} {rs before : List Record} (frame : Frame)
-    → Held pool m depth levels base p0 frames frame.part a frame.scope.room outer steps p before → Behind (schema_of pool) a frame.scope.room p rs q → IsPartOf frame.part (context_of a) → frame.scope.room < outer
-    → CountsOf frame.scope.counts rs → EndsAt q frame.scope.end → AreBytes p0.rest → (pl : Payload) → RecordTo (schema_of pool) (context_of a) frame.scope.room q (record { number = frame.number; payload = pl }) w
+    → Held pool m depth levels base p0 frames frame.part a frame.scope.depth_left outer steps p before → Behind (schema_of pool) a frame.scope.depth_left p rs q → IsPartOf frame.part (context_of a) → frame.scope.depth_left < outer
+    → CountsOf frame.scope.counts rs → EndsAt q frame.scope.end → AreBytes p0.rest → (pl : Payload) → RecordTo (schema_of pool) (context_of a) frame.scope.depth_left q (record { number = frame.number; payload = pl }) w
     → (next : Part) → IsSameForm frame.part next → IsWorth pool outer next ((before ++ rs) ++ record { number = frame.number; payload = pl } ∷ [])
     → Stands pool m depth levels base p0 frames next (one_more_in frame.number frame.scope) w
 closed_stands {pool} {a = a} {outer = outer} {steps = steps} {p = p} {rs = rs} {before = before} frame up h form deep counts ends bytes pl to next same worth = record {
@@ -339,8 +325,8 @@ closed_stands {pool} {a = a} {outer = outer} {steps = steps} {p = p} {rs = rs} {
 
 -- WHAT ENDS the open part: an end tag ends a group, and a known end a payload
 flag_held :
-    {pool : Types} {m depth levels : ℕ} {base : List Record} {p0 : Place} {frame : Frame} {frames : List Frame} {now : Part} {o : Open Context} {room inner : ℕ} {path : List PathStep} {p : Place} {earlier : List Record}
-    → Held pool m depth levels base p0 (frame ∷ frames) now o room inner path p earlier → opening_type frame.group ≡ open_type o
+    {pool : Types} {m depth levels : ℕ} {base : List Record} {p0 : Place} {frame : Frame} {frames : List Frame} {now : Part} {o : Open Context} {depth_left inner : ℕ} {path : List PathStep} {p : Place} {earlier : List Record}
+    → Held pool m depth levels base p0 (frame ∷ frames) now o depth_left inner path p earlier → opening_type frame.group ≡ open_type o
 flag_held (inside up h begun form can deep completes is_path counts ends goes_on takes) = takes.1
 
 pub payload_open : (o : Open Context) → open_type o ≡ 2 → o ≡ records (context_of o)
@@ -353,14 +339,14 @@ pub is_payload :
 is_payload s none = payload_open s.open_now (sym (flag_held s.held) ∙ ap opening_type none)
 
 -- what a group is open in has the number of the frame
-begun_group : (pool : Types) {a o : Open Context} {room below k : ℕ} {q u : Place} → Begun (schema_of pool) a room k q o below u → open_type o ≡ 3 → o ≡ in_group k (context_of o)
+begun_group : (pool : Types) {a o : Open Context} {depth_left below k : ℕ} {q u : Place} → Begun (schema_of pool) a depth_left k q o below u → open_type o ≡ 3 → o ≡ in_group k (context_of o)
 begun_group pool (opened.a_message levels tag re l is_open is_place) e = absurd (let type = sym (ap open_type is_open) ∙ e in omega (arith, type))
 begun_group pool (opened.a_value levels tag re l is_open is_place) e = absurd (let type = sym (ap open_type is_open) ∙ e in omega (arith, type))
 begun_group pool {k = k} (opened.a_group levels tag is_open is_place) e = is_open ∙ ap (in_group k) (sym (ap context_of is_open))
 
 group_held :
-    {pool : Types} {m depth levels : ℕ} {base : List Record} {p0 : Place} {frame : Frame} {frames : List Frame} {now : Part} {o : Open Context} {room inner : ℕ} {path : List PathStep} {p : Place} {earlier : List Record}
-    → Held pool m depth levels base p0 (frame ∷ frames) now o room inner path p earlier → frame.group ≡ true → o ≡ in_group frame.number (context_of o)
+    {pool : Types} {m depth levels : ℕ} {base : List Record} {p0 : Place} {frame : Frame} {frames : List Frame} {now : Part} {o : Open Context} {depth_left inner : ℕ} {path : List PathStep} {p : Place} {earlier : List Record}
+    → Held pool m depth levels base p0 (frame ∷ frames) now o depth_left inner path p earlier → frame.group ≡ true → o ≡ in_group frame.number (context_of o)
 group_held {pool} (inside up h begun form can deep completes is_path counts ends goes_on takes) some = begun_group pool begun (sym takes.1 ∙ ap opening_type some)
 
 pub is_group :
@@ -382,7 +368,7 @@ ends_at_known_end {pool} {m} {depth} {levels} {base} {p0} {frame} {frames} {scop
         {o : Open Context} {below inner : ℕ} {path : List PathStep} {u : Place} {earlier ss : List Record} → Held pool m depth levels base p0 (frame ∷ frames) now o below inner path u earlier → Behind (schema_of pool) o below u ss v
         → IsWorth pool inner now (earlier ++ ss) → o ≡ records (context_of o) → Stands pool m depth levels base p0 frames there (one_more_in frame.number frame.scope) (up_to frame.scope.end v)
     from_held {inner = inner} {earlier = earlier} {ss = ss} (inside {o = o} {a = a} {below = below} up h begun form can deep completes is_path counts ends goes_on takes) b worth is =
-        let closed = begun_ends a o frame.scope.room below frame.number begun is b end in
+        let closed = begun_ends a o frame.scope.depth_left below frame.number begun is b end in
         let read : records_spelled b.front ≡ ss = records_spelled-AreRecords ss b.front b.spelled (begun_short begun is b) in
         let inside_worth : IsWorth pool inner now (earlier ++ records_inside (len b.front)) = subst (λ (z : List Record). IsWorth pool inner now (earlier ++ z)) (sym read) worth in
         let to = closed.2 in
@@ -419,14 +405,14 @@ entry_is_payload {pool} {key = key} {kd = kd} {x = x} {d = d} s = from_held s.he
         by_context (an_entry l v) g = absurd (cc)
         by_context unknown_group g = absurd (cc)
 
-    from_begun : {a o : Open Context} {room below n : ℕ} {q u : Place} → Begun (schema_of pool) a room n q o below u → context_of o ≡ an_entry key kd → o ≡ records (context_of o)
+    from_begun : {a o : Open Context} {depth_left below n : ℕ} {q u : Place} → Begun (schema_of pool) a depth_left n q o below u → context_of o ≡ an_entry key kd → o ≡ records (context_of o)
     from_begun (opened.a_message levels tag re l is_open is_place) f = is_open ∙ ap (λ (z : Open Context). records (context_of z)) (sym is_open)
     from_begun (opened.a_value levels tag re l is_open is_place) f = is_open ∙ ap (λ (z : Open Context). records (context_of z)) (sym is_open)
     from_begun {a = a} {o = o} {n = n} (opened.a_group levels tag is_open is_place) f = absurd (no_group o (context_of a) n is_open f)
 
     from_held :
-        {m depth levels : ℕ} {base : List Record} {p0 : Place} {frames : List Frame} {o : Open Context} {room inner : ℕ} {path : List PathStep} {p : Place} {earlier : List Record}
-        → Held pool m depth levels base p0 frames (entry_part key kd x d) o room inner path p earlier → context_of o ≡ an_entry key kd → o ≡ records (context_of o)
+        {m depth levels : ℕ} {base : List Record} {p0 : Place} {frames : List Frame} {o : Open Context} {depth_left inner : ℕ} {path : List PathStep} {p : Place} {earlier : List Record}
+        → Held pool m depth levels base p0 frames (entry_part key kd x d) o depth_left inner path p earlier → context_of o ≡ an_entry key kd → o ≡ records (context_of o)
     from_held (at_top v form is_open is_room is_inner is_path is_place is_base goes_on) f = absurd form
     from_held (inside up h begun form can deep completes is_path counts ends goes_on takes) f = from_begun begun f
 

@@ -59,14 +59,14 @@ pub group_is_open :
     (s : Stands pool m depth levels base p0 (frame ∷ frames) (group_part us) scope q) → s.open_now ≡ in_group frame.number unknown_group
 group_is_open {pool} {m} {depth} {levels} {base} {p0} {frame} {frames} {us = us} s = from_held s.held s.form
   where
-    from_begun : {a o : Open Context} {room below : ℕ} {q u : Place} → Begun (schema_of pool) a room frame.number q o below u → context_of o ≡ unknown_group → o ≡ in_group frame.number unknown_group
+    from_begun : {a o : Open Context} {depth_left below : ℕ} {q u : Place} → Begun (schema_of pool) a depth_left frame.number q o below u → context_of o ≡ unknown_group → o ≡ in_group frame.number unknown_group
     from_begun {a = a} (opened.a_message {d = d} levels tag re l is_open is_place) f =
         absurd (subst IsNoGroup (re ∙ ap message_reading (ap context_of (sym is_open) ∙ f)) (field_no_group (context_of a) (field_numbered frame.number (fields_in pool (context_of a)))))
     from_begun {a = a} (opened.a_value {d = d} levels tag re l is_open is_place) f =
         absurd (subst IsNoGroup (re ∙ ap same_level (ap context_of (sym is_open) ∙ f)) (field_no_group (context_of a) (field_numbered frame.number (fields_in pool (context_of a)))))
     from_begun (opened.a_group levels tag is_open is_place) f = is_open ∙ ap (in_group frame.number) (sym (ap context_of is_open) ∙ f)
 
-    from_held : {o : Open Context} {room inner : ℕ} {path : List PathStep} {p : Place} {earlier : List Record} → Held pool m depth levels base p0 (frame ∷ frames) (group_part us) o room inner path p earlier
+    from_held : {o : Open Context} {depth_left inner : ℕ} {path : List PathStep} {p : Place} {earlier : List Record} → Held pool m depth levels base p0 (frame ∷ frames) (group_part us) o depth_left inner path p earlier
         → context_of o ≡ unknown_group → o ≡ in_group frame.number unknown_group
     from_held (inside up h begun form can deep completes is_path counts ends goes_on takes) f = from_begun begun f
 

@@ -22,11 +22,11 @@ use Rattle.pb_value.proofs.OneofLemmas.{pool_differ}
 use Rattle.pb_value.proofs.StepLemmas.{filter-fails, self_equal}
 use Rattle.pb_value.proofs.MessageSteps.{message_unknown}
 use Rattle.pb_parts.specs.declared.open.part.Slot.TheVariants as slot
-use Rattle.pb_parts.specs.declared.open.purpose.Purpose.{Purpose}
-use Rattle.pb_parts.specs.declared.open.purpose.Purpose.TheVariants as purpose
+use Rattle.pb_parts.specs.declared.open.target.Target.{Target}
+use Rattle.pb_parts.specs.declared.open.target.Target.TheVariants as target
 use Rattle.pb_parts.specs.Open.Opened as opened
 use Rattle.pb_parts.specs.Values.Put.{put_record}
-use Rattle.pb_parts.specs.Open.Purposes.{OfShape, AtField, IsNoMessage, Means, part_context}
+use Rattle.pb_parts.specs.Open.Targets.{OfShape, AtField, IsNoMessage, Means, part_context}
 use Rattle.pb_parts.specs.Open.Frames.{Part, message_part, entry_part, group_part, put_group, CanHold, IsWorth, Frame, Completes, inside, Scope, next_step, path_of, EndsAt, Stands, Takes}
 use Rattle.pb_parts.proofs.StepCounts.{counts_of_none}
 use Rattle.pb_parts.proofs.OpenedLemmas.{behind_nothing}
@@ -51,25 +51,25 @@ unfit_shape shape.Implicit k e = unfit_kind k e
 unfit_shape shape.Explicit k e = unfit_kind k e
 unfit_shape (shape.OneofMember o) k e = unfit_kind k e
 
-unfit_field : (o : Option FieldView) (k : ℕ) → AtField o k 3 purpose.Unknown → group_of_field o ≡ unknown_group
+unfit_field : (o : Option FieldView) (k : ℕ) → AtField o k 3 target.Unknown → group_of_field o ≡ unknown_group
 unfit_field None k h = refl
 unfit_field (Some f) k h = unfit_shape f.shape f.kind h
 
-pub group_unknown : (pool : Types) (now : Part) (k : ℕ) → Means pool (part_context now) k 3 purpose.Unknown → (schema_of pool).group_context (part_context now) k ≡ unknown_group
+pub group_unknown : (pool : Types) (now : Part) (k : ℕ) → Means pool (part_context now) k 3 target.Unknown → (schema_of pool).group_context (part_context now) k ≡ unknown_group
 group_unknown pool (message_part t v) k means = unfit_field (field_numbered k (message_fields pool t)) k means
 group_unknown pool (entry_part key kd x d) k means = refl
 group_unknown pool (group_part us) k means = refl
 
 -- A PART WITH AN UNKNOWN RECORD is worth the records with that record
 unknown_worth :
-    {pool : Types} (ok : IsPool pool) (levels : ℕ) (now : Part) (rs : List Record) (k w : ℕ) (p : Payload) → wire_type p ≡ w → CanHold pool now → 0 < levels → Means pool (part_context now) k w purpose.Unknown
+    {pool : Types} (ok : IsPool pool) (levels : ℕ) (now : Part) (rs : List Record) (k w : ℕ) (p : Payload) → wire_type p ≡ w → CanHold pool now → 0 < levels → Means pool (part_context now) k w target.Unknown
     → IsWorth pool levels now rs → IsWorth pool levels (put_record k p now) (rs ++ record { number = k; payload = p } ∷ [])
 unknown_worth {pool} ok zero now rs k w p type can some means worth = absurd (omega (arith, some))
 unknown_worth {pool} ok (suc l) (message_part t v) rs k w p type can some means worth =
     ap (λ (y : Message). body (fields_of y) (unknown_of y ++ record { number = k; payload = p } ∷ [])) worth
     ∙ sym (message_unknown pool l t (pool_differ pool t ok can.0) rs (record { number = k; payload = p })
-    (unfit_unknown pool t k p ok (subst (λ (z : ℕ). AtField (field_numbered k (message_fields pool t)) k z purpose.Unknown) (sym type) means)).0
-    (unfit_unknown pool t k p ok (subst (λ (z : ℕ). AtField (field_numbered k (message_fields pool t)) k z purpose.Unknown) (sym type) means)).1)
+    (unfit_unknown pool t k p ok (subst (λ (z : ℕ). AtField (field_numbered k (message_fields pool t)) k z target.Unknown) (sym type) means)).0
+    (unfit_unknown pool t k p ok (subst (λ (z : ℕ). AtField (field_numbered k (message_fields pool t)) k z target.Unknown) (sym type) means)).1)
 unknown_worth {pool} ok (suc l) (entry_part key kd x d) rs k w p type can some means worth =
     let r : Record = record { number = k; payload = p } in
     let no_key : fits (key_field key) r ≡ false = not_both k 1 (wire_type p) (wire_type_of key) (λ one e. means.0 one (sym type ∙ e)) in
@@ -106,73 +106,73 @@ key_type k can type = omega (arith, type)
 value_type : (k : Kind) → message_of_kind k ≡ None → 3 ≡ wire_type_of k → ⊥
 value_type k none type = group_kind k (ap (λ (z : ℕ). z == wire_type_of k) type ∙ self_equal (wire_type_of k)) none
 
-no_group_shape : (s : Shape) (k : Kind) (n : ℕ) (meant : Purpose) → fits_shape s k 3 ≡ true → OfShape k s n 3 meant → IsNoMessage meant → meant ≡ purpose.Unknown
-no_group_shape s k n (purpose.Message j t) fit h never = absurd never
-no_group_shape s k n purpose.Unknown fit h never = refl
-no_group_shape (shape.Map key) k n (purpose.Entry k2 k3) fit h never = absurd (false≢true fit)
-no_group_shape (shape.Map key) k n (purpose.One k2 t) fit h never = absurd h
-no_group_shape (shape.Map key) k n (purpose.Element k2) fit h never = absurd h
-no_group_shape (shape.Map key) k n (purpose.Packed k2) fit h never = absurd h
-no_group_shape (shape.Map key) k n (purpose.Key k2) fit h never = absurd h
-no_group_shape (shape.Map key) k n (purpose.EntryValue k2) fit h never = absurd h
-no_group_shape (shape.List p) k n (purpose.Element k2) fit h never = absurd (value_type k h.1 h.2)
-no_group_shape (shape.List p) k n (purpose.Packed k2) fit h never = absurd (let two = h.3 in omega (arith, two))
-no_group_shape (shape.List p) k n (purpose.One k2 t) fit h never = absurd h
-no_group_shape (shape.List p) k n (purpose.Entry k2 k3) fit h never = absurd h
-no_group_shape (shape.List p) k n (purpose.Key k2) fit h never = absurd h
-no_group_shape (shape.List p) k n (purpose.EntryValue k2) fit h never = absurd h
-no_group_shape shape.Implicit k n (purpose.One k2 t) fit h never = absurd (group_kind k fit h.2)
-no_group_shape shape.Implicit k n (purpose.Element k2) fit h never = absurd h
-no_group_shape shape.Implicit k n (purpose.Packed k2) fit h never = absurd h
-no_group_shape shape.Implicit k n (purpose.Entry k2 k3) fit h never = absurd h
-no_group_shape shape.Implicit k n (purpose.Key k2) fit h never = absurd h
-no_group_shape shape.Implicit k n (purpose.EntryValue k2) fit h never = absurd h
-no_group_shape shape.Explicit k n (purpose.One k2 t) fit h never = absurd (group_kind k fit h.2)
-no_group_shape shape.Explicit k n (purpose.Element k2) fit h never = absurd h
-no_group_shape shape.Explicit k n (purpose.Packed k2) fit h never = absurd h
-no_group_shape shape.Explicit k n (purpose.Entry k2 k3) fit h never = absurd h
-no_group_shape shape.Explicit k n (purpose.Key k2) fit h never = absurd h
-no_group_shape shape.Explicit k n (purpose.EntryValue k2) fit h never = absurd h
-no_group_shape (shape.OneofMember o) k n (purpose.One k2 t) fit h never = absurd (group_kind k fit h.2)
-no_group_shape (shape.OneofMember o) k n (purpose.Element k2) fit h never = absurd h
-no_group_shape (shape.OneofMember o) k n (purpose.Packed k2) fit h never = absurd h
-no_group_shape (shape.OneofMember o) k n (purpose.Entry k2 k3) fit h never = absurd h
-no_group_shape (shape.OneofMember o) k n (purpose.Key k2) fit h never = absurd h
-no_group_shape (shape.OneofMember o) k n (purpose.EntryValue k2) fit h never = absurd h
+no_group_shape : (s : Shape) (k : Kind) (n : ℕ) (meant : Target) → fits_shape s k 3 ≡ true → OfShape k s n 3 meant → IsNoMessage meant → meant ≡ target.Unknown
+no_group_shape s k n (target.Message j t) fit h never = absurd never
+no_group_shape s k n target.Unknown fit h never = refl
+no_group_shape (shape.Map key) k n (target.Entry k2 k3) fit h never = absurd (false≢true fit)
+no_group_shape (shape.Map key) k n (target.One k2 t) fit h never = absurd h
+no_group_shape (shape.Map key) k n (target.Element k2) fit h never = absurd h
+no_group_shape (shape.Map key) k n (target.Packed k2) fit h never = absurd h
+no_group_shape (shape.Map key) k n (target.Key k2) fit h never = absurd h
+no_group_shape (shape.Map key) k n (target.EntryValue k2) fit h never = absurd h
+no_group_shape (shape.List p) k n (target.Element k2) fit h never = absurd (value_type k h.1 h.2)
+no_group_shape (shape.List p) k n (target.Packed k2) fit h never = absurd (let two = h.3 in omega (arith, two))
+no_group_shape (shape.List p) k n (target.One k2 t) fit h never = absurd h
+no_group_shape (shape.List p) k n (target.Entry k2 k3) fit h never = absurd h
+no_group_shape (shape.List p) k n (target.Key k2) fit h never = absurd h
+no_group_shape (shape.List p) k n (target.EntryValue k2) fit h never = absurd h
+no_group_shape shape.Implicit k n (target.One k2 t) fit h never = absurd (group_kind k fit h.2)
+no_group_shape shape.Implicit k n (target.Element k2) fit h never = absurd h
+no_group_shape shape.Implicit k n (target.Packed k2) fit h never = absurd h
+no_group_shape shape.Implicit k n (target.Entry k2 k3) fit h never = absurd h
+no_group_shape shape.Implicit k n (target.Key k2) fit h never = absurd h
+no_group_shape shape.Implicit k n (target.EntryValue k2) fit h never = absurd h
+no_group_shape shape.Explicit k n (target.One k2 t) fit h never = absurd (group_kind k fit h.2)
+no_group_shape shape.Explicit k n (target.Element k2) fit h never = absurd h
+no_group_shape shape.Explicit k n (target.Packed k2) fit h never = absurd h
+no_group_shape shape.Explicit k n (target.Entry k2 k3) fit h never = absurd h
+no_group_shape shape.Explicit k n (target.Key k2) fit h never = absurd h
+no_group_shape shape.Explicit k n (target.EntryValue k2) fit h never = absurd h
+no_group_shape (shape.OneofMember o) k n (target.One k2 t) fit h never = absurd (group_kind k fit h.2)
+no_group_shape (shape.OneofMember o) k n (target.Element k2) fit h never = absurd h
+no_group_shape (shape.OneofMember o) k n (target.Packed k2) fit h never = absurd h
+no_group_shape (shape.OneofMember o) k n (target.Entry k2 k3) fit h never = absurd h
+no_group_shape (shape.OneofMember o) k n (target.Key k2) fit h never = absurd h
+no_group_shape (shape.OneofMember o) k n (target.EntryValue k2) fit h never = absurd h
 
-no_group_field : (o : Option FieldView) (n : ℕ) (meant : Purpose) → AtField o n 3 meant → IsNoMessage meant → meant ≡ purpose.Unknown
+no_group_field : (o : Option FieldView) (n : ℕ) (meant : Target) → AtField o n 3 meant → IsNoMessage meant → meant ≡ target.Unknown
 no_group_field None n meant h never = h
-no_group_field (Some f) n purpose.Unknown h never = refl
-no_group_field (Some f) n (purpose.Message j t) h never = absurd never
-no_group_field (Some f) n (purpose.One k2 t) h never = no_group_shape f.shape f.kind n (purpose.One k2 t) h.0 h.1 never
-no_group_field (Some f) n (purpose.Element k2) h never = no_group_shape f.shape f.kind n (purpose.Element k2) h.0 h.1 never
-no_group_field (Some f) n (purpose.Packed k2) h never = no_group_shape f.shape f.kind n (purpose.Packed k2) h.0 h.1 never
-no_group_field (Some f) n (purpose.Entry k2 k3) h never = no_group_shape f.shape f.kind n (purpose.Entry k2 k3) h.0 h.1 never
-no_group_field (Some f) n (purpose.Key k2) h never = no_group_shape f.shape f.kind n (purpose.Key k2) h.0 h.1 never
-no_group_field (Some f) n (purpose.EntryValue k2) h never = no_group_shape f.shape f.kind n (purpose.EntryValue k2) h.0 h.1 never
+no_group_field (Some f) n target.Unknown h never = refl
+no_group_field (Some f) n (target.Message j t) h never = absurd never
+no_group_field (Some f) n (target.One k2 t) h never = no_group_shape f.shape f.kind n (target.One k2 t) h.0 h.1 never
+no_group_field (Some f) n (target.Element k2) h never = no_group_shape f.shape f.kind n (target.Element k2) h.0 h.1 never
+no_group_field (Some f) n (target.Packed k2) h never = no_group_shape f.shape f.kind n (target.Packed k2) h.0 h.1 never
+no_group_field (Some f) n (target.Entry k2 k3) h never = no_group_shape f.shape f.kind n (target.Entry k2 k3) h.0 h.1 never
+no_group_field (Some f) n (target.Key k2) h never = no_group_shape f.shape f.kind n (target.Key k2) h.0 h.1 never
+no_group_field (Some f) n (target.EntryValue k2) h never = no_group_shape f.shape f.kind n (target.EntryValue k2) h.0 h.1 never
 
-pub unknown_group_means : (pool : Types) (now : Part) (n : ℕ) (meant : Purpose) → CanHold pool now → Means pool (part_context now) n 3 meant → IsNoMessage meant → Means pool (part_context now) n 3 purpose.Unknown
+pub unknown_group_means : (pool : Types) (now : Part) (n : ℕ) (meant : Target) → CanHold pool now → Means pool (part_context now) n 3 meant → IsNoMessage meant → Means pool (part_context now) n 3 target.Unknown
 unknown_group_means pool now n meant can means never = subst (Means pool (part_context now) n 3) (is_unknown now can means) means
   where
-    is_unknown : (now : Part) → CanHold pool now → Means pool (part_context now) n 3 meant → meant ≡ purpose.Unknown
+    is_unknown : (now : Part) → CanHold pool now → Means pool (part_context now) n 3 meant → meant ≡ target.Unknown
     is_unknown (message_part t v) can means = no_group_field (field_numbered n (message_fields pool t)) n meant means never
     is_unknown (entry_part key kd x d) can means = of_entry meant means never
       where
-        of_entry : (meant : Purpose) → Means pool (part_context (entry_part key kd x d)) n 3 meant → IsNoMessage meant → meant ≡ purpose.Unknown
-        of_entry (purpose.Key k2) h never = absurd (key_type key can h.2)
-        of_entry (purpose.EntryValue k2) h never = absurd (value_type kd h.3 h.2)
-        of_entry purpose.Unknown h never = refl
-        of_entry (purpose.Message j t) h never = absurd never
-        of_entry (purpose.One k2 t) h never = absurd h
-        of_entry (purpose.Element k2) h never = absurd h
-        of_entry (purpose.Packed k2) h never = absurd h
-        of_entry (purpose.Entry k2 k3) h never = absurd h
+        of_entry : (meant : Target) → Means pool (part_context (entry_part key kd x d)) n 3 meant → IsNoMessage meant → meant ≡ target.Unknown
+        of_entry (target.Key k2) h never = absurd (key_type key can h.2)
+        of_entry (target.EntryValue k2) h never = absurd (value_type kd h.3 h.2)
+        of_entry target.Unknown h never = refl
+        of_entry (target.Message j t) h never = absurd never
+        of_entry (target.One k2 t) h never = absurd h
+        of_entry (target.Element k2) h never = absurd h
+        of_entry (target.Packed k2) h never = absurd h
+        of_entry (target.Entry k2 k3) h never = absurd h
     is_unknown (group_part us) can means = means
 
 -- A GROUP IS OPENED
 pub group_opened :
-    {pool : Types} {m depth levels : ℕ} {base : List Record} {p0 : Place} {frames : List Frame} {scope : Scope} {now : Part} {q u : Place} (k : ℕ) (inner : Scope) (content : List Record) → IsPool pool → CanHold pool now → Means pool (part_context now) k 3 purpose.Unknown
-    → Stands pool m depth levels base p0 frames now scope q → 0 < scope.room → HasTag q k 3 u → content ≡ [] → inner.room ≡ scope.room - 1 → inner.end ≡ scope.end → ((i : ℕ) → inner.counts i ≡ 0)
+    {pool : Types} {m depth levels : ℕ} {base : List Record} {p0 : Place} {frames : List Frame} {scope : Scope} {now : Part} {q u : Place} (k : ℕ) (inner : Scope) (content : List Record) → IsPool pool → CanHold pool now → Means pool (part_context now) k 3 target.Unknown
+    → Stands pool m depth levels base p0 frames now scope q → 0 < scope.depth_left → HasTag q k 3 u → content ≡ [] → inner.depth_left ≡ scope.depth_left - 1 → inner.end ≡ scope.end → ((i : ℕ) → inner.counts i ≡ 0)
     → Stands pool m depth levels base p0 (record { part = now; number = k; slot = slot.Unknown k; group = true; scope = scope } ∷ frames) (group_part content) inner u
 group_opened {pool} {m} {depth} {levels} {base} {p0} {frames} {scope} {now} {q} {u} k inner content ok can means s some tag nothing is_room is_end none = record {
   open_now = in_group k unknown_group;
@@ -191,7 +191,7 @@ group_opened {pool} {m} {depth} {levels} {base} {p0} {frames} {scope} {now} {q} 
   worth = nothing;
 }
   where
-    level : scope.room ≡ suc inner.room
+    level : scope.depth_left ≡ suc inner.depth_left
     level = omega (arith, some, is_room)
 
     completes : Completes pool s.inner s.inner (record { part = now; number = k; slot = slot.Unknown k; group = true; scope = scope }) (s.earlier ++ s.records_so_far) (group_part content) []
@@ -208,6 +208,6 @@ group_opened {pool} {m} {depth} {levels} {base} {p0} {frames} {scope} {now} {q} 
 
 -- NO LEVEL IS LEFT for a group
 pub group_too_deep :
-    {pool : Types} {m depth levels : ℕ} {base : List Record} {p0 : Place} {frames : List Frame} {scope : Scope} {now : Part} {q u : Place} (k : ℕ) → Stands pool m depth levels base p0 frames now scope q → HasTag q k 3 u → scope.room ≡ 0
+    {pool : Types} {m depth levels : ℕ} {base : List Record} {p0 : Place} {frames : List Frame} {scope : Scope} {now : Part} {q u : Place} (k : ℕ) → Stands pool m depth levels base p0 frames now scope q → HasTag q k 3 u → scope.depth_left ≡ 0
     → Bad (schema_of pool) (records (in_message m)) depth p0 (fault q.at (path_of frames ++ next_step k scope ∷ []) TooDeep)
 group_too_deep {q = q} k s tag full = told_inside k 3 (fault q.at [] TooDeep) s tag (RecordFault.group_too_deep tag full refl)

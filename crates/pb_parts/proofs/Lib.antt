@@ -21,9 +21,9 @@ pub mod OpenLemmas
 pub mod PackedLemmas
 -- for an element or an entry that is opened and was not there before
 pub mod OpenMore
--- for what a length or the tag of a group opens, by the purpose of its record
+-- for what a length or the tag of a group opens, by the target of its record
 pub mod OpenSteps
--- for a whole record by its purpose: a scalar, an element, an unknown record; and for the end of a group
+-- for a whole record by its target: a scalar, an element, an unknown record; and for the end of a group
 pub mod StepsOfParts
 -- for a whole record of a map entry, and the message of its value
 pub mod EntrySteps

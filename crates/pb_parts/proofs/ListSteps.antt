@@ -26,14 +26,14 @@ use Rattle.pb_value.proofs.OneofLemmas.{pool_differ}
 use Rattle.pb_value.proofs.StepLemmas.{found_number}
 use Rattle.pb_parts.specs.declared.tokens.number.Number.{Number}
 use Rattle.pb_parts.specs.declared.tokens.number.Number.TheVariants as number
-use Rattle.pb_parts.specs.declared.open.purpose.Purpose.TheVariants as purpose
+use Rattle.pb_parts.specs.declared.open.target.Target.TheVariants as target
 use Rattle.pb_parts.specs.declared.tokens.step.Step.{Step}
 use Rattle.pb_parts.specs.declared.tokens.step.Step.TheVariants as step
 use Rattle.pb_parts.specs.Tokens.Number.{number_view}
 use Rattle.pb_parts.specs.Tokens.Numbers.{Follows}
 use Rattle.pb_parts.specs.Values.Put.{put_datum, put_record}
 use Rattle.pb_parts.specs.Open.Opened.{below}
-use Rattle.pb_parts.specs.Open.Purposes.{OfShape, AtField, Means, part_context}
+use Rattle.pb_parts.specs.Open.Targets.{OfShape, AtField, Means, part_context}
 use Rattle.pb_parts.specs.Open.Frames.{Part, message_part, entry_part, group_part, CanHold, up_to, next_step, Frame, path_of, Stands, Scope, one_more_in}
 use Rattle.pb_parts.specs.Tokens.After.{tag, awaited, Elements, with_elements, Underway, nothing, a_tag, a_length, some_elements, After}
 use Rattle.pb_parts.proofs.PackedLemmas.{elements_more, element_told, list_ends}
@@ -76,12 +76,12 @@ listed_reading c (kind.Message m) can = absurd (false≢true can)
 listed_reading c (kind.Group m) can = absurd (false≢true can)
 
 pub packed_field :
-    (o : Option FieldView) (k w : ℕ) (kd : Kind) → AtField o k w (purpose.Packed kd)
+    (o : Option FieldView) (k w : ℕ) (kd : Kind) → AtField o k w (target.Packed kd)
     → (f : FieldView) × (o ≡ Some f) × (fits_type f w ≡ true) × (f.kind ≡ kd) × ((p : Bool) × (f.shape ≡ shape.List p)) × (message_of_kind kd ≡ None) × IsTrue (is_packable kd)
 packed_field None k w kd h = absurd (cc)
 packed_field (Some f) k w kd (e, h) = by_shape f.shape refl h
   where
-    by_shape : (t : Shape) → f.shape ≡ t → OfShape f.kind t k w (purpose.Packed kd)
+    by_shape : (t : Shape) → f.shape ≡ t → OfShape f.kind t k w (target.Packed kd)
         → (g : FieldView) × (Some f ≡ Some g) × (fits_type g w ≡ true) × (g.kind ≡ kd) × ((p : Bool) × (g.shape ≡ shape.List p)) × (message_of_kind kd ≡ None) × IsTrue (is_packable kd)
     by_shape (shape.Map key) is h = absurd h
     by_shape (shape.List p) is (a, none, can, same) = (f, refl, e, sym a, (p, is), ap message_of_kind a ∙ none, ap is_packable a ∙ can)
@@ -90,7 +90,7 @@ packed_field (Some f) k w kd (e, h) = by_shape f.shape refl h
     by_shape (shape.OneofMember o) is h = absurd h
 
 -- a list is in a message, and its elements have a kind of numbers
-packs : (pool : Types) (now : Part) (k : ℕ) (kd : Kind) → Means pool (part_context now) k 2 (purpose.Packed kd) → ((t : ℕ) × (v : Message) × (now ≡ message_part t v)) × IsTrue (is_packable kd)
+packs : (pool : Types) (now : Part) (k : ℕ) (kd : Kind) → Means pool (part_context now) k 2 (target.Packed kd) → ((t : ℕ) × (v : Message) × (now ≡ message_part t v)) × IsTrue (is_packable kd)
 packs pool (message_part t v) k kd means = let found = packed_field (field_numbered k (message_fields pool t)) k 2 kd means in ((t, v, refl), found.6)
 packs pool (entry_part key k2 x d) k kd means = absurd means
 packs pool (group_part us) k kd means = absurd (cc)
@@ -98,10 +98,10 @@ packs pool (group_part us) k kd means = absurd (cc)
 -- A LENGTH OF A PACKED LIST: its elements come next, up to their known end
 pub list_begins :
     {pool : Types} {m depth levels : ℕ} {base : List Record} {p0 : Place} {frames : List Frame} {scope : Scope} {next : Step} {now : Part} {u t : Place} (k : ℕ) (kd : Kind) (n : ℕ)
-    → After pool m depth levels base p0 frames next now scope u → awaited next ≡ Some (tag k 2 (purpose.Packed kd)) → HasLength u n t
+    → After pool m depth levels base p0 frames next now scope u → awaited next ≡ Some (tag k 2 (target.Packed kd)) → HasLength u n t
     → After pool m depth levels base p0 frames (step.Elements k kd scope.end) now (record scope { end = Some (t.at + n) }) (payload_at t n)
 list_begins {pool} {now = now} {t = t} k kd n a is l =
-    let behind = at_tag (tag k 2 (purpose.Packed kd)) a is in
+    let behind = at_tag (tag k 2 (target.Packed kd)) a is in
     let list = packs pool now k kd behind.means in
     let at = list.0 in
     record {
@@ -126,7 +126,7 @@ pub record AtList (pool : Types) (m depth levels : ℕ) (base : List Record) (p0
   pub stands : Stands pool m depth levels base p0 frames (message_part message_type before) (record scope { end = outer }) place
   pub has : HasTag place k 2 length_at
   pub length_is : HasLength length_at size payload
-  pub means : Means pool (in_message message_type) k 2 (purpose.Packed kd)
+  pub means : Means pool (in_message message_type) k 2 (target.Packed kd)
   pub elements_are : Elements (element_of kd) (payload_at payload size) u front
   pub now_is : now ≡ message_part message_type (with_elements pool k kd front before)
 
@@ -135,7 +135,7 @@ pub at_list :
     → After pool m depth levels base p0 frames (step.Elements k kd outer) now scope u → AtList pool m depth levels base p0 frames now scope k kd outer u
 at_list {pool} {m} {depth} {levels} {base} {p0} {frames} {scope} {now} {u} k kd outer a = from_underway a.before a.place a.stands a.begun
   where
-    from_underway : (v : Part) (q : Place) → Stands pool m depth levels base p0 frames v (record scope { end = outer }) q → Underway pool scope.room v q (step.Elements k kd outer) now u → AtList pool m depth levels base p0 frames now scope k kd outer u
+    from_underway : (v : Part) (q : Place) → Stands pool m depth levels base p0 frames v (record scope { end = outer }) q → Underway pool scope.depth_left v q (step.Elements k kd outer) now u → AtList pool m depth levels base p0 frames now scope k kd outer u
     from_underway v q s (nothing at same place) = absurd (cc)
     from_underway v q s (a_tag t at has means room_for same) = absurd (cc)
     from_underway v q s (a_length at has l means room_for bytes same) = absurd (cc)
@@ -154,8 +154,8 @@ at_list {pool} {m} {depth} {levels} {base} {p0} {frames} {scope} {now} {u} k kd 
           has = subst (λ (z : ℕ). HasTag q z 2 r) own has;
           length_is = l;
           means =
-              subst (λ (z : Kind). Means pool (in_message j) k 2 (purpose.Packed z)) kind_is
-              (subst (λ (z : ℕ). Means pool (in_message j) z 2 (purpose.Packed kd2)) own (subst (λ (z : Part). Means pool (part_context z) k2 2 (purpose.Packed kd2)) was means));
+              subst (λ (z : Kind). Means pool (in_message j) k 2 (target.Packed z)) kind_is
+              (subst (λ (z : ℕ). Means pool (in_message j) z 2 (target.Packed kd2)) own (subst (λ (z : Part). Means pool (part_context z) k2 2 (target.Packed kd2)) was means));
           elements_are = subst (λ (z : Kind). Elements (element_of z) (payload_at t n) u front) kind_is h;
           now_is = same ∙ ap (λ (z : ℕ). message_part j (with_elements pool z kd2 front w)) own ∙ ap (λ (z : Kind). message_part j (with_elements pool k z front w)) kind_is;
         }
@@ -164,7 +164,7 @@ at_list {pool} {m} {depth} {levels} {base} {p0} {frames} {scope} {now} {u} k kd 
 pub list_goes_on :
     {pool : Types} {m depth levels : ℕ} {base : List Record} {p0 : Place} {frames : List Frame} {scope : Scope} {now : Part} {u w : Place} (k : ℕ) (kd : Kind) (outer : Option ℕ) (a : Number) (x : Scalar)
     → After pool m depth levels base p0 frames (step.Elements k kd outer) now scope u → wire_type (number_view a) ≡ wire_type_of kd → read kd (number_view a) ≡ Some x → is_undeclared pool (closed_enum kd) (number_view a) ≡ false
-    → Follows u (number_view a) w → After pool m depth levels base p0 frames (step.Elements k kd outer) (put_datum pool k (purpose.Element kd) now (scalar x)) scope w
+    → Follows u (number_view a) w → After pool m depth levels base p0 frames (step.Elements k kd outer) (put_datum pool k (target.Element kd) now (scalar x)) scope w
 list_goes_on {pool} {m} {depth} {levels} {base} {p0} {frames} {scope} {now} {u} {w} k kd outer a x begun type value declared (first, spelled, moves) =
     let list = at_list k kd outer begun in
     let can = (packs pool (message_part list.message_type list.before) k kd list.means).1 in
@@ -175,7 +175,7 @@ list_goes_on {pool} {m} {depth} {levels} {base} {p0} {frames} {scope} {now} {u} 
       stands = list.stands;
       begun =
           some_elements refl list.has list.length_is list.means (elements_more list.front first list.elements_are one.0 moves) refl
-          (ap (λ (z : Part). put_datum pool k (purpose.Element kd) z (scalar x)) list.now_is
+          (ap (λ (z : Part). put_datum pool k (target.Element kd) z (scalar x)) list.now_is
           ∙ ap (message_part list.message_type) (sym (with_next_element pool k kd list.front first x list.before can list.elements_are.whole one.0 (ap (read kd) one.1 ∙ value) (ap (is_undeclared pool (closed_enum kd)) one.1 ∙ declared))));
       ends = ends_along first scope.end moves begun.ends;
     }
@@ -202,7 +202,7 @@ list_passes {pool} {m} {depth} {levels} {base} {p0} {frames} {scope} {now} {u} {
       ends = ends_along first scope.end moves begun.ends;
     }
 
-pub list_reading : (pool : Types) (c : Context) (t k : ℕ) (kd : Kind) → c ≡ in_message t → Means pool (in_message t) k 2 (purpose.Packed kd) → (schema_of pool).reading c k ≡ packed (element_of kd)
+pub list_reading : (pool : Types) (c : Context) (t k : ℕ) (kd : Kind) → c ≡ in_message t → Means pool (in_message t) k 2 (target.Packed kd) → (schema_of pool).reading c k ≡ packed (element_of kd)
 list_reading pool c t k kd is means =
     let (f, found, e, is_kind, (p, is_shape), none, can) = packed_field (field_numbered k (message_fields pool t)) k 2 kd means in
     ap (λ (z : Context). (schema_of pool).reading z k) is ∙ ap (read_field (in_message t)) found ∙ ap (λ (z : Shape). read_shaped (in_message t) z f.kind) is_shape
@@ -239,7 +239,7 @@ list_told {pool} {m} {depth} {p0 = p0} k kd outer g begun open_end bad =
 pub element_put :
     {pool : Types} {m depth levels : ℕ} {base : List Record} {p0 : Place} {frames : List Frame} {scope : Scope} {now : Part} {u w : Place} (k : ℕ) (kd : Kind) (outer : Option ℕ) (a : Number) (x : Scalar) (put : Part)
     → After pool m depth levels base p0 frames (step.Elements k kd outer) now scope u → wire_type (number_view a) ≡ wire_type_of kd → read kd (number_view a) ≡ Some x → is_undeclared pool (closed_enum kd) (number_view a) ≡ false
-    → Follows u (number_view a) w → put ≡ put_datum pool k (purpose.Element kd) now (scalar x) → After pool m depth levels base p0 frames (step.Elements k kd outer) put scope w
+    → Follows u (number_view a) w → put ≡ put_datum pool k (target.Element kd) now (scalar x) → After pool m depth levels base p0 frames (step.Elements k kd outer) put scope w
 element_put {pool} {m} {depth} {levels} {base} {p0} {frames} {scope} {now} {u} {w} k kd outer a x put begun type value declared follows made =
     subst (λ (z : Part). After pool m depth levels base p0 frames (step.Elements k kd outer) z scope w) (sym made) (list_goes_on k kd outer a x begun type value declared follows)
 

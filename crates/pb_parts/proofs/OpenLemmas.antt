@@ -100,22 +100,22 @@ message_in_pool pool k f j ok found is = named f.kind is (found_field pool k (λ
 
 -- WHAT IS OPENED begins with no records, a level below, and with its own known end
 abbrev pub payload_scope : ℕ → Place → ℕ → (ℕ → ℕ) → Scope
-payload_scope room t n counts = record { room = room; end = Some (t.at + n); counts = counts }
+payload_scope depth_left t n counts = record { depth_left = depth_left; end = Some (t.at + n); counts = counts }
 
 -- After the tag of the record of number n that comes next, and its length where it has one, a message of this type begins, in this scope.
-pub record Opens (pool : Types) (a : Open Context) (room n : ℕ) (q : Place) (j : ℕ) (group : Bool) (inner : Scope) (u : Place) : Type 0 where
+pub record Opens (pool : Types) (a : Open Context) (depth_left n : ℕ) (q : Place) (j : ℕ) (group : Bool) (inner : Scope) (u : Place) : Type 0 where
   pub what : Open Context
-  pub begun : Begun (schema_of pool) a room n q what inner.room u
+  pub begun : Begun (schema_of pool) a depth_left n q what inner.depth_left u
   pub of_type : context_of what ≡ in_message j
   pub typed : opening_type group ≡ open_type what
-  pub level : room ≡ suc inner.room
+  pub level : depth_left ≡ suc inner.depth_left
   pub ends : EndsAt u inner.end
   pub none : (i : ℕ) → inner.counts i ≡ 0
 
 -- by a length
 pub length_opens :
-    (pool : Types) {a : Open Context} {room k n j : ℕ} {q r t : Place} (inner : Scope) → (schema_of pool).reading (context_of a) k ≡ message_reading (in_message j) → HasTag q k 2 r → HasLength r n t → room ≡ suc inner.room
-    → inner.end ≡ Some (t.at + n) → ((i : ℕ) → inner.counts i ≡ 0) → Opens pool a room k q j false inner (payload_at t n)
+    (pool : Types) {a : Open Context} {depth_left k n j : ℕ} {q r t : Place} (inner : Scope) → (schema_of pool).reading (context_of a) k ≡ message_reading (in_message j) → HasTag q k 2 r → HasLength r n t → depth_left ≡ suc inner.depth_left
+    → inner.end ≡ Some (t.at + n) → ((i : ℕ) → inner.counts i ≡ 0) → Opens pool a depth_left k q j false inner (payload_at t n)
 length_opens pool {n = n} {j = j} {t = t} inner reading tag l level end none = record {
   what = records (in_message j);
   begun = opened.a_message level tag reading l refl refl;
@@ -128,8 +128,8 @@ length_opens pool {n = n} {j = j} {t = t} inner reading tag l level end none = r
 
 -- by the first tag of a group
 pub group_opens :
-    (pool : Types) {a : Open Context} {room k j : ℕ} {q u : Place} (inner : Scope) → (schema_of pool).group_context (context_of a) k ≡ in_message j → HasTag q k 3 u → room ≡ suc inner.room → EndsAt u inner.end
-    → ((i : ℕ) → inner.counts i ≡ 0) → Opens pool a room k q j true inner u
+    (pool : Types) {a : Open Context} {depth_left k j : ℕ} {q u : Place} (inner : Scope) → (schema_of pool).group_context (context_of a) k ≡ in_message j → HasTag q k 3 u → depth_left ≡ suc inner.depth_left → EndsAt u inner.end
+    → ((i : ℕ) → inner.counts i ≡ 0) → Opens pool a depth_left k q j true inner u
 group_opens pool {a = a} {k = k} inner context tag level ends none = record {
   what = in_group k ((schema_of pool).group_context (context_of a) k);
   begun = opened.a_group level tag refl refl;
@@ -144,7 +144,7 @@ group_opens pool {a = a} {k = k} inner context tag level ends none = record {
 pub opens_message :
     {pool : Types} {m depth levels : ℕ} {base : List Record} {p0 : Place} {frames : List Frame} {scope : Scope} {q : Place} (k : ℕ) (v : Message) (s : Stands pool m depth levels base p0 frames (message_part k v) scope q)
     → IsPool pool → (f : FieldView) (j : MessageId) (group : Bool) → field_numbered f.number (message_fields pool k) ≡ Some f → message_of_kind f.kind ≡ Some j.0 → IsSingle f.shape → fits_type f (opening_type group) ≡ true
-    → (inner : Scope) (u : Place) → Opens pool s.open_now scope.room f.number q j.0 group inner u
+    → (inner : Scope) (u : Place) → Opens pool s.open_now scope.depth_left f.number q j.0 group inner u
     → Stands pool m depth levels base p0 (record { part = message_part k (with_fields v (drop_field f.number (fields_of v))); number = f.number; slot = slot.One f.shape f.number; group = group; scope = scope } ∷ frames)
     (message_part j.0 (held_message (get_field f.number (fields_of v)))) inner u
 opens_message {pool} {m} {depth} {levels} {base} {p0} {frames} {scope} {q} k v s ok f j group found is single fitted inner u opens = by_level s.inner s.deep s.held s.worth (message_good ok k v s)
@@ -164,10 +164,10 @@ opens_message {pool} {m} {depth} {levels} {base} {p0} {frames} {scope} {q} k v s
     frame : Frame
     frame = record { part = message_part k taken; number = f.number; slot = slot.One f.shape f.number; group = group; scope = scope }
 
-    level : scope.room ≡ suc inner.room
+    level : scope.depth_left ≡ suc inner.depth_left
     level = opens.level
 
-    by_level : (inside_levels : ℕ) → scope.room < inside_levels → Held pool m depth levels base p0 frames (message_part k v) s.open_now scope.room inside_levels s.path s.begin s.earlier → v ≡ value_within pool inside_levels k (s.earlier ++ s.records_so_far)
+    by_level : (inside_levels : ℕ) → scope.depth_left < inside_levels → Held pool m depth levels base p0 frames (message_part k v) s.open_now scope.depth_left inside_levels s.path s.begin s.earlier → v ≡ value_within pool inside_levels k (s.earlier ++ s.records_so_far)
         → IsBody pool k v × (message_depth v < inside_levels)
         → Stands pool m depth levels base p0 (frame ∷ frames) (message_part j.0 (held_message (get_field f.number (fields_of v)))) inner u
     by_level zero h held w good = absurd (omega (arith, h))

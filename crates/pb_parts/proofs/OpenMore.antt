@@ -57,17 +57,17 @@ module _ {pool : Types} {m depth levels : ℕ} {base : List Record} {p0 : Place}
   -- AN ELEMENT OF A LIST OF MESSAGES
   pub opens_listed :
       (f : FieldView) (j : MessageId) (p : Bool) (group : Bool) → field_numbered f.number (message_fields pool k) ≡ Some f → message_of_kind f.kind ≡ Some j.0 → f.shape ≡ shape.List p → fits_type f (opening_type group) ≡ true
-      → (inner : Scope) (u : Place) → Opens pool s.open_now scope.room f.number q j.0 group inner u
+      → (inner : Scope) (u : Place) → Opens pool s.open_now scope.depth_left f.number q j.0 group inner u
       → Stands pool m depth levels base p0 (record { part = message_part k v; number = f.number; slot = slot.List f.number; group = group; scope = scope } ∷ frames) (message_part j.0 empty) inner u
   opens_listed f j p group found is at fitted inner u opens = by_level s.inner s.deep s.held s.worth
     where
       frame : Frame
       frame = record { part = message_part k v; number = f.number; slot = slot.List f.number; group = group; scope = scope }
 
-      level : scope.room ≡ suc inner.room
+      level : scope.depth_left ≡ suc inner.depth_left
       level = opens.level
 
-      by_level : (inside_levels : ℕ) → scope.room < inside_levels → Held pool m depth levels base p0 frames (message_part k v) s.open_now scope.room inside_levels s.path s.begin s.earlier → v ≡ value_within pool inside_levels k (s.earlier ++ s.records_so_far)
+      by_level : (inside_levels : ℕ) → scope.depth_left < inside_levels → Held pool m depth levels base p0 frames (message_part k v) s.open_now scope.depth_left inside_levels s.path s.begin s.earlier → v ≡ value_within pool inside_levels k (s.earlier ++ s.records_so_far)
           → Stands pool m depth levels base p0 (frame ∷ frames) (message_part j.0 empty) inner u
       by_level zero h held w = absurd (omega (arith, h))
       by_level (suc i) h held w = record {
@@ -106,19 +106,19 @@ module _ {pool : Types} {m depth levels : ℕ} {base : List Record} {p0 : Place}
 
   -- AN ENTRY OF A MAP
   pub opens_entry :
-      (r t : Place) (below n : ℕ) (counts : ℕ → ℕ) → scope.room ≡ suc below → ((i : ℕ) → counts i ≡ 0)
+      (r t : Place) (below n : ℕ) (counts : ℕ → ℕ) → scope.depth_left ≡ suc below → ((i : ℕ) → counts i ≡ 0)
       → (f : FieldView) (key : Kind) → field_numbered f.number (message_fields pool k) ≡ Some f → f.shape ≡ shape.Map key → fits_type f 2 ≡ true
       → (schema_of pool).reading (in_message k) f.number ≡ message_reading (an_entry key f.kind) → HasTag q f.number 2 r → HasLength r n t
       → Stands pool m depth levels base p0 (record { part = message_part k v; number = f.number; slot = slot.Map f.number; group = false; scope = scope } ∷ frames) (entry_part key f.kind None None) (payload_scope below t n counts) (payload_at t n)
-  opens_entry r t below n counts room none f key found at two reading tag l = by_level s.inner s.deep s.held s.worth (message_good ok k v s)
+  opens_entry r t below n counts depth_left none f key found at two reading tag l = by_level s.inner s.deep s.held s.worth (message_good ok k v s)
     where
       frame : Frame
       frame = record { part = message_part k v; number = f.number; slot = slot.Map f.number; group = false; scope = scope }
 
-      begun : Begun (schema_of pool) s.open_now scope.room f.number q (records (an_entry key f.kind)) below (payload_at t n)
-      begun = opened.a_message room tag (subst (λ (c : Context). (schema_of pool).reading c f.number ≡ message_reading (an_entry key f.kind)) (sym s.form) reading) l refl refl
+      begun : Begun (schema_of pool) s.open_now scope.depth_left f.number q (records (an_entry key f.kind)) below (payload_at t n)
+      begun = opened.a_message depth_left tag (subst (λ (c : Context). (schema_of pool).reading c f.number ≡ message_reading (an_entry key f.kind)) (sym s.form) reading) l refl refl
 
-      by_level : (inner : ℕ) → scope.room < inner → Held pool m depth levels base p0 frames (message_part k v) s.open_now scope.room inner s.path s.begin s.earlier → v ≡ value_within pool inner k (s.earlier ++ s.records_so_far)
+      by_level : (inner : ℕ) → scope.depth_left < inner → Held pool m depth levels base p0 frames (message_part k v) s.open_now scope.depth_left inner s.path s.begin s.earlier → v ≡ value_within pool inner k (s.earlier ++ s.records_so_far)
           → IsBody pool k v × (message_depth v < inner) → Stands pool m depth levels base p0 (frame ∷ frames) (entry_part key f.kind None None) (payload_scope below t n counts) (payload_at t n)
       by_level zero h held w good = absurd (omega (arith, h))
       by_level (suc i) h held w good = record {
@@ -130,7 +130,7 @@ module _ {pool : Types} {m depth levels : ℕ} {base : List Record} {p0 : Place}
         records_so_far = [];
         held = inside held s.behind begun s.form can h completes refl s.counted s.ends (let rules = found_field pool k (λ g. g.number == f.number) f ok found in (refl, subst HasKeyKind at rules.key, rules.kind, subst (λ (z : Shape). MayBeValue z f.kind) at rules.value)) (keys_good pool k i v f key found at good.0 good.1, refl);
         form = refl;
-        deep = omega (arith, h, room);
+        deep = omega (arith, h, depth_left);
         behind = behind_nothing (payload_at t n);
         counted = counts_of_none counts none;
         ends = (n, refl, refl);

@@ -24,12 +24,12 @@ use Rattle.pb_value.proofs.StepLemmas.{found_number}
 use Rattle.pb_value.proofs.ShapeSteps.{held_message}
 use Rattle.pb_parts.specs.declared.open.part.Slot.{Slot}
 use Rattle.pb_parts.specs.declared.open.part.Slot.TheVariants as slot
-use Rattle.pb_parts.specs.declared.open.purpose.Purpose.TheVariants as purpose
+use Rattle.pb_parts.specs.declared.open.target.Target.TheVariants as target
 use Rattle.pb_parts.specs.declared.tokens.step.Step.{Step}
 use Rattle.pb_parts.specs.Open.Frames.{Part, message_part, entry_part, group_part, opening_type, CanHold, Frame, Scope, EndsAt, Stands}
-use Rattle.pb_parts.specs.Open.Purposes.{OfShape, AtField, Means, part_context}
-use Rattle.pb_parts.specs.Tokens.After.{tag, awaited, IsRoomFor, After}
-use Rattle.pb_parts.specs.Open.Openings.{message_given, message_held, taken_message, without_message, room_in}
+use Rattle.pb_parts.specs.Open.Targets.{OfShape, AtField, Means, part_context}
+use Rattle.pb_parts.specs.Tokens.After.{tag, awaited, HasLevelFor, After}
+use Rattle.pb_parts.specs.Open.Openings.{message_given, message_held, taken_message, without_message, depth_left_in}
 use Rattle.pb_parts.proofs.AfterLemmas.{at_tag}
 use Rattle.pb_parts.proofs.FrameLemmas.{ends_along}
 use Rattle.pb_parts.proofs.WellLemmas.{value_no_proto2}
@@ -50,8 +50,8 @@ given_same (Some (scalar x)) = refl
 given_same (Some (message w)) = refl
 
 -- the level below one that is left
-level_below : (room : ℕ) → 0 < room → room ≡ suc (room - 1)
-level_below room some = omega (arith, some)
+level_below : (depth_left : ℕ) → 0 < depth_left → depth_left ≡ suc (depth_left - 1)
+level_below depth_left some = omega (arith, some)
 
 -- WHAT A RECORD IS FOR THAT OPENS A MESSAGE
 
@@ -67,17 +67,17 @@ record OneMessage (pool : Types) (t k w : ℕ) (j : MessageId) (s : Shape) (n : 
   single : IsSingle field.shape
   fitted : fits_type field w ≡ true
 
-one_message : (pool : Types) (t k w : ℕ) (j : MessageId) (s : Shape) (n : ℕ) → AtField (field_numbered k (message_fields pool t)) k w (purpose.Message j (slot.One s n)) → OneMessage pool t k w j s n
+one_message : (pool : Types) (t k w : ℕ) (j : MessageId) (s : Shape) (n : ℕ) → AtField (field_numbered k (message_fields pool t)) k w (target.Message j (slot.One s n)) → OneMessage pool t k w j s n
 one_message pool t k w j s n h = at_field (field_numbered k (message_fields pool t)) refl h
   where
-    by_shape : (f : FieldView) → field_numbered f.number (message_fields pool t) ≡ Some f → f.number ≡ k → fits_type f w ≡ true → (x : Shape) → f.shape ≡ x → fits_shape x f.kind w ≡ true → OfShape f.kind x k w (purpose.Message j (slot.One s n)) → OneMessage pool t k w j s n
+    by_shape : (f : FieldView) → field_numbered f.number (message_fields pool t) ≡ Some f → f.number ≡ k → fits_type f w ≡ true → (x : Shape) → f.shape ≡ x → fits_shape x f.kind w ≡ true → OfShape f.kind x k w (target.Message j (slot.One s n)) → OneMessage pool t k w j s n
     by_shape f found own fit (shape.Map key) is e h = absurd h
     by_shape f found own fit (shape.List p) is e h = absurd h
     by_shape f found own fit shape.Implicit is e (a, b, c) = record { field = f; found = found; own = own; slot_number = c; kind_is = a; type_is = e; shape_is = b ∙ sym is; single = subst IsSingle (sym is) tt; fitted = fit }
     by_shape f found own fit shape.Explicit is e (a, b, c) = record { field = f; found = found; own = own; slot_number = c; kind_is = a; type_is = e; shape_is = b ∙ sym is; single = subst IsSingle (sym is) tt; fitted = fit }
     by_shape f found own fit (shape.OneofMember o) is e (a, b, c) = record { field = f; found = found; own = own; slot_number = c; kind_is = a; type_is = e; shape_is = b ∙ sym is; single = subst IsSingle (sym is) tt; fitted = fit }
 
-    at_field : (o : Option FieldView) → field_numbered k (message_fields pool t) ≡ o → AtField o k w (purpose.Message j (slot.One s n)) → OneMessage pool t k w j s n
+    at_field : (o : Option FieldView) → field_numbered k (message_fields pool t) ≡ o → AtField o k w (target.Message j (slot.One s n)) → OneMessage pool t k w j s n
     at_field None found h = absurd (cc)
     at_field (Some f) found (e, h) =
         let own : f.number ≡ k = found_number k (message_fields pool t) f found in
@@ -95,17 +95,17 @@ record ListMessage (pool : Types) (t k w : ℕ) (j : MessageId) (n : ℕ) : Type
   type_is : fits_shape (shape.List packed) field.kind w ≡ true
   fitted : fits_type field w ≡ true
 
-list_message : (pool : Types) (t k w : ℕ) (j : MessageId) (n : ℕ) → AtField (field_numbered k (message_fields pool t)) k w (purpose.Message j (slot.List n)) → ListMessage pool t k w j n
+list_message : (pool : Types) (t k w : ℕ) (j : MessageId) (n : ℕ) → AtField (field_numbered k (message_fields pool t)) k w (target.Message j (slot.List n)) → ListMessage pool t k w j n
 list_message pool t k w j n h = at_field (field_numbered k (message_fields pool t)) refl h
   where
-    by_shape : (f : FieldView) → field_numbered f.number (message_fields pool t) ≡ Some f → f.number ≡ k → fits_type f w ≡ true → (x : Shape) → f.shape ≡ x → fits_shape x f.kind w ≡ true → OfShape f.kind x k w (purpose.Message j (slot.List n)) → ListMessage pool t k w j n
+    by_shape : (f : FieldView) → field_numbered f.number (message_fields pool t) ≡ Some f → f.number ≡ k → fits_type f w ≡ true → (x : Shape) → f.shape ≡ x → fits_shape x f.kind w ≡ true → OfShape f.kind x k w (target.Message j (slot.List n)) → ListMessage pool t k w j n
     by_shape f found own fit (shape.Map key) is e h = absurd h
     by_shape f found own fit (shape.List p) is e (a, c) = record { field = f; found = found; own = own; slot_number = c; kind_is = a; packed = p; shape_is = is; type_is = e; fitted = fit }
     by_shape f found own fit shape.Implicit is e h = absurd h
     by_shape f found own fit shape.Explicit is e h = absurd h
     by_shape f found own fit (shape.OneofMember o) is e h = absurd h
 
-    at_field : (o : Option FieldView) → field_numbered k (message_fields pool t) ≡ o → AtField o k w (purpose.Message j (slot.List n)) → ListMessage pool t k w j n
+    at_field : (o : Option FieldView) → field_numbered k (message_fields pool t) ≡ o → AtField o k w (target.Message j (slot.List n)) → ListMessage pool t k w j n
     at_field None found h = absurd (cc)
     at_field (Some f) found (e, h) =
         let own : f.number ≡ k = found_number k (message_fields pool t) f found in
@@ -120,17 +120,17 @@ record MapEntry (pool : Types) (t k : ℕ) (key kd : Kind) : Type 0 where
   shape_is : field.shape ≡ shape.Map key
   fits_length : fits_type field 2 ≡ true
 
-map_entry : (pool : Types) (t k : ℕ) (key kd : Kind) → AtField (field_numbered k (message_fields pool t)) k 2 (purpose.Entry key kd) → MapEntry pool t k key kd
+map_entry : (pool : Types) (t k : ℕ) (key kd : Kind) → AtField (field_numbered k (message_fields pool t)) k 2 (target.Entry key kd) → MapEntry pool t k key kd
 map_entry pool t k key kd h = at_field (field_numbered k (message_fields pool t)) refl h
   where
-    by_shape : (f : FieldView) → field_numbered f.number (message_fields pool t) ≡ Some f → f.number ≡ k → fits_type f 2 ≡ true → (x : Shape) → f.shape ≡ x → OfShape f.kind x k 2 (purpose.Entry key kd) → MapEntry pool t k key kd
+    by_shape : (f : FieldView) → field_numbered f.number (message_fields pool t) ≡ Some f → f.number ≡ k → fits_type f 2 ≡ true → (x : Shape) → f.shape ≡ x → OfShape f.kind x k 2 (target.Entry key kd) → MapEntry pool t k key kd
     by_shape f found own e (shape.Map key2) is (a, b) = record { field = f; found = found; own = own; kind_is = b; shape_is = is ∙ ap shape.Map (sym a); fits_length = e }
     by_shape f found own e (shape.List p) is h = absurd h
     by_shape f found own e shape.Implicit is h = absurd h
     by_shape f found own e shape.Explicit is h = absurd h
     by_shape f found own e (shape.OneofMember o) is h = absurd h
 
-    at_field : (o : Option FieldView) → field_numbered k (message_fields pool t) ≡ o → AtField o k 2 (purpose.Entry key kd) → MapEntry pool t k key kd
+    at_field : (o : Option FieldView) → field_numbered k (message_fields pool t) ≡ o → AtField o k 2 (target.Entry key kd) → MapEntry pool t k key kd
     at_field None found h = absurd (cc)
     at_field (Some f) found (e, h) =
         let own : f.number ≡ k = found_number k (message_fields pool t) f found in
@@ -146,11 +146,11 @@ IsFieldSlot (slot.Map n) = ⊥
 IsFieldSlot slot.Entry = ⊥
 IsFieldSlot (slot.Unknown n) = ⊥
 
-field_slot : (o : Option FieldView) (k w : ℕ) (j : MessageId) (s : Slot) → AtField o k w (purpose.Message j s) → IsFieldSlot s
+field_slot : (o : Option FieldView) (k w : ℕ) (j : MessageId) (s : Slot) → AtField o k w (target.Message j s) → IsFieldSlot s
 field_slot None k w j s h = absurd (cc)
 field_slot (Some f) k w j s (e, h) = by_shape f.shape s h
   where
-    by_shape : (x : Shape) (s : Slot) → OfShape f.kind x k w (purpose.Message j s) → IsFieldSlot s
+    by_shape : (x : Shape) (s : Slot) → OfShape f.kind x k w (target.Message j s) → IsFieldSlot s
     by_shape x (slot.One t n) h = tt
     by_shape x (slot.List n) h = tt
     by_shape (shape.Map key) (slot.Map n) h = h
@@ -184,7 +184,7 @@ group_single (shape.List p) j single = absurd single
 group_single (shape.Map key) j single = absurd single
 
 -- its length is read as that of a message
-means_reading : (pool : Types) (c k : ℕ) (j : MessageId) (s : Slot) → AtField (field_numbered k (message_fields pool c)) k 2 (purpose.Message j s) → (schema_of pool).reading (in_message c) k ≡ message_reading (in_message j.0)
+means_reading : (pool : Types) (c k : ℕ) (j : MessageId) (s : Slot) → AtField (field_numbered k (message_fields pool c)) k 2 (target.Message j s) → (schema_of pool).reading (in_message c) k ≡ message_reading (in_message j.0)
 means_reading pool c k j (slot.One s n) means =
     let at = one_message pool c k 2 j s n means in
     ap (λ (z : ℕ). read_field (in_message c) (field_numbered z (message_fields pool c))) (sym at.own) ∙ ap (read_field (in_message c)) at.found
@@ -198,7 +198,7 @@ means_reading pool c k j slot.Entry means = absurd (field_slot (field_numbered k
 means_reading pool c k j (slot.Unknown n) means = absurd (field_slot (field_numbered k (message_fields pool c)) k 2 j (slot.Unknown n) means)
 
 -- its group has its records
-means_group : (pool : Types) (c k : ℕ) (j : MessageId) (s : Slot) → AtField (field_numbered k (message_fields pool c)) k 3 (purpose.Message j s) → (schema_of pool).group_context (in_message c) k ≡ in_message j.0
+means_group : (pool : Types) (c k : ℕ) (j : MessageId) (s : Slot) → AtField (field_numbered k (message_fields pool c)) k 3 (target.Message j s) → (schema_of pool).group_context (in_message c) k ≡ in_message j.0
 means_group pool c k j (slot.One s n) means =
     let at = one_message pool c k 3 j s n means in
     ap (λ (z : ℕ). group_of_field (field_numbered z (message_fields pool c))) (sym at.own) ∙ ap group_of_field at.found
@@ -220,10 +220,10 @@ IsOpen pool m depth levels base p0 frames scope k j group inner u now left s =
 
 module _ {pool : Types} {m depth levels : ℕ} {base : List Record} {p0 : Place} {frames : List Frame} {scope : Scope} {q : Place} (ok : IsPool pool) (k : ℕ) (j : MessageId) (group : Bool) (inner : Scope) (u : Place) where
   into_field :
-      (c : ℕ) (v : Message) (s : Shape) (number : ℕ) (st : Stands pool m depth levels base p0 frames (message_part c v) scope q) → Opens pool st.open_now scope.room k q j.0 group inner u
+      (c : ℕ) (v : Message) (s : Shape) (number : ℕ) (st : Stands pool m depth levels base p0 frames (message_part c v) scope q) → Opens pool st.open_now scope.depth_left k q j.0 group inner u
       → OneMessage pool c k (opening_type group) j s number → IsOpen pool m depth levels base p0 frames scope k j group inner u (message_part c v) (without_message (slot.One s number) (message_part c v)) (slot.One s number)
   into_field c v s number st opens at =
-      let opened = opens_message c v st ok at.field j group at.found at.kind_is at.single at.fitted inner u (subst (λ (z : ℕ). Opens pool st.open_now scope.room z q j.0 group inner u) (sym at.own) opens) in
+      let opened = opens_message c v st ok at.field j group at.found at.kind_is at.single at.fitted inner u (subst (λ (z : ℕ). Opens pool st.open_now scope.depth_left z q j.0 group inner u) (sym at.own) opens) in
       let named = subst (λ (z : ℕ).
       Stands pool m depth levels base p0 (record { part = message_part c (with_fields v (drop_field z (fields_of v))); number = z; slot = slot.One at.field.shape z; group = group; scope = scope } ∷ frames)
       (message_part j.0 (held_message (get_field z (fields_of v)))) inner u) at.own opened in
@@ -238,10 +238,10 @@ module _ {pool : Types} {m depth levels : ℕ} {base : List Record} {p0 : Place}
       (message_part j.0 z) inner u) (held_same (get_field number (fields_of v))) shaped
 
   into_list :
-      (c : ℕ) (v : Message) (number : ℕ) (st : Stands pool m depth levels base p0 frames (message_part c v) scope q) → Opens pool st.open_now scope.room k q j.0 group inner u
+      (c : ℕ) (v : Message) (number : ℕ) (st : Stands pool m depth levels base p0 frames (message_part c v) scope q) → Opens pool st.open_now scope.depth_left k q j.0 group inner u
       → ListMessage pool c k (opening_type group) j number → IsOpen pool m depth levels base p0 frames scope k j group inner u (message_part c v) (message_part c v) (slot.List number)
   into_list c v number st opens at =
-      let opened = opens_listed c v st ok at.field j at.packed group at.found at.kind_is at.shape_is at.fitted inner u (subst (λ (z : ℕ). Opens pool st.open_now scope.room z q j.0 group inner u) (sym at.own) opens) in
+      let opened = opens_listed c v st ok at.field j at.packed group at.found at.kind_is at.shape_is at.fitted inner u (subst (λ (z : ℕ). Opens pool st.open_now scope.depth_left z q j.0 group inner u) (sym at.own) opens) in
       let named = subst (λ (z : ℕ).
       Stands pool m depth levels base p0 (record { part = message_part c v; number = z; slot = slot.List z; group = group; scope = scope } ∷ frames)
       (message_part j.0 empty) inner u) at.own opened in
@@ -250,8 +250,8 @@ module _ {pool : Types} {m depth levels : ℕ} {base : List Record} {p0 : Place}
       (message_part j.0 empty) inner u) (sym at.slot_number) named
 
   into_message :
-      (c : ℕ) (v : Message) (s : Slot) (st : Stands pool m depth levels base p0 frames (message_part c v) scope q) → Opens pool st.open_now scope.room k q j.0 group inner u
-      → AtField (field_numbered k (message_fields pool c)) k (opening_type group) (purpose.Message j s) → IsOpen pool m depth levels base p0 frames scope k j group inner u (message_part c v) (without_message s (message_part c v)) s
+      (c : ℕ) (v : Message) (s : Slot) (st : Stands pool m depth levels base p0 frames (message_part c v) scope q) → Opens pool st.open_now scope.depth_left k q j.0 group inner u
+      → AtField (field_numbered k (message_fields pool c)) k (opening_type group) (target.Message j s) → IsOpen pool m depth levels base p0 frames scope k j group inner u (message_part c v) (without_message s (message_part c v)) s
   into_message c v (slot.One s number) st opens means = into_field c v s number st opens (one_message pool c k (opening_type group) j s number means)
   into_message c v (slot.List number) st opens means = into_list c v number st opens (list_message pool c k (opening_type group) j number means)
   into_message c v (slot.Map number) st opens means = absurd (field_slot (field_numbered k (message_fields pool c)) k (opening_type group) j (slot.Map number) means)
@@ -262,61 +262,61 @@ module _ {pool : Types} {m depth levels : ℕ} {base : List Record} {p0 : Place}
 into_entry :
     {pool : Types} {m depth levels : ℕ} {base : List Record} {p0 : Place} {frames : List Frame} {scope : Scope} {q r t : Place} (ok : IsPool pool) (k : ℕ) (j : MessageId) (n : ℕ) (counts : ℕ → ℕ) → ((i : ℕ) → counts i ≡ 0)
     → (key kd : Kind) (x : Option Scalar) (d : Option Datum) → Stands pool m depth levels base p0 frames (entry_part key kd x d) scope q → HasTag q k 2 r → HasLength r n t
-    → kd ≡ kind.Message j → k ≡ 2 → IsOpen pool m depth levels base p0 frames scope k j false (payload_scope scope.room t n counts) (payload_at t n) (entry_part key kd x d) (entry_part key kd x None) slot.Entry
+    → kd ≡ kind.Message j → k ≡ 2 → IsOpen pool m depth levels base p0 frames scope k j false (payload_scope scope.depth_left t n counts) (payload_at t n) (entry_part key kd x d) (entry_part key kd x None) slot.Entry
 into_entry {pool} {m} {depth} {levels} {base} {p0} {frames} {scope} {q} {r} {t} ok k j n counts none key kd x d st has l is two =
     let opened = opens_entry_message key kd x d st j n counts ok none is (subst (λ (z : ℕ). HasTag q z 2 r) two has) l (ap (read_shaped (an_entry key kd) shape.Explicit) is)
     (λ p type. (refl, ap (λ (z : ℕ). z == wire_type_of kd) type ∙ ap (λ (z : Kind). 2 == wire_type_of z) is)) in
     let named = subst (λ (z : ℕ).
     Stands pool m depth levels base p0 (record { part = entry_part key kd x None; number = z; slot = slot.Entry; group = false; scope = scope } ∷ frames)
-    (message_part j.0 (entry_message d)) (payload_scope scope.room t n counts) (payload_at t n)) (sym two) opened in
+    (message_part j.0 (entry_message d)) (payload_scope scope.depth_left t n counts) (payload_at t n)) (sym two) opened in
     subst (λ (z : Message).
     Stands pool m depth levels base p0 (record { part = entry_part key kd x None; number = k; slot = slot.Entry; group = false; scope = scope } ∷ frames)
-    (message_part j.0 z) (payload_scope scope.room t n counts) (payload_at t n)) (given_same d) named
+    (message_part j.0 z) (payload_scope scope.depth_left t n counts) (payload_at t n)) (given_same d) named
 
 -- a field's message is a level below
-room_below : (s : Slot) (room : ℕ) → IsFieldSlot s → room_in s room ≡ room - 1
-room_below (slot.One s n) room h = refl
-room_below (slot.List n) room h = refl
-room_below (slot.Map n) room h = refl
-room_below slot.Entry room h = absurd h
-room_below (slot.Unknown n) room h = refl
+depth_left_below : (s : Slot) (depth_left : ℕ) → IsFieldSlot s → depth_left_in s depth_left ≡ depth_left - 1
+depth_left_below (slot.One s n) depth_left h = refl
+depth_left_below (slot.List n) depth_left h = refl
+depth_left_below (slot.Map n) depth_left h = refl
+depth_left_below slot.Entry depth_left h = absurd h
+depth_left_below (slot.Unknown n) depth_left h = refl
 
-some_below : (s : Slot) (j : MessageId) (room : ℕ) → IsFieldSlot s → IsRoomFor room (purpose.Message j s) → 0 < room
-some_below (slot.One s n) j room h some = some refl
-some_below (slot.List n) j room h some = some refl
-some_below (slot.Map n) j room h some = some refl
-some_below slot.Entry j room h some = absurd h
-some_below (slot.Unknown n) j room h some = some refl
+some_below : (s : Slot) (j : MessageId) (depth_left : ℕ) → IsFieldSlot s → HasLevelFor depth_left (target.Message j s) → 0 < depth_left
+some_below (slot.One s n) j depth_left h some = some refl
+some_below (slot.List n) j depth_left h some = some refl
+some_below (slot.Map n) j depth_left h some = some refl
+some_below slot.Entry j depth_left h some = absurd h
+some_below (slot.Unknown n) j depth_left h some = some refl
 
 -- AFTER ITS LENGTH
 pub message_opened :
     {pool : Types} {m depth levels : ℕ} {base : List Record} {p0 : Place} {frames : List Frame} {scope : Scope} {next : Step} {now : Part} {u t : Place} (k : ℕ) (j : MessageId) (s : Slot) (n : ℕ) (inner : Scope) (left : Part) (w : Message) → IsPool pool → CanHold pool now
-    → After pool m depth levels base p0 frames next now scope u → awaited next ≡ Some (tag k 2 (purpose.Message j s)) → HasLength u n t → left ≡ without_message s now → w ≡ taken_message s now
-    → inner.room ≡ room_in s scope.room → inner.end ≡ Some (t.at + n) → ((i : ℕ) → inner.counts i ≡ 0)
+    → After pool m depth levels base p0 frames next now scope u → awaited next ≡ Some (tag k 2 (target.Message j s)) → HasLength u n t → left ≡ without_message s now → w ≡ taken_message s now
+    → inner.depth_left ≡ depth_left_in s scope.depth_left → inner.end ≡ Some (t.at + n) → ((i : ℕ) → inner.counts i ≡ 0)
     → Stands pool m depth levels base p0 (record { part = left; number = k; slot = s; group = false; scope = scope } ∷ frames) (message_part j.0 w) inner (payload_at t n)
 message_opened {pool} {m} {depth} {levels} {base} {p0} {frames} {scope} {next} {now} {u} {t} k j s n inner left w ok can a is l is_left is_taken is_room is_end none =
-    let behind = at_tag (tag k 2 (purpose.Message j s)) a is in
+    let behind = at_tag (tag k 2 (target.Message j s)) a is in
     subst (λ (z : Part). Stands pool m depth levels base p0 (record { part = z; number = k; slot = s; group = false; scope = scope } ∷ frames) (message_part j.0 w) inner (payload_at t n)) (sym is_left)
     (subst (λ (z : Message). Stands pool m depth levels base p0 (record { part = without_message s now; number = k; slot = s; group = false; scope = scope } ∷ frames) (message_part j.0 z) inner (payload_at t n)) (sym is_taken)
     (from_part s now behind.stands behind.has behind.means behind.room_for is_room))
   where
-    from_part : {q : Place} (s : Slot) (now : Part) → Stands pool m depth levels base p0 frames now scope q → HasTag q k 2 u → Means pool (part_context now) k 2 (purpose.Message j s) → IsRoomFor scope.room (purpose.Message j s)
-        → inner.room ≡ room_in s scope.room → IsOpen pool m depth levels base p0 frames scope k j false inner (payload_at t n) now (without_message s now) s
-    from_part s (message_part c v) st has means some room =
+    from_part : {q : Place} (s : Slot) (now : Part) → Stands pool m depth levels base p0 frames now scope q → HasTag q k 2 u → Means pool (part_context now) k 2 (target.Message j s) → HasLevelFor scope.depth_left (target.Message j s)
+        → inner.depth_left ≡ depth_left_in s scope.depth_left → IsOpen pool m depth levels base p0 frames scope k j false inner (payload_at t n) now (without_message s now) s
+    from_part s (message_part c v) st has means some depth_left =
         let plain = field_slot (field_numbered k (message_fields pool c)) k 2 j s means in
-        let below : inner.room ≡ scope.room - 1 = room ∙ room_below s scope.room plain in
-        let level : scope.room ≡ suc inner.room = level_below scope.room (some_below s j scope.room plain some) ∙ ap (λ (z : ℕ). suc z) (sym below) in
+        let below : inner.depth_left ≡ scope.depth_left - 1 = depth_left ∙ depth_left_below s scope.depth_left plain in
+        let level : scope.depth_left ≡ suc inner.depth_left = level_below scope.depth_left (some_below s j scope.depth_left plain some) ∙ ap (λ (z : ℕ). suc z) (sym below) in
         into_message ok k j false inner (payload_at t n) c v s st
         (length_opens pool inner (ap (λ (z : Context). (schema_of pool).reading z k) st.form ∙ means_reading pool c k j s means) has l level is_end none) means
-    from_part slot.Entry (entry_part key kd x d) st has means some room =
+    from_part slot.Entry (entry_part key kd x d) st has means some depth_left =
         let opened = into_entry ok k j n inner.counts none key kd x d st has l (by_length kd j means.0 (ap (λ (z : ℕ). 2 == z) (sym means.2))) means.1 in
         subst (λ (z : Option ℕ). IsOpen pool m depth levels base p0 frames scope k j false (record inner { end = z }) (payload_at t n) (entry_part key kd x d) (entry_part key kd x None) slot.Entry) (sym is_end)
-        (subst (λ (z : ℕ). IsOpen pool m depth levels base p0 frames scope k j false (payload_scope z t n inner.counts) (payload_at t n) (entry_part key kd x d) (entry_part key kd x None) slot.Entry) (sym room) opened)
-    from_part (slot.One s number) (entry_part key kd x d) st has means some room = absurd means
-    from_part (slot.List number) (entry_part key kd x d) st has means some room = absurd means
-    from_part (slot.Map number) (entry_part key kd x d) st has means some room = absurd means
-    from_part (slot.Unknown number) (entry_part key kd x d) st has means some room = absurd means
-    from_part s (group_part us) st has means some room = absurd (cc)
+        (subst (λ (z : ℕ). IsOpen pool m depth levels base p0 frames scope k j false (payload_scope z t n inner.counts) (payload_at t n) (entry_part key kd x d) (entry_part key kd x None) slot.Entry) (sym depth_left) opened)
+    from_part (slot.One s number) (entry_part key kd x d) st has means some depth_left = absurd means
+    from_part (slot.List number) (entry_part key kd x d) st has means some depth_left = absurd means
+    from_part (slot.Map number) (entry_part key kd x d) st has means some depth_left = absurd means
+    from_part (slot.Unknown number) (entry_part key kd x d) st has means some depth_left = absurd means
+    from_part s (group_part us) st has means some depth_left = absurd (cc)
 
 -- AFTER THE FIRST TAG OF ITS GROUP
 
@@ -327,17 +327,17 @@ no_group_value kd j is type none = cc
 
 pub message_group_opened :
     {pool : Types} {m depth levels : ℕ} {base : List Record} {p0 : Place} {frames : List Frame} {scope : Scope} {now : Part} {q u : Place} (k : ℕ) (j : MessageId) (s : Slot) (inner : Scope) (left : Part) (w : Message) → IsPool pool → CanHold pool now
-    → Means pool (part_context now) k 3 (purpose.Message j s) → Stands pool m depth levels base p0 frames now scope q → 0 < scope.room → HasTag q k 3 u → left ≡ without_message s now → w ≡ taken_message s now
-    → inner.room ≡ scope.room - 1 → inner.end ≡ scope.end → ((i : ℕ) → inner.counts i ≡ 0)
+    → Means pool (part_context now) k 3 (target.Message j s) → Stands pool m depth levels base p0 frames now scope q → 0 < scope.depth_left → HasTag q k 3 u → left ≡ without_message s now → w ≡ taken_message s now
+    → inner.depth_left ≡ scope.depth_left - 1 → inner.end ≡ scope.end → ((i : ℕ) → inner.counts i ≡ 0)
     → Stands pool m depth levels base p0 (record { part = left; number = k; slot = s; group = true; scope = scope } ∷ frames) (message_part j.0 w) inner u
 message_group_opened {pool} {m} {depth} {levels} {base} {p0} {frames} {scope} {now} {q} {u} k j s inner left w ok can means st some has is_left is_taken is_room is_end none =
     subst (λ (z : Part). Stands pool m depth levels base p0 (record { part = z; number = k; slot = s; group = true; scope = scope } ∷ frames) (message_part j.0 w) inner u) (sym is_left)
     (subst (λ (z : Message). Stands pool m depth levels base p0 (record { part = without_message s now; number = k; slot = s; group = true; scope = scope } ∷ frames) (message_part j.0 z) inner u) (sym is_taken)
     (from_part s now st means))
   where
-    from_part : (s : Slot) (now : Part) → Stands pool m depth levels base p0 frames now scope q → Means pool (part_context now) k 3 (purpose.Message j s) → IsOpen pool m depth levels base p0 frames scope k j true inner u now (without_message s now) s
+    from_part : (s : Slot) (now : Part) → Stands pool m depth levels base p0 frames now scope q → Means pool (part_context now) k 3 (target.Message j s) → IsOpen pool m depth levels base p0 frames scope k j true inner u now (without_message s now) s
     from_part s (message_part c v) st means =
-        let level : scope.room ≡ suc inner.room = level_below scope.room some ∙ ap (λ (z : ℕ). suc z) (sym is_room) in
+        let level : scope.depth_left ≡ suc inner.depth_left = level_below scope.depth_left some ∙ ap (λ (z : ℕ). suc z) (sym is_room) in
         into_message ok k j true inner u c v s st
         (group_opens pool inner (ap (λ (z : Context). (schema_of pool).group_context z k) st.form ∙ means_group pool c k j s means) has level
         (subst (λ (z : Option ℕ). EndsAt u z) (sym is_end) (ends_along has.tag.0 scope.end has.tag.2 st.ends)) none) means
@@ -352,26 +352,26 @@ message_group_opened {pool} {m} {depth} {levels} {base} {p0} {frames} {scope} {n
 
 pub entry_opened :
     {pool : Types} {m depth levels : ℕ} {base : List Record} {p0 : Place} {frames : List Frame} {scope : Scope} {next : Step} {now : Part} {u t : Place} (k : ℕ) (key kd : Kind) (n : ℕ) (inner : Scope) → IsPool pool → CanHold pool now
-    → After pool m depth levels base p0 frames next now scope u → awaited next ≡ Some (tag k 2 (purpose.Entry key kd)) → HasLength u n t
-    → inner.room ≡ scope.room - 1 → inner.end ≡ Some (t.at + n) → ((i : ℕ) → inner.counts i ≡ 0)
+    → After pool m depth levels base p0 frames next now scope u → awaited next ≡ Some (tag k 2 (target.Entry key kd)) → HasLength u n t
+    → inner.depth_left ≡ scope.depth_left - 1 → inner.end ≡ Some (t.at + n) → ((i : ℕ) → inner.counts i ≡ 0)
     → Stands pool m depth levels base p0 (record { part = now; number = k; slot = slot.Map k; group = false; scope = scope } ∷ frames) (entry_part key kd None None) inner (payload_at t n)
 entry_opened {pool} {m} {depth} {levels} {base} {p0} {frames} {scope} {next} {now} {u} {t} k key kd n inner ok can a is l is_room is_end none =
-    let behind = at_tag (tag k 2 (purpose.Entry key kd)) a is in
+    let behind = at_tag (tag k 2 (target.Entry key kd)) a is in
     from_part now can behind.stands behind.has behind.means (behind.room_for refl)
   where
-    from_part : {q : Place} (now : Part) → CanHold pool now → Stands pool m depth levels base p0 frames now scope q → HasTag q k 2 u → Means pool (part_context now) k 2 (purpose.Entry key kd) → 0 < scope.room
+    from_part : {q : Place} (now : Part) → CanHold pool now → Stands pool m depth levels base p0 frames now scope q → HasTag q k 2 u → Means pool (part_context now) k 2 (target.Entry key kd) → 0 < scope.depth_left
         → Stands pool m depth levels base p0 (record { part = now; number = k; slot = slot.Map k; group = false; scope = scope } ∷ frames) (entry_part key kd None None) inner (payload_at t n)
     from_part {q} (message_part c v) can st has means some =
         let at = map_entry pool c k key kd means in
         let reading : (schema_of pool).reading (in_message c) at.field.number ≡ message_reading (an_entry key at.field.kind) =
         ap (read_field (in_message c)) at.found ∙ ap (λ (z : Shape). read_shaped (in_message c) z at.field.kind) at.shape_is in
-        let opened = opens_entry c v st ok u t (scope.room - 1) n inner.counts (level_below scope.room some) none at.field key at.found at.shape_is at.fits_length reading (subst (λ (z : ℕ). HasTag q z 2 u) (sym at.own) has) l in
+        let opened = opens_entry c v st ok u t (scope.depth_left - 1) n inner.counts (level_below scope.depth_left some) none at.field key at.found at.shape_is at.fits_length reading (subst (λ (z : ℕ). HasTag q z 2 u) (sym at.own) has) l in
         let named = subst (λ (z : ℕ).
         Stands pool m depth levels base p0 (record { part = message_part c v; number = z; slot = slot.Map z; group = false; scope = scope } ∷ frames)
-        (entry_part key at.field.kind None None) (payload_scope (scope.room - 1) t n inner.counts) (payload_at t n)) at.own opened in
+        (entry_part key at.field.kind None None) (payload_scope (scope.depth_left - 1) t n inner.counts) (payload_at t n)) at.own opened in
         let kinds = subst (λ (z : Kind).
         Stands pool m depth levels base p0 (record { part = message_part c v; number = k; slot = slot.Map k; group = false; scope = scope } ∷ frames)
-        (entry_part key z None None) (payload_scope (scope.room - 1) t n inner.counts) (payload_at t n)) (sym at.kind_is) named in
+        (entry_part key z None None) (payload_scope (scope.depth_left - 1) t n inner.counts) (payload_at t n)) (sym at.kind_is) named in
         let at_room = subst (λ (z : ℕ).
         Stands pool m depth levels base p0 (record { part = message_part c v; number = k; slot = slot.Map k; group = false; scope = scope } ∷ frames)
         (entry_part key kd None None) (payload_scope z t n inner.counts) (payload_at t n)) (sym is_room) kinds in

@@ -53,11 +53,11 @@ pub list_ends :
 list_ends {pool} {m} {depth} {levels} {base} {p0} {frames} {scope} {t = t} {u = u} {n = n} {front = front} k v s differ f found p at none fit tag re l h end =
     let parts = payload_bytes front l h.moves end in
     let stood = one_more s (record { number = f.number; payload = len front }) (message_part k (with_elements pool f.number f.kind front v))
-    (len_record (context_of s.open_now) scope.room f.number n front tag l parts.0 parts.1 (Sound.a_list re h.whole)) refl (by_level s.inner s.deep s.worth) in
+    (len_record (context_of s.open_now) scope.depth_left f.number n front tag l parts.0 parts.1 (Sound.a_list re h.whole)) refl (by_level s.inner s.deep s.worth) in
     subst (λ (z : Place). Stands pool m depth levels base p0 frames (message_part k (with_elements pool f.number f.kind front v)) (one_more_in f.number scope) z)
     (place_up_to (outside t n u) scope.end stood.ends) stood
   where
-    by_level : (i : ℕ) → scope.room < i → v ≡ value_within pool i k (s.earlier ++ s.records_so_far)
+    by_level : (i : ℕ) → scope.depth_left < i → v ≡ value_within pool i k (s.earlier ++ s.records_so_far)
         → with_elements pool f.number f.kind front v ≡ value_within pool i k ((s.earlier ++ s.records_so_far) ++ record { number = f.number; payload = len front } ∷ [])
     by_level zero deep w = absurd (omega (arith, deep))
     by_level (suc i) deep w =

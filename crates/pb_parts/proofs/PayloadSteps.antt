@@ -26,15 +26,15 @@ use Rattle.pb_schema.specs.Context.{Context, a_message as in_message, an_entry a
 use Rattle.pb_value.specs.Data.{scalar}
 use Rattle.pb_value.specs.Change.{IsSingle}
 use Rattle.pb_value.proofs.StepLemmas.{self_equal}
-use Rattle.pb_parts.specs.declared.open.purpose.Purpose.{Purpose}
-use Rattle.pb_parts.specs.declared.open.purpose.Purpose.TheVariants as purpose
+use Rattle.pb_parts.specs.declared.open.target.Target.{Target}
+use Rattle.pb_parts.specs.declared.open.target.Target.TheVariants as target
 use Rattle.pb_parts.specs.declared.tokens.step.Step.TheVariants as step
 use Rattle.pb_parts.specs.Values.Put.{scalar_kind, key_in, put_datum, put_record}
 use Rattle.pb_parts.specs.Open.Opened.{below}
 use Rattle.pb_parts.specs.declared.values.payload_value.PayloadError.{PayloadError}
 use Rattle.pb_parts.specs.declared.values.payload_value.PayloadError.TheVariants as error
-use Rattle.pb_parts.specs.Values.PayloadValue.{IsPayloadError, IfBadText, IsBytesPurpose}
-use Rattle.pb_parts.specs.Open.Purposes.{AtField, Means, part_context}
+use Rattle.pb_parts.specs.Values.PayloadValue.{IsPayloadError, IfBadText, IsBytesTarget}
+use Rattle.pb_parts.specs.Open.Targets.{AtField, Means, part_context}
 use Rattle.pb_parts.specs.Open.Frames.{Part, message_part, entry_part, group_part, CanHold, Frame, path_of, next_step, Stands, Scope, one_more_in}
 use Rattle.pb_parts.specs.Tokens.After.{After}
 use Rattle.pb_parts.proofs.OpenedLemmas.{len_record}
@@ -80,46 +80,46 @@ field_reading : (pool : Types) (t k : ℕ) (f : FieldView) → field_numbered k 
 field_reading pool t k f found = ap (read_field (in_message t)) found
 
 bytes_reading :
-    (pool : Types) (now : Part) (k : ℕ) (meant : Purpose) (kd : Kind) → CanHold pool now → Means pool (part_context now) k 2 meant → scalar_kind meant ≡ Some kd
+    (pool : Types) (now : Part) (k : ℕ) (meant : Target) (kd : Kind) → CanHold pool now → Means pool (part_context now) k 2 meant → scalar_kind meant ≡ Some kd
     → ReadsBytes ((schema_of pool).reading (part_context now) k) kd
-bytes_reading pool (message_part t v) k (purpose.One k2 s) kd can means of =
-    let type = meant_type pool (message_part t v) k 2 (purpose.One k2 s) kd means of in
+bytes_reading pool (message_part t v) k (target.One k2 s) kd can means of =
+    let type = meant_type pool (message_part t v) k 2 (target.One k2 s) kd means of in
     let (f, found, e, is_kind, is_shape, single, none) = single_field (field_numbered k (message_fields pool t)) k 2 k2 s means in
     let same : k2 ≡ kd = cc in
     subst (λ (z : Reading Context). ReadsBytes z kd)
     (sym (field_reading pool t k f found ∙ ap (λ (z : Shape). read_shaped (in_message t) z f.kind) is_shape ∙ ap (read_shaped (in_message t) s) (is_kind ∙ same) ∙ single_is (in_message t) s kd single))
     (singular_reading (in_message t) kd (ap message_of_kind (sym same) ∙ none) type)
-bytes_reading pool (message_part t v) k (purpose.Element k2) kd can means of =
-    let type = meant_type pool (message_part t v) k 2 (purpose.Element k2) kd means of in
+bytes_reading pool (message_part t v) k (target.Element k2) kd can means of =
+    let type = meant_type pool (message_part t v) k 2 (target.Element k2) kd means of in
     let (f, found, e, is_kind, (p, is_shape), none) = listed_field (field_numbered k (message_fields pool t)) k 2 k2 means in
     let same : k2 ≡ kd = cc in
     subst (λ (z : Reading Context). ReadsBytes z kd)
     (sym (field_reading pool t k f found ∙ ap (λ (z : Shape). read_shaped (in_message t) z f.kind) is_shape ∙ ap (read_listed (in_message t)) (is_kind ∙ same)))
     (element_reading (in_message t) kd (ap message_of_kind (sym same) ∙ none) type)
-bytes_reading pool (message_part t v) k (purpose.Key k2) kd can means of = absurd (no_key (field_numbered k (message_fields pool t)) k 2 k2 means)
-bytes_reading pool (message_part t v) k (purpose.EntryValue k2) kd can means of = absurd (no_entry_value (field_numbered k (message_fields pool t)) k 2 k2 means)
-bytes_reading pool (entry_part key k3 y d) k (purpose.Key k2) kd can (is_key, first, type) of =
+bytes_reading pool (message_part t v) k (target.Key k2) kd can means of = absurd (no_key (field_numbered k (message_fields pool t)) k 2 k2 means)
+bytes_reading pool (message_part t v) k (target.EntryValue k2) kd can means of = absurd (no_entry_value (field_numbered k (message_fields pool t)) k 2 k2 means)
+bytes_reading pool (entry_part key k3 y d) k (target.Key k2) kd can (is_key, first, type) of =
     let same : k2 ≡ kd = cc in
     let key_is : key ≡ kd = sym is_key ∙ same in
     subst (λ (z : ℕ). ReadsBytes ((schema_of pool).reading (in_entry key k3) z) kd) (sym first)
     (subst (λ (z : Kind). ReadsBytes (read_singular (in_entry key k3) z) kd) (sym key_is)
     (singular_reading (in_entry key k3) kd (key_no_message kd (subst (λ (z : Kind). IsTrue (is_key_kind z)) key_is can)) (type ∙ ap wire_type_of key_is)))
-bytes_reading pool (entry_part key k3 y d) k (purpose.EntryValue k2) kd can (is_value, second, type, none) of =
+bytes_reading pool (entry_part key k3 y d) k (target.EntryValue k2) kd can (is_value, second, type, none) of =
     let same : k2 ≡ kd = cc in
     let value_is : k3 ≡ kd = sym is_value ∙ same in
     subst (λ (z : ℕ). ReadsBytes ((schema_of pool).reading (in_entry key k3) z) kd) (sym second)
     (subst (λ (z : Kind). ReadsBytes (read_singular (in_entry key k3) z) kd) (sym value_is)
     (singular_reading (in_entry key k3) kd (ap message_of_kind (sym value_is) ∙ none) (type ∙ ap wire_type_of value_is)))
-bytes_reading pool (entry_part key k3 y d) k (purpose.One k2 s) kd can means of = absurd means
-bytes_reading pool (entry_part key k3 y d) k (purpose.Element k2) kd can means of = absurd means
-bytes_reading pool (group_part us) k (purpose.One k2 s) kd can means of = absurd (cc)
-bytes_reading pool (group_part us) k (purpose.Element k2) kd can means of = absurd (cc)
-bytes_reading pool (group_part us) k (purpose.Key k2) kd can means of = absurd (cc)
-bytes_reading pool (group_part us) k (purpose.EntryValue k2) kd can means of = absurd (cc)
-bytes_reading pool now k (purpose.Packed k2) kd can means of = absurd (cc)
-bytes_reading pool now k (purpose.Message j s) kd can means of = absurd (cc)
-bytes_reading pool now k (purpose.Entry k2 k3) kd can means of = absurd (cc)
-bytes_reading pool now k purpose.Unknown kd can means of = absurd (cc)
+bytes_reading pool (entry_part key k3 y d) k (target.One k2 s) kd can means of = absurd means
+bytes_reading pool (entry_part key k3 y d) k (target.Element k2) kd can means of = absurd means
+bytes_reading pool (group_part us) k (target.One k2 s) kd can means of = absurd (cc)
+bytes_reading pool (group_part us) k (target.Element k2) kd can means of = absurd (cc)
+bytes_reading pool (group_part us) k (target.Key k2) kd can means of = absurd (cc)
+bytes_reading pool (group_part us) k (target.EntryValue k2) kd can means of = absurd (cc)
+bytes_reading pool now k (target.Packed k2) kd can means of = absurd (cc)
+bytes_reading pool now k (target.Message j s) kd can means of = absurd (cc)
+bytes_reading pool now k (target.Entry k2 k3) kd can means of = absurd (cc)
+bytes_reading pool now k target.Unknown kd can means of = absurd (cc)
 
 -- AN UNKNOWN RECORD IS NOT LOOKED INTO
 
@@ -146,7 +146,7 @@ unfit_reading c (shape.OneofMember o) kd differ = unfit_singular c kd (not_equal
 unfit_reading c (shape.List p) kd differ = unfit_list c p kd differ
 unfit_reading c (shape.Map key) kd differ = absurd (false≢true (sym differ))
 
-unfit_field : (t k : ℕ) (o : Option FieldView) → AtField o k 2 purpose.Unknown → read_field (in_message t) o ≡ unread
+unfit_field : (t k : ℕ) (o : Option FieldView) → AtField o k 2 target.Unknown → read_field (in_message t) o ≡ unread
 unfit_field t k None h = refl
 unfit_field t k (Some f) h = unfit_reading (in_message t) f.shape f.kind h
 
@@ -158,20 +158,20 @@ unfit_entry key kd k no_first no_second = by_tests (1 == k) refl (2 == k) refl
     by_tests false e true g = unfit_singular (in_entry key kd) kd (no_second (sym (number_is 2 k g)))
     by_tests false e false g = refl
 
-unknown_reading : (pool : Types) (now : Part) (k : ℕ) → Means pool (part_context now) k 2 purpose.Unknown → (schema_of pool).reading (part_context now) k ≡ unread
+unknown_reading : (pool : Types) (now : Part) (k : ℕ) → Means pool (part_context now) k 2 target.Unknown → (schema_of pool).reading (part_context now) k ≡ unread
 unknown_reading pool (message_part t v) k means = unfit_field t k (field_numbered k (message_fields pool t)) means
 unknown_reading pool (entry_part key kd x d) k means = unfit_entry key kd k means.0 means.1
 unknown_reading pool (group_part us) k means = refl
 
-only_unknown : (meant : Purpose) → IsBytesPurpose meant → scalar_kind meant ≡ None → meant ≡ purpose.Unknown
-only_unknown (purpose.One k s) is of = absurd (cc)
-only_unknown (purpose.Element k) is of = absurd (cc)
-only_unknown (purpose.Key k) is of = absurd (cc)
-only_unknown (purpose.EntryValue k) is of = absurd (cc)
-only_unknown purpose.Unknown is of = refl
-only_unknown (purpose.Packed k) is of = absurd is
-only_unknown (purpose.Message j s) is of = absurd is
-only_unknown (purpose.Entry key k) is of = absurd is
+only_unknown : (meant : Target) → IsBytesTarget meant → scalar_kind meant ≡ None → meant ≡ target.Unknown
+only_unknown (target.One k s) is of = absurd (cc)
+only_unknown (target.Element k) is of = absurd (cc)
+only_unknown (target.Key k) is of = absurd (cc)
+only_unknown (target.EntryValue k) is of = absurd (cc)
+only_unknown target.Unknown is of = refl
+only_unknown (target.Packed k) is of = absurd is
+only_unknown (target.Message j s) is of = absurd is
+only_unknown (target.Entry key k) is of = absurd is
 
 -- THE VALUE
 
@@ -196,7 +196,7 @@ pub bad_text_within : (kd : Kind) (s : List ℕ) (e : PayloadError) → IsPayloa
 bad_text_within kd s e h = if_bad_text kd s e (λ valid. valid ≤ length s) h (λ valid is wrong len_is. subst (λ (z : ℕ). z ≤ length s) (sym len_is) (utf8_valid_len_le s))
 
 -- THE STEP: the payload that comes next is there in full, and leads from u to w
-module _ {pool : Types} {m depth levels : ℕ} {base : List Record} {p0 u : Place} {frames : List Frame} {scope : Scope} {now : Part} (k : ℕ) (meant : Purpose) (n : ℕ) (begun : After pool m depth levels base p0 frames (step.Payload k meant n) now scope u)
+module _ {pool : Types} {m depth levels : ℕ} {base : List Record} {p0 u : Place} {frames : List Frame} {scope : Scope} {now : Part} (k : ℕ) (meant : Target) (n : ℕ) (begun : After pool m depth levels base p0 frames (step.Payload k meant n) now scope u)
     (can : CanHold pool now) where
   -- how the record is read where it has a value
   reads_here : (kd : Kind) (s : AtPayload pool m depth levels base p0 frames now scope k meant n u) → scalar_kind meant ≡ Some kd → ReadsBytes ((schema_of pool).reading (context_of s.stands.open_now) k) kd
@@ -204,12 +204,12 @@ module _ {pool : Types} {m depth levels : ℕ} {base : List Record} {p0 u : Plac
       subst (λ (c : Context). ReadsBytes ((schema_of pool).reading c k) kd) (sym (part_of_context now (context_of at.stands.open_now) at.stands.form)) (bytes_reading pool now k meant kd can at.means of)
 
   -- and where it is unknown
-  unread_here : (s : AtPayload pool m depth levels base p0 frames now scope k meant n u) → meant ≡ purpose.Unknown → (schema_of pool).reading (context_of s.stands.open_now) k ≡ unread
+  unread_here : (s : AtPayload pool m depth levels base p0 frames now scope k meant n u) → meant ≡ target.Unknown → (schema_of pool).reading (context_of s.stands.open_now) k ≡ unread
   unread_here at unknown =
       ap (λ (c : Context). (schema_of pool).reading c k) (part_of_context now (context_of at.stands.open_now) at.stands.form)
-      ∙ unknown_reading pool now k (subst (λ (z : Purpose). Means pool (part_context now) k 2 z) unknown at.means)
+      ∙ unknown_reading pool now k (subst (λ (z : Target). Means pool (part_context now) k 2 z) unknown at.means)
 
-  payload_sound : (kd : Kind) (s : List ℕ) (c : Context) → ReadsBytes ((schema_of pool).reading c k) kd → (kd ≡ kind.Text → IsUtf8 s) → Sound (schema_of pool) c scope.room k (len s)
+  payload_sound : (kd : Kind) (s : List ℕ) (c : Context) → ReadsBytes ((schema_of pool).reading c k) kd → (kd ≡ kind.Text → IsUtf8 s) → Sound (schema_of pool) c scope.depth_left k (len s)
   payload_sound kd s c (a_text is re) utf = Sound.a_text re (utf is)
   payload_sound kd s c (some_bytes is re) utf = Sound.some_bytes re
 
@@ -222,19 +222,19 @@ module _ {pool : Types} {m depth levels : ℕ} {base : List Record} {p0 u : Plac
       let v = given kd s re in
       subst (λ (z : Part). Stands pool m depth levels base p0 frames z (one_more_in k scope) w) (sym (made v.value v.reads))
       (scalar_record_stands ok k (len s) v.value now meant kd can at.stands
-      (len_record (context_of at.stands.open_now) scope.room k n s at.has at.length_is size moves (payload_sound kd s (context_of at.stands.open_now) re utf)) at.means of v.alone v.keyed
+      (len_record (context_of at.stands.open_now) scope.depth_left k n s at.has at.length_is size moves (payload_sound kd s (context_of at.stands.open_now) re utf)) at.means of v.alone v.keyed
       (meant_type pool now k 2 meant kd at.means of) (undeclared_len pool (closed_enum kd) s))
 
   -- where the part holds it as an unknown record, likewise
-  pub unknown_payload_put : {w : Place} (s : List ℕ) (put : Part) → IsBytesPurpose meant → scalar_kind meant ≡ None → IsPool pool → length s ≡ n → Moves u s w → put ≡ put_record k (len s) now
+  pub unknown_payload_put : {w : Place} (s : List ℕ) (put : Part) → IsBytesTarget meant → scalar_kind meant ≡ None → IsPool pool → length s ≡ n → Moves u s w → put ≡ put_record k (len s) now
       → Stands pool m depth levels base p0 frames put (one_more_in k scope) w
   unknown_payload_put {w} s put is of ok size moves made =
       let at = at_payload k meant n begun in
       let unknown = only_unknown meant is of in
       subst (λ (z : Part). Stands pool m depth levels base p0 frames z (one_more_in k scope) w) (sym made)
       (unknown_part_stands ok k (len s) now can at.stands
-      (len_record (context_of at.stands.open_now) scope.room k n s at.has at.length_is size moves (Sound.some_bytes (unread_here at unknown)))
-      (subst (λ (z : Purpose). Means pool (part_context now) k 2 z) unknown at.means))
+      (len_record (context_of at.stands.open_now) scope.depth_left k n s at.has at.length_is size moves (Sound.some_bytes (unread_here at unknown)))
+      (subst (λ (z : Target). Means pool (part_context now) k 2 z) unknown at.means))
 
   -- a string that is not UTF-8 is the fault of the whole, at its first wrong byte
   pub text_told : {w : Place} (kd : Kind) (s : List ℕ) (valid : ℕ) → scalar_kind meant ≡ Some kd → length s ≡ n → Moves u s w → kd ≡ kind.Text → ¬ (IsUtf8 s) → valid ≡ utf8_valid_len s
@@ -252,7 +252,7 @@ module _ {pool : Types} {m depth levels : ℕ} {base : List Record} {p0 u : Plac
       as_text kd (some_bytes same re) is = absurd (let both : kind.Bytes ≡ kind.Text = sym same ∙ is in cc)
 
   -- HOW IT IS READ: its bytes are not looked into, or are a string
-  pub payload_reading : IsBytesPurpose meant → (at : AtPayload pool m depth levels base p0 frames now scope k meant n u)
+  pub payload_reading : IsBytesTarget meant → (at : AtPayload pool m depth levels base p0 frames now scope k meant n u)
       → ((schema_of pool).reading (context_of at.stands.open_now) k ≡ unread) ⊎ ((schema_of pool).reading (context_of at.stands.open_now) k ≡ text_reading)
   payload_reading is at = by_kind (scalar_kind meant) refl
     where
@@ -265,7 +265,7 @@ module _ {pool : Types} {m depth levels : ℕ} {base : List Record} {p0 u : Plac
       by_kind None of = inl (unread_here at (only_unknown meant is of))
 
   -- A PAYLOAD THAT IS CUT: where the input ends inside it, that is the fault of the whole
-  pub payload_cut : IsBytesPurpose meant → length u.rest < n → Bad (schema_of pool) (records (in_message m)) depth p0 (below (path_of frames) (fault (input_end u) (next_step k scope ∷ []) Truncated))
+  pub payload_cut : IsBytesTarget meant → length u.rest < n → Bad (schema_of pool) (records (in_message m)) depth p0 (below (path_of frames) (fault (input_end u) (next_step k scope ∷ []) Truncated))
   payload_cut is short =
       let at = at_payload k meant n begun in
       told_inside k 2 (fault (input_end u) [] Truncated) at.stands at.has

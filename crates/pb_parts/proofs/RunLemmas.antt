@@ -22,14 +22,14 @@ use Rattle.pb_value.proofs.FieldExtent.{get_field-put_same}
 use Rattle.pb_value.proofs.FieldViews.{get_field-some}
 use Rattle.pb_value.proofs.ShapeSteps.{put_twice}
 use Rattle.pb_value.proofs.Views.{body_view-out}
-use Rattle.pb_parts.specs.declared.open.purpose.Purpose.TheVariants as purpose
+use Rattle.pb_parts.specs.declared.open.target.Target.TheVariants as target
 use Rattle.pb_parts.specs.Open.Frames.{Part, message_part, entry_part, group_part}
 use Rattle.pb_parts.specs.declared.values.run.Run.{Run}
 use Rattle.pb_parts.specs.Values.Put.{put_datum, put_record}
 use Rattle.pb_parts.specs.Values.Run.{put_listed, put_each, put_records, put_run}
 
 -- an element of a list is put at its end
-pub listed_is : (pool : Types) (n : ℕ) (k : Kind) (p : Part) (d : Datum) → put_listed n d p ≡ put_datum pool n (purpose.Element k) p d
+pub listed_is : (pool : Types) (n : ℕ) (k : Kind) (p : Part) (d : Datum) → put_listed n d p ≡ put_datum pool n (target.Element k) p d
 listed_is pool n k (message_part m v) d = refl
 listed_is pool n k (entry_part key kd x e) d = refl
 listed_is pool n k (group_part us) d = refl

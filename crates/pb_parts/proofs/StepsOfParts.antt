@@ -28,12 +28,12 @@ use Rattle.pb_parts.proofs.FrameLemmas.{one_more, closed_stands, same_self, put_
 
 -- what a record makes of the part of a message, at whatever level
 module _ {pool : Types} {m depth levels : ℕ} {base : List Record} {p0 : Place} {frames : List Frame} {scope : Scope} {q u : Place} (k : ℕ) (v : Message) (s : Stands pool m depth levels base p0 frames (message_part k v) scope q)
-    (differ : AllDiffer (map (λ (f : FieldView). f.number) (message_fields pool k))) (r : Record) (h : RecordTo (schema_of pool) (context_of s.open_now) scope.room q r u) where
+    (differ : AllDiffer (map (λ (f : FieldView). f.number) (message_fields pool k))) (r : Record) (h : RecordTo (schema_of pool) (context_of s.open_now) scope.depth_left q r u) where
   by_step : (step : Message → Message) → ((l : ℕ) → value_within pool (suc l) k ((s.earlier ++ s.records_so_far) ++ r ∷ []) ≡ step (value_within pool (suc l) k (s.earlier ++ s.records_so_far)))
       → Stands pool m depth levels base p0 frames (message_part k (step v)) (one_more_in r.number scope) u
   by_step step is = one_more s r (message_part k (step v)) h refl (at_level s.inner s.deep s.worth)
     where
-      at_level : (l : ℕ) → scope.room < l → v ≡ value_within pool l k (s.earlier ++ s.records_so_far) → step v ≡ value_within pool l k ((s.earlier ++ s.records_so_far) ++ r ∷ [])
+      at_level : (l : ℕ) → scope.depth_left < l → v ≡ value_within pool l k (s.earlier ++ s.records_so_far) → step v ≡ value_within pool l k ((s.earlier ++ s.records_so_far) ++ r ∷ [])
       at_level zero deep w = absurd (omega (arith, deep))
       at_level (suc l) deep w = ap step w ∙ sym (is l)
 
@@ -62,11 +62,11 @@ pub ends_at_tag :
     → Stands pool m depth levels base p0 frames (put_child pool frame.slot frame.part now) (one_more_in frame.number frame.scope) w
 ends_at_tag {pool} {m} {depth} {levels} {base} {p0} {frame} {frames} {scope} {now} {v} {w} {c} s is_open some end = from_held s.held s.behind s.worth is_open
   where
-    closed : {a o : Open Context} {room below : ℕ} {q u : Place} {ss : List Record} → Begun (schema_of pool) a room frame.number q o below u → Behind (schema_of pool) o below u ss v → o ≡ in_group frame.number c
-        → RecordTo (schema_of pool) (context_of a) room q (record { number = frame.number; payload = group (group_of ss) }) w
+    closed : {a o : Open Context} {depth_left below : ℕ} {q u : Place} {ss : List Record} → Begun (schema_of pool) a depth_left frame.number q o below u → Behind (schema_of pool) o below u ss v → o ≡ in_group frame.number c
+        → RecordTo (schema_of pool) (context_of a) depth_left q (record { number = frame.number; payload = group (group_of ss) }) w
     closed (opened.a_message levels tag re l is_open is_place) b is = absurd (cc)
     closed (opened.a_value levels tag re l is_open is_place) b is = absurd (cc)
-    closed {a = a} {o = o} {room = room} {below = below} {q = q} {u = u} {ss = ss} (opened.a_group {r = start} levels tag is_open is_place) b is =
+    closed {a = a} {o = o} {depth_left = depth_left} {below = below} {q = q} {u = u} {ss = ss} (opened.a_group {r = start} levels tag is_open is_place) b is =
         let there : Behind (schema_of pool) (in_group frame.number ((schema_of pool).group_context (context_of a) frame.number)) below start ss v =
         subst (λ (z : Place). Behind (schema_of pool) (in_group frame.number ((schema_of pool).group_context (context_of a) frame.number)) below z ss v) is_place
         (subst (λ (z : Open Context). Behind (schema_of pool) z below u ss v) is_open b) in

@@ -21,14 +21,14 @@ use Rattle.pb_schema.specs.Kinds.{message_of_kind}
 use Rattle.pb_schema.specs.Fits.{fits_shape}
 use Rattle.pb_schema.specs.Context.{Context, a_message as in_message, an_entry, key_field, value_field, read_singular, read_shaped, read_field, schema_of}
 use Rattle.pb_parts.specs.declared.open.part.Slot.TheVariants as slot
-use Rattle.pb_parts.specs.declared.open.purpose.Purpose.{Purpose}
-use Rattle.pb_parts.specs.declared.open.purpose.Purpose.TheVariants as purpose
+use Rattle.pb_parts.specs.declared.open.target.Target.{Target}
+use Rattle.pb_parts.specs.declared.open.target.Target.TheVariants as target
 use Rattle.pb_parts.specs.declared.tokens.step.Step.{Step}
 use Rattle.pb_parts.specs.Open.Opened.{Begun, below}
 use Rattle.pb_parts.specs.Open.Opened as opened
-use Rattle.pb_parts.specs.Open.Purposes.{OfShape, AtField, Means, part_context}
+use Rattle.pb_parts.specs.Open.Targets.{OfShape, AtField, Means, part_context}
 use Rattle.pb_parts.specs.Open.Frames.{Part, message_part, entry_part, group_part, opening_type, open_type, Scope, Frame, EndsAt, next_step, path_of, Held, at_top, inside, Stands}
-use Rattle.pb_parts.specs.Tokens.After.{tag, awaited, IsRoomFor, After}
+use Rattle.pb_parts.specs.Tokens.After.{tag, awaited, HasLevelFor, After}
 use Rattle.pb_parts.specs.Open.Openings.{innermost_group}
 use Rattle.pb_parts.proofs.FrameLemmas.{part_of_context, ends_along}
 use Rattle.pb_parts.proofs.AfterLemmas.{at_tag, told_here, told_inside}
@@ -72,7 +72,7 @@ tag_number_told {pool} {m} {depth} {p0 = p0} {frames} {q = q} c s open_here some
 -- THE ENDS OF GROUPS
 
 -- the group that is open innermost is that of the innermost frame
-begun_open : (pool : Types) {a o : Open Context} {room below n : ℕ} {q u : Place} (group : Bool) → Begun (schema_of pool) a room n q o below u → opening_type group ≡ open_type o → open_group o ≡ (if group then Some n else None)
+begun_open : (pool : Types) {a o : Open Context} {depth_left below n : ℕ} {q u : Place} (group : Bool) → Begun (schema_of pool) a depth_left n q o below u → opening_type group ≡ open_type o → open_group o ≡ (if group then Some n else None)
 begun_open pool true (opened.a_message levels has re l is_open is_place) type = absurd (let two : 3 ≡ 2 = type ∙ ap open_type is_open in omega (arith, two))
 begun_open pool false (opened.a_message levels has re l is_open is_place) type = ap open_group is_open
 begun_open pool true (opened.a_value levels has re l is_open is_place) type = absurd (let two : 3 ≡ 2 = type ∙ ap open_type is_open in omega (arith, two))
@@ -81,8 +81,8 @@ begun_open pool true (opened.a_group levels has is_open is_place) type = ap open
 begun_open pool false (opened.a_group levels has is_open is_place) type = absurd (let three : 2 ≡ 3 = type ∙ ap open_type is_open in omega (arith, three))
 
 pub held_open :
-    {pool : Types} {m depth levels : ℕ} {base : List Record} {p0 : Place} {frames : List Frame} {now : Part} {o : Open Context} {room inner : ℕ} {path : List PathStep} {p : Place} {earlier : List Record}
-    → Held pool m depth levels base p0 frames now o room inner path p earlier → open_group o ≡ innermost_group frames
+    {pool : Types} {m depth levels : ℕ} {base : List Record} {p0 : Place} {frames : List Frame} {now : Part} {o : Open Context} {depth_left inner : ℕ} {path : List PathStep} {p : Place} {earlier : List Record}
+    → Held pool m depth levels base p0 frames now o depth_left inner path p earlier → open_group o ≡ innermost_group frames
 held_open (at_top v form is_open is_room is_inner is_path is_place is_base goes_on) = ap open_group is_open
 held_open {pool} (inside {frame = frame} up h begun form can deep completes is_path counts ends goes_on takes) = begun_open pool frame.group begun takes.1
 
@@ -98,111 +98,111 @@ stray_end_told k s has inner = tag_refused StrayEnd s has.tag (TagFault.stray_en
 
 -- LENGTHS
 
-allowed_below : (room : ℕ) (r : Reading Context) → 0 < room → IsAllowed room r
-allowed_below room unread some = tt
-allowed_below room text some = tt
-allowed_below room (message_reading c) some = some
-allowed_below room (same_level c) some = tt
-allowed_below room (packed e) some = tt
+allowed_below : (depth_left : ℕ) (r : Reading Context) → 0 < depth_left → IsAllowed depth_left r
+allowed_below depth_left unread some = tt
+allowed_below depth_left text some = tt
+allowed_below depth_left (message_reading c) some = some
+allowed_below depth_left (same_level c) some = tt
+allowed_below depth_left (packed e) some = tt
 
 -- what is no message may have any length
-allowed_scalar : (room t : ℕ) (s : Shape) (k : Kind) → message_of_kind k ≡ None → ((key : Kind) → s ≡ shape.Map key → ⊥) → IsAllowed room (read_shaped (in_message t) s k)
-allowed_scalar room t (shape.Map key) k none never = absurd (never key refl)
-allowed_scalar room t s (kind.Message j) none never = absurd (cc)
-allowed_scalar room t (shape.List p) k none never = tt
-allowed_scalar room t shape.Implicit k none never = tt
-allowed_scalar room t shape.Explicit k none never = tt
-allowed_scalar room t (shape.OneofMember o) k none never = tt
+allowed_scalar : (depth_left t : ℕ) (s : Shape) (k : Kind) → message_of_kind k ≡ None → ((key : Kind) → s ≡ shape.Map key → ⊥) → IsAllowed depth_left (read_shaped (in_message t) s k)
+allowed_scalar depth_left t (shape.Map key) k none never = absurd (never key refl)
+allowed_scalar depth_left t s (kind.Message j) none never = absurd (cc)
+allowed_scalar depth_left t (shape.List p) k none never = tt
+allowed_scalar depth_left t shape.Implicit k none never = tt
+allowed_scalar depth_left t shape.Explicit k none never = tt
+allowed_scalar depth_left t (shape.OneofMember o) k none never = tt
 
-allowed_unfit : (room t : ℕ) (s : Shape) (k : Kind) → fits_shape s k 2 ≡ false → IsAllowed room (read_shaped (in_message t) s k)
-allowed_unfit room t (shape.Map key) k e = absurd (false≢true (sym e))
-allowed_unfit room t (shape.List p) (kind.Message j) e = absurd (false≢true (sym e))
-allowed_unfit room t shape.Implicit (kind.Message j) e = absurd (false≢true (sym e))
-allowed_unfit room t shape.Explicit (kind.Message j) e = absurd (false≢true (sym e))
-allowed_unfit room t (shape.OneofMember o) (kind.Message j) e = absurd (false≢true (sym e))
-allowed_unfit room t (shape.List p) k e = tt
-allowed_unfit room t shape.Implicit k e = tt
-allowed_unfit room t shape.Explicit k e = tt
-allowed_unfit room t (shape.OneofMember o) k e = tt
+allowed_unfit : (depth_left t : ℕ) (s : Shape) (k : Kind) → fits_shape s k 2 ≡ false → IsAllowed depth_left (read_shaped (in_message t) s k)
+allowed_unfit depth_left t (shape.Map key) k e = absurd (false≢true (sym e))
+allowed_unfit depth_left t (shape.List p) (kind.Message j) e = absurd (false≢true (sym e))
+allowed_unfit depth_left t shape.Implicit (kind.Message j) e = absurd (false≢true (sym e))
+allowed_unfit depth_left t shape.Explicit (kind.Message j) e = absurd (false≢true (sym e))
+allowed_unfit depth_left t (shape.OneofMember o) (kind.Message j) e = absurd (false≢true (sym e))
+allowed_unfit depth_left t (shape.List p) k e = tt
+allowed_unfit depth_left t shape.Implicit k e = tt
+allowed_unfit depth_left t shape.Explicit k e = tt
+allowed_unfit depth_left t (shape.OneofMember o) k e = tt
 
-allowed_shape : (room t k : ℕ) (kd : Kind) (s : Shape) (meant : Purpose) → OfShape kd s k 2 meant → IsRoomFor room meant → IsAllowed room (read_shaped (in_message t) s kd)
-allowed_shape room t k kd s (purpose.Entry key k2) h some = allowed_below room (read_shaped (in_message t) s kd) (some refl)
-allowed_shape room t k kd s (purpose.Message j (slot.One s2 n2)) h some = allowed_below room (read_shaped (in_message t) s kd) (some refl)
-allowed_shape room t k kd s (purpose.Message j (slot.List n2)) h some = allowed_below room (read_shaped (in_message t) s kd) (some refl)
-allowed_shape room t k kd s (purpose.Message j (slot.Map n2)) h some = allowed_below room (read_shaped (in_message t) s kd) (some refl)
-allowed_shape room t k kd s (purpose.Message j (slot.Unknown n2)) h some = allowed_below room (read_shaped (in_message t) s kd) (some refl)
-allowed_shape room t k kd (shape.Map key) (purpose.One k2 s2) h some = absurd h
-allowed_shape room t k kd (shape.Map key) (purpose.Element k2) h some = absurd h
-allowed_shape room t k kd (shape.Map key) (purpose.Packed k2) h some = absurd h
-allowed_shape room t k kd (shape.Map key) (purpose.Message j slot.Entry) h some = absurd h
-allowed_shape room t k kd (shape.Map key) (purpose.Key k2) h some = absurd h
-allowed_shape room t k kd (shape.Map key) (purpose.EntryValue k2) h some = absurd h
-allowed_shape room t k kd (shape.Map key) purpose.Unknown h some = absurd h
-allowed_shape room t k kd (shape.List p) (purpose.One k2 s2) h some = absurd h
-allowed_shape room t k kd (shape.List p) (purpose.Element k2) h some = allowed_scalar room t (shape.List p) kd h.1 (λ key e. cc)
-allowed_shape room t k kd (shape.List p) (purpose.Packed k2) h some = allowed_scalar room t (shape.List p) kd h.1 (λ key e. cc)
-allowed_shape room t k kd (shape.List p) (purpose.Message j slot.Entry) h some = absurd h
-allowed_shape room t k kd (shape.List p) (purpose.Key k2) h some = absurd h
-allowed_shape room t k kd (shape.List p) (purpose.EntryValue k2) h some = absurd h
-allowed_shape room t k kd (shape.List p) purpose.Unknown h some = absurd h
-allowed_shape room t k kd shape.Implicit (purpose.One k2 s2) h some = allowed_scalar room t shape.Implicit kd h.2 (λ key e. cc)
-allowed_shape room t k kd shape.Implicit (purpose.Element k2) h some = absurd h
-allowed_shape room t k kd shape.Implicit (purpose.Packed k2) h some = absurd h
-allowed_shape room t k kd shape.Implicit (purpose.Message j slot.Entry) h some = absurd h
-allowed_shape room t k kd shape.Implicit (purpose.Key k2) h some = absurd h
-allowed_shape room t k kd shape.Implicit (purpose.EntryValue k2) h some = absurd h
-allowed_shape room t k kd shape.Implicit purpose.Unknown h some = absurd h
-allowed_shape room t k kd shape.Explicit (purpose.One k2 s2) h some = allowed_scalar room t shape.Explicit kd h.2 (λ key e. cc)
-allowed_shape room t k kd shape.Explicit (purpose.Element k2) h some = absurd h
-allowed_shape room t k kd shape.Explicit (purpose.Packed k2) h some = absurd h
-allowed_shape room t k kd shape.Explicit (purpose.Message j slot.Entry) h some = absurd h
-allowed_shape room t k kd shape.Explicit (purpose.Key k2) h some = absurd h
-allowed_shape room t k kd shape.Explicit (purpose.EntryValue k2) h some = absurd h
-allowed_shape room t k kd shape.Explicit purpose.Unknown h some = absurd h
-allowed_shape room t k kd (shape.OneofMember o) (purpose.One k2 s2) h some = allowed_scalar room t (shape.OneofMember o) kd h.2 (λ key e. cc)
-allowed_shape room t k kd (shape.OneofMember o) (purpose.Element k2) h some = absurd h
-allowed_shape room t k kd (shape.OneofMember o) (purpose.Packed k2) h some = absurd h
-allowed_shape room t k kd (shape.OneofMember o) (purpose.Message j slot.Entry) h some = absurd h
-allowed_shape room t k kd (shape.OneofMember o) (purpose.Key k2) h some = absurd h
-allowed_shape room t k kd (shape.OneofMember o) (purpose.EntryValue k2) h some = absurd h
-allowed_shape room t k kd (shape.OneofMember o) purpose.Unknown h some = absurd h
+allowed_shape : (depth_left t k : ℕ) (kd : Kind) (s : Shape) (meant : Target) → OfShape kd s k 2 meant → HasLevelFor depth_left meant → IsAllowed depth_left (read_shaped (in_message t) s kd)
+allowed_shape depth_left t k kd s (target.Entry key k2) h some = allowed_below depth_left (read_shaped (in_message t) s kd) (some refl)
+allowed_shape depth_left t k kd s (target.Message j (slot.One s2 n2)) h some = allowed_below depth_left (read_shaped (in_message t) s kd) (some refl)
+allowed_shape depth_left t k kd s (target.Message j (slot.List n2)) h some = allowed_below depth_left (read_shaped (in_message t) s kd) (some refl)
+allowed_shape depth_left t k kd s (target.Message j (slot.Map n2)) h some = allowed_below depth_left (read_shaped (in_message t) s kd) (some refl)
+allowed_shape depth_left t k kd s (target.Message j (slot.Unknown n2)) h some = allowed_below depth_left (read_shaped (in_message t) s kd) (some refl)
+allowed_shape depth_left t k kd (shape.Map key) (target.One k2 s2) h some = absurd h
+allowed_shape depth_left t k kd (shape.Map key) (target.Element k2) h some = absurd h
+allowed_shape depth_left t k kd (shape.Map key) (target.Packed k2) h some = absurd h
+allowed_shape depth_left t k kd (shape.Map key) (target.Message j slot.Entry) h some = absurd h
+allowed_shape depth_left t k kd (shape.Map key) (target.Key k2) h some = absurd h
+allowed_shape depth_left t k kd (shape.Map key) (target.EntryValue k2) h some = absurd h
+allowed_shape depth_left t k kd (shape.Map key) target.Unknown h some = absurd h
+allowed_shape depth_left t k kd (shape.List p) (target.One k2 s2) h some = absurd h
+allowed_shape depth_left t k kd (shape.List p) (target.Element k2) h some = allowed_scalar depth_left t (shape.List p) kd h.1 (λ key e. cc)
+allowed_shape depth_left t k kd (shape.List p) (target.Packed k2) h some = allowed_scalar depth_left t (shape.List p) kd h.1 (λ key e. cc)
+allowed_shape depth_left t k kd (shape.List p) (target.Message j slot.Entry) h some = absurd h
+allowed_shape depth_left t k kd (shape.List p) (target.Key k2) h some = absurd h
+allowed_shape depth_left t k kd (shape.List p) (target.EntryValue k2) h some = absurd h
+allowed_shape depth_left t k kd (shape.List p) target.Unknown h some = absurd h
+allowed_shape depth_left t k kd shape.Implicit (target.One k2 s2) h some = allowed_scalar depth_left t shape.Implicit kd h.2 (λ key e. cc)
+allowed_shape depth_left t k kd shape.Implicit (target.Element k2) h some = absurd h
+allowed_shape depth_left t k kd shape.Implicit (target.Packed k2) h some = absurd h
+allowed_shape depth_left t k kd shape.Implicit (target.Message j slot.Entry) h some = absurd h
+allowed_shape depth_left t k kd shape.Implicit (target.Key k2) h some = absurd h
+allowed_shape depth_left t k kd shape.Implicit (target.EntryValue k2) h some = absurd h
+allowed_shape depth_left t k kd shape.Implicit target.Unknown h some = absurd h
+allowed_shape depth_left t k kd shape.Explicit (target.One k2 s2) h some = allowed_scalar depth_left t shape.Explicit kd h.2 (λ key e. cc)
+allowed_shape depth_left t k kd shape.Explicit (target.Element k2) h some = absurd h
+allowed_shape depth_left t k kd shape.Explicit (target.Packed k2) h some = absurd h
+allowed_shape depth_left t k kd shape.Explicit (target.Message j slot.Entry) h some = absurd h
+allowed_shape depth_left t k kd shape.Explicit (target.Key k2) h some = absurd h
+allowed_shape depth_left t k kd shape.Explicit (target.EntryValue k2) h some = absurd h
+allowed_shape depth_left t k kd shape.Explicit target.Unknown h some = absurd h
+allowed_shape depth_left t k kd (shape.OneofMember o) (target.One k2 s2) h some = allowed_scalar depth_left t (shape.OneofMember o) kd h.2 (λ key e. cc)
+allowed_shape depth_left t k kd (shape.OneofMember o) (target.Element k2) h some = absurd h
+allowed_shape depth_left t k kd (shape.OneofMember o) (target.Packed k2) h some = absurd h
+allowed_shape depth_left t k kd (shape.OneofMember o) (target.Message j slot.Entry) h some = absurd h
+allowed_shape depth_left t k kd (shape.OneofMember o) (target.Key k2) h some = absurd h
+allowed_shape depth_left t k kd (shape.OneofMember o) (target.EntryValue k2) h some = absurd h
+allowed_shape depth_left t k kd (shape.OneofMember o) target.Unknown h some = absurd h
 
-allowed_field : (room t k : ℕ) (o : Option FieldView) (meant : Purpose) → AtField o k 2 meant → IsRoomFor room meant → IsAllowed room (read_field (in_message t) o)
-allowed_field room t k None meant h some = tt
-allowed_field room t k (Some f) purpose.Unknown h some = allowed_unfit room t f.shape f.kind h
-allowed_field room t k (Some f) (purpose.One k2 s2) h some = allowed_shape room t k f.kind f.shape (purpose.One k2 s2) h.1 some
-allowed_field room t k (Some f) (purpose.Element k2) h some = allowed_shape room t k f.kind f.shape (purpose.Element k2) h.1 some
-allowed_field room t k (Some f) (purpose.Packed k2) h some = allowed_shape room t k f.kind f.shape (purpose.Packed k2) h.1 some
-allowed_field room t k (Some f) (purpose.Message j s) h some = allowed_shape room t k f.kind f.shape (purpose.Message j s) h.1 some
-allowed_field room t k (Some f) (purpose.Entry key k2) h some = allowed_shape room t k f.kind f.shape (purpose.Entry key k2) h.1 some
-allowed_field room t k (Some f) (purpose.Key k2) h some = allowed_shape room t k f.kind f.shape (purpose.Key k2) h.1 some
-allowed_field room t k (Some f) (purpose.EntryValue k2) h some = allowed_shape room t k f.kind f.shape (purpose.EntryValue k2) h.1 some
+allowed_field : (depth_left t k : ℕ) (o : Option FieldView) (meant : Target) → AtField o k 2 meant → HasLevelFor depth_left meant → IsAllowed depth_left (read_field (in_message t) o)
+allowed_field depth_left t k None meant h some = tt
+allowed_field depth_left t k (Some f) target.Unknown h some = allowed_unfit depth_left t f.shape f.kind h
+allowed_field depth_left t k (Some f) (target.One k2 s2) h some = allowed_shape depth_left t k f.kind f.shape (target.One k2 s2) h.1 some
+allowed_field depth_left t k (Some f) (target.Element k2) h some = allowed_shape depth_left t k f.kind f.shape (target.Element k2) h.1 some
+allowed_field depth_left t k (Some f) (target.Packed k2) h some = allowed_shape depth_left t k f.kind f.shape (target.Packed k2) h.1 some
+allowed_field depth_left t k (Some f) (target.Message j s) h some = allowed_shape depth_left t k f.kind f.shape (target.Message j s) h.1 some
+allowed_field depth_left t k (Some f) (target.Entry key k2) h some = allowed_shape depth_left t k f.kind f.shape (target.Entry key k2) h.1 some
+allowed_field depth_left t k (Some f) (target.Key k2) h some = allowed_shape depth_left t k f.kind f.shape (target.Key k2) h.1 some
+allowed_field depth_left t k (Some f) (target.EntryValue k2) h some = allowed_shape depth_left t k f.kind f.shape (target.EntryValue k2) h.1 some
 
 -- in an entry nothing is a level below
-allowed_explicit : (room : ℕ) (key kd k : Kind) → IsAllowed room (read_singular (an_entry key kd) k)
-allowed_explicit room key kd (kind.Message j) = tt
-allowed_explicit room key kd kind.Text = tt
-allowed_explicit room key kd k = tt
+allowed_explicit : (depth_left : ℕ) (key kd k : Kind) → IsAllowed depth_left (read_singular (an_entry key kd) k)
+allowed_explicit depth_left key kd (kind.Message j) = tt
+allowed_explicit depth_left key kd kind.Text = tt
+allowed_explicit depth_left key kd k = tt
 
-allowed_entry : (room : ℕ) (key kd : Kind) (a b : Bool) → IsAllowed room (read_field (an_entry key kd) (if a then Some (key_field key) else (if b then Some (value_field kd) else None)))
-allowed_entry room key kd true b = allowed_explicit room key kd key
-allowed_entry room key kd false true = allowed_explicit room key kd kd
-allowed_entry room key kd false false = tt
+allowed_entry : (depth_left : ℕ) (key kd : Kind) (a b : Bool) → IsAllowed depth_left (read_field (an_entry key kd) (if a then Some (key_field key) else (if b then Some (value_field kd) else None)))
+allowed_entry depth_left key kd true b = allowed_explicit depth_left key kd key
+allowed_entry depth_left key kd false true = allowed_explicit depth_left key kd kd
+allowed_entry depth_left key kd false false = tt
 
-pub reads_allowed : (pool : Types) (now : Part) (k room : ℕ) (meant : Purpose) → Means pool (part_context now) k 2 meant → IsRoomFor room meant → IsAllowed room ((schema_of pool).reading (part_context now) k)
-reads_allowed pool (message_part t v) k room meant h some = allowed_field room t k (field_numbered k (message_fields pool t)) meant h some
-reads_allowed pool (entry_part key kd x d) k room meant h some = allowed_entry room key kd (1 == k) (2 == k)
-reads_allowed pool (group_part us) k room meant h some = tt
+pub reads_allowed : (pool : Types) (now : Part) (k depth_left : ℕ) (meant : Target) → Means pool (part_context now) k 2 meant → HasLevelFor depth_left meant → IsAllowed depth_left ((schema_of pool).reading (part_context now) k)
+reads_allowed pool (message_part t v) k depth_left meant h some = allowed_field depth_left t k (field_numbered k (message_fields pool t)) meant h some
+reads_allowed pool (entry_part key kd x d) k depth_left meant h some = allowed_entry depth_left key kd (1 == k) (2 == k)
+reads_allowed pool (group_part us) k depth_left meant h some = tt
 
 -- a length that is refused, below the step of its record
 pub length_refused :
-    {pool : Types} {m depth levels : ℕ} {base : List Record} {p0 : Place} {frames : List Frame} {scope : Scope} {next : Step} {now : Part} {u : Place} (k : ℕ) (meant : Purpose) (g : Fault)
+    {pool : Types} {m depth levels : ℕ} {base : List Record} {p0 : Place} {frames : List Frame} {scope : Scope} {next : Step} {now : Part} {u : Place} (k : ℕ) (meant : Target) (g : Fault)
     → After pool m depth levels base p0 frames next now scope u → awaited next ≡ Some (tag k 2 meant) → LengthFault u g → Bad (schema_of pool) (records (in_message m)) depth p0 (below (path_of frames) (in_record (next_step k scope) g))
 length_refused {pool} {scope = scope} {now = now} k meant g a is bad =
     let behind = at_tag (tag k 2 meant) a is in
     told_inside k 2 g behind.stands behind.has
     (RecordFault.length_of behind.has
-    (subst (λ (c : Context). IsAllowed scope.room ((schema_of pool).reading c k)) (sym (part_of_context now (context_of behind.stands.open_now) behind.stands.form)) (reads_allowed pool now k scope.room meant behind.means behind.room_for)) bad refl)
+    (subst (λ (c : Context). IsAllowed scope.depth_left ((schema_of pool).reading c k)) (sym (part_of_context now (context_of behind.stands.open_now) behind.stands.form)) (reads_allowed pool now k scope.depth_left meant behind.means behind.room_for)) bad refl)
 
 -- a payload that passes the known end
 pub passes_end : {u t : Place} {n : ℕ} (begin e : ℕ) → Reads u n t → n < 2 ^ 31 → t.at ≡ begin → EndsAt u (Some e) → e - begin < n → LengthFault u (fault u.at [] PastEnd)

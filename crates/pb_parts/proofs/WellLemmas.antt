@@ -46,7 +46,7 @@ all_parts P (x ∷ xs) ys h = let rest = all_parts P xs ys h.1 in ((h.0, rest.0)
 moved_bytes : {p q : Place} (front : List ℕ) → Moves p front q → AreBytes p.rest → AreBytes front × AreBytes q.rest
 moved_bytes {p} {q} front m h = all_parts IsByte front q.rest (subst AreBytes m.given h)
 
-begun_bytes : {S : Schema} {a o : Open S.Context} {room below k : ℕ} {q u : Place} → Begun S a room k q o below u → AreBytes q.rest → AreBytes u.rest
+begun_bytes : {S : Schema} {a o : Open S.Context} {depth_left below k : ℕ} {q u : Place} → Begun S a depth_left k q o below u → AreBytes q.rest → AreBytes u.rest
 begun_bytes (opened.a_message levels tag re l is_open is_place) h =
     subst (λ (z : Place). AreBytes z.rest) (sym is_place) (moved_bytes l.length_is.0 l.length_is.2 (moved_bytes tag.tag.0 tag.tag.2 h).1).1
 begun_bytes (opened.a_value levels tag re l is_open is_place) h =
@@ -55,23 +55,23 @@ begun_bytes (opened.a_group levels tag is_open is_place) h = subst (λ (z : Plac
 
 -- the bytes of the open part
 pub held_bytes :
-    {pool : Types} {m depth levels : ℕ} {base : List Record} {p0 : Place} {frames : List Frame} {now : Part} {o : Open Context} {room inner : ℕ} {path : List PathStep} {p : Place} {earlier : List Record}
-    → Held pool m depth levels base p0 frames now o room inner path p earlier → AreBytes p0.rest → AreBytes p.rest
+    {pool : Types} {m depth levels : ℕ} {base : List Record} {p0 : Place} {frames : List Frame} {now : Part} {o : Open Context} {depth_left inner : ℕ} {path : List PathStep} {p : Place} {earlier : List Record}
+    → Held pool m depth levels base p0 frames now o depth_left inner path p earlier → AreBytes p0.rest → AreBytes p.rest
 held_bytes (at_top v form is_open is_room is_inner is_path is_place is_base goes_on) h = subst (λ (z : Place). AreBytes z.rest) (sym is_place) h
 held_bytes (inside up b begun form can deep completes is_path counts ends goes_on takes) h = begun_bytes begun (moved_bytes b.front b.moves (held_bytes up h)).1
 
 pub goes_on_held :
-    {pool : Types} {m depth levels : ℕ} {base : List Record} {p0 : Place} {frames : List Frame} {now : Part} {o : Open Context} {room inner : ℕ} {path : List PathStep} {p : Place} {earlier : List Record}
-    → Held pool m depth levels base p0 frames now o room inner path p earlier → GoesOnFrom pool inner now earlier
+    {pool : Types} {m depth levels : ℕ} {base : List Record} {p0 : Place} {frames : List Frame} {now : Part} {o : Open Context} {depth_left inner : ℕ} {path : List PathStep} {p : Place} {earlier : List Record}
+    → Held pool m depth levels base p0 frames now o depth_left inner path p earlier → GoesOnFrom pool inner now earlier
 goes_on_held (at_top v form is_open is_room is_inner is_path is_place is_base goes_on) = goes_on
 goes_on_held (inside up b begun form can deep completes is_path counts ends goes_on takes) = goes_on
 
 -- the records so far are in range, can be written, and are sound
 records_good :
     {pool : Types} {m depth levels : ℕ} {base : List Record} {p0 : Place} {frames : List Frame} {scope : Scope} {now : Part} {q : Place} (s : Stands pool m depth levels base p0 frames now scope q)
-    → AllGood pool (context_of s.open_now) scope.room s.records_so_far
+    → AllGood pool (context_of s.open_now) scope.depth_left s.records_so_far
 records_good {pool} {scope = scope} s =
-    all_good pool (context_of s.open_now) scope.room s.records_so_far
+    all_good pool (context_of s.open_now) scope.depth_left s.records_so_far
     (spelled_in_range s.records_so_far s.behind.front s.behind.spelled (moved_bytes s.behind.front s.behind.moves (held_bytes s.held s.bytes)).0)
     (spelled_writable s.records_so_far s.behind.front s.behind.spelled) s.behind.sound
 
@@ -81,15 +81,15 @@ pub message_good :
     → (s : Stands pool m depth levels base p0 frames (message_part k v) scope q) → IsBody pool k v × (message_depth v < s.inner)
 message_good {pool} {scope = scope} ok k v s = by_level s.inner s.deep (goes_on_held s.held) s.worth
   where
-    good : AllGood pool (in_message k) scope.room s.records_so_far
-    good = subst (λ (c : Context). AllGood pool c scope.room s.records_so_far) s.form (records_good s)
+    good : AllGood pool (in_message k) scope.depth_left s.records_so_far
+    good = subst (λ (c : Context). AllGood pool c scope.depth_left s.records_so_far) s.form (records_good s)
 
-    by_level : (l : ℕ) → scope.room < l → (k < length pool.messages) × IsBody pool k (value_within pool l k s.earlier) × (message_depth (value_within pool l k s.earlier) < l) → v ≡ value_within pool l k (s.earlier ++ s.records_so_far)
+    by_level : (l : ℕ) → scope.depth_left < l → (k < length pool.messages) × IsBody pool k (value_within pool l k s.earlier) × (message_depth (value_within pool l k s.earlier) < l) → v ≡ value_within pool l k (s.earlier ++ s.records_so_far)
         → IsBody pool k v × (message_depth v < l)
     by_level zero deep h w = absurd (omega (arith, deep))
     by_level (suc l) deep h w =
         let low = h.2 in
-        let made = within_onward pool ok (suc l) k l scope.room s.earlier s.records_so_far (omega arith) (omega (arith, deep)) h.1 (omega (arith, low)) good in
+        let made = within_onward pool ok (suc l) k l scope.depth_left s.earlier s.records_so_far (omega arith) (omega (arith, deep)) h.1 (omega (arith, low)) good in
         let shallow = made.1 in
         subst (λ (z : Message). IsBody pool k z × (message_depth z < suc l)) (sym w) (made.0, omega (arith, shallow))
 
@@ -155,20 +155,20 @@ can_hold ok (group_part us) s = tt
 
 module _ {pool : Types} {m depth levels : ℕ} {base : List Record} {p0 : Place} {frames : List Frame} {scope : Scope} {q : Place} (ok : IsPool pool) (key kd : Kind) (x : Option Scalar) (d : Option Datum)
     (s : Stands pool m depth levels base p0 frames (entry_part key kd x d) scope q) where
-  entry_records : AllGood pool (an_entry key kd) scope.room (s.earlier ++ s.records_so_far)
+  entry_records : AllGood pool (an_entry key kd) scope.depth_left (s.earlier ++ s.records_so_far)
   entry_records =
       let none : s.earlier ≡ [] = (goes_on_held s.held).0 in
-      subst (λ (z : List Record). AllGood pool (an_entry key kd) scope.room (z ++ s.records_so_far)) (sym none)
-      (subst (λ (c : Context). AllGood pool c scope.room s.records_so_far) s.form (records_good s))
+      subst (λ (z : List Record). AllGood pool (an_entry key kd) scope.depth_left (z ++ s.records_so_far)) (sym none)
+      (subst (λ (c : Context). AllGood pool c scope.depth_left s.records_so_far) s.form (records_good s))
 
-  inside_good : (m room : ℕ) (rs : List Record) → room < s.inner → AllGood pool (in_message m) room rs → IsBody pool m (value_within pool s.inner m rs) × (message_depth (value_within pool s.inner m rs) ≤ room)
-  inside_good m room rs l h = within-good pool ok s.inner m room rs l h
+  inside_good : (m depth_left : ℕ) (rs : List Record) → depth_left < s.inner → AllGood pool (in_message m) depth_left rs → IsBody pool m (value_within pool s.inner m rs) × (message_depth (value_within pool s.inner m rs) ≤ depth_left)
+  inside_good m depth_left rs l h = within-good pool ok s.inner m depth_left rs l h
 
   -- its key, or the default, is of the kind of its keys
   pub key_good : IsOfKind key (unwrap_or x (default_of key))
   key_good =
       subst (λ (z : Option Scalar). IsOfKind key (unwrap_or z (default_of key))) (sym s.worth.0)
-      (entry-good pool (value_within pool s.inner) s.inner inside_good key kd scope.room (s.earlier ++ s.records_so_far) s.deep (goes_on_held s.held).1 (goes_on_held s.held).3 entry_records).first
+      (entry-good pool (value_within pool s.inner) s.inner inside_good key kd scope.depth_left (s.earlier ++ s.records_so_far) s.deep (goes_on_held s.held).1 (goes_on_held s.held).3 entry_records).first
 
   -- the message that its value goes on from
   pub entry_value_good :
@@ -176,11 +176,11 @@ module _ {pool : Types} {m depth levels : ℕ} {base : List Record} {p0 : Place}
       → IsBody pool j.0 (value_within pool s.inner j.0 (joined (fitting (value_field kd) (s.earlier ++ s.records_so_far))))
       × (message_depth (value_within pool s.inner j.0 (joined (fitting (value_field kd) (s.earlier ++ s.records_so_far)))) < s.inner)
   entry_value_good j is =
-      let all = all_count pool (an_entry key kd) scope.room (value_field kd) refl (fitting (value_field kd) (s.earlier ++ s.records_so_far))
-      (all_filter (IsGood pool (an_entry key kd) scope.room) (fits (value_field kd)) (s.earlier ++ s.records_so_far) entry_records) in
-      let good = joined-good_entry pool (value_within pool s.inner) s.inner inside_good key kd scope.room shape.Explicit j (fitting (value_field kd) (s.earlier ++ s.records_so_far)) refl
-      (subst (λ (z : Kind). AllCount pool (an_entry key kd) scope.room shape.Explicit z (fitting (value_field kd) (s.earlier ++ s.records_so_far))) is all) in
-      let made = inside_good j.0 scope.room (joined (fitting (value_field kd) (s.earlier ++ s.records_so_far))) s.deep good in
+      let all = all_count pool (an_entry key kd) scope.depth_left (value_field kd) refl (fitting (value_field kd) (s.earlier ++ s.records_so_far))
+      (all_filter (IsGood pool (an_entry key kd) scope.depth_left) (fits (value_field kd)) (s.earlier ++ s.records_so_far) entry_records) in
+      let good = joined-good_entry pool (value_within pool s.inner) s.inner inside_good key kd scope.depth_left shape.Explicit j (fitting (value_field kd) (s.earlier ++ s.records_so_far)) refl
+      (subst (λ (z : Kind). AllCount pool (an_entry key kd) scope.depth_left shape.Explicit z (fitting (value_field kd) (s.earlier ++ s.records_so_far))) is all) in
+      let made = inside_good j.0 scope.depth_left (joined (fitting (value_field kd) (s.earlier ++ s.records_so_far))) s.deep good in
       let low = made.1 in
       let deep = s.deep in
       (made.0, omega (arith, low, deep))
@@ -193,6 +193,6 @@ pub fits_keys :
 fits_keys {pool} {m} {depth} {levels} {base} {p0} {frame} {frames} {scope} {q} ok key kd x d k n v s is_part is_slot =
     (key, key_good ok key kd x d s, subst (λ (z : Slot). Takes z (message_part k v) (entry_part key kd x d)) is_slot (subst (λ (z : Part). Takes frame.slot z (entry_part key kd x d)) is_part (keys_held s.held)))
   where
-    keys_held : {o : Open Context} {room inner : ℕ} {path : List PathStep} {p : Place} {earlier : List Record} → Held pool m depth levels base p0 (frame ∷ frames) (entry_part key kd x d) o room inner path p earlier
+    keys_held : {o : Open Context} {depth_left inner : ℕ} {path : List PathStep} {p : Place} {earlier : List Record} → Held pool m depth levels base p0 (frame ∷ frames) (entry_part key kd x d) o depth_left inner path p earlier
         → Takes frame.slot frame.part (entry_part key kd x d)
     keys_held (inside up b begun form can deep completes is_path counts ends goes_on takes) = takes.0

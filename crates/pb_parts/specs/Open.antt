@@ -2,8 +2,7 @@
 pub mod Opened
 pub mod Frames
 pub mod PartView
-pub mod Purposes
-pub mod KnownPurpose
+pub mod Targets
 pub mod Occurrences
 pub mod Openings
 pub mod Opens

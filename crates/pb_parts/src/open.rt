@@ -1,7 +1,6 @@
 //! The open parts, what records are for in them, and what they open.
 
-pub mod known_purpose;
 pub mod occurrences;
 pub mod opening;
 pub mod part;
-pub mod purpose;
+pub mod target;

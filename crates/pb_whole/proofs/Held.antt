@@ -21,7 +21,7 @@ pub frame_can_hold :
     {pool : Types} {m depth levels : ℕ} {base : List Record} {p0 : Place} {frame : Frame} {frames : List Frame} {scope : Scope} {now : Part} {q : Place} → Stands pool m depth levels base p0 (frame ∷ frames) now scope q → CanHold pool frame.part
 frame_can_hold {pool} {m} {depth} {levels} {base} {p0} {frame} {frames} {scope} {now} {q} s = from_held s.held
   where
-    from_held : {o : Open Context} {room inner : ℕ} {path : List PathStep} {p : Place} {earlier : List Record} → Held pool m depth levels base p0 (frame ∷ frames) now o room inner path p earlier → CanHold pool frame.part
+    from_held : {o : Open Context} {depth_left inner : ℕ} {path : List PathStep} {p : Place} {earlier : List Record} → Held pool m depth levels base p0 (frame ∷ frames) now o depth_left inner path p earlier → CanHold pool frame.part
     from_held (inside up h begun form can deep completes is_path counts ends goes_on takes) = can
 
 -- its map has keys of the kind of the entry's key

@@ -24,7 +24,7 @@ use Rattle.pb_parts.specs.declared.tokens.step.Step.TheVariants as step
 -- inside the list's payload the message is that of the records before it and of the elements so far
 members_in :
     {pool : Types} {m depth levels : ℕ} {base : List Record} {p0 : Place} {frames : List Frame} {scope : Scope} {now : Part} {u : Place} (k : ℕ) (kd : Kind) (outer : Option ℕ)
-    (list : AtList pool m depth levels base p0 frames now scope k kd outer u) → AllDiffer (map (λ (f : FieldView). f.number) (message_fields pool list.message_type)) → (i : ℕ) → scope.room < i
+    (list : AtList pool m depth levels base p0 frames now scope k kd outer u) → AllDiffer (map (λ (f : FieldView). f.number) (message_fields pool list.message_type)) → (i : ℕ) → scope.depth_left < i
     → list.before ≡ value_within pool i list.message_type (list.stands.earlier ++ list.stands.records_so_far)
     → HasOneMemberEach (message_fields pool list.message_type) (fields_of (with_elements pool k kd list.front list.before))
 members_in k kd outer list differ zero deep w = absurd (omega (arith, deep))

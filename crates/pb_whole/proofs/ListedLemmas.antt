@@ -12,10 +12,10 @@ use Rattle.pb_value.specs.declared.body.Body.{Body}
 use Rattle.pb_value.specs.declared.body.Value.{Value}
 use Rattle.pb_value.proofs.Views.{value_view-Message}
 use Rattle.pb_parts.specs.declared.open.part.Slot.TheVariants.{List as ListSlot}
-use Rattle.pb_parts.specs.declared.open.purpose.Purpose.{Purpose}
-use Rattle.pb_parts.specs.declared.open.purpose.Purpose.TheVariants.{Element, Message}
+use Rattle.pb_parts.specs.declared.open.target.Target.{Target}
+use Rattle.pb_parts.specs.declared.open.target.Target.TheVariants.{Element, Message}
 use Rattle.pb_parts.specs.Open.Frames.{Part, message_part, entry_part, group_part, put_message}
-use Rattle.pb_parts.specs.Open.Purposes.{Means, part_context}
+use Rattle.pb_parts.specs.Open.Targets.{Means, part_context}
 use Rattle.pb_parts.specs.Values.Run.{put_listed, put_each}
 use Rattle.pb_whole.specs.Reads.{ReadsTo}
 use Rattle.pb_whole.specs.Listed.{ReadsRun, ReadsList, IsListOpen}
@@ -35,28 +35,28 @@ each_context n (d ∷ ds) p = each_context n ds (put_listed n d p) ∙ listed_co
 
 -- so the records of a number mean what they did
 still_means :
-    (pool : Types) (type number : ℕ) (meant : Purpose) (ds : List Datum) (now : Part) → Means pool (part_context now) number type meant → Means pool (part_context (put_each number ds now)) number type meant
+    (pool : Types) (type number : ℕ) (meant : Target) (ds : List Datum) (now : Part) → Means pool (part_context now) number type meant → Means pool (part_context (put_each number ds now)) number type meant
 still_means pool type number meant ds now = subst (λ (z : Context). Means pool z number type meant) (sym (each_context number ds now))
 
 -- ONE MORE RECORD of the list after those that are read
 pub values_further :
-    {pool : Types} (type number : ℕ) (meant : Purpose) (vs ws : List Value) (v : Value) (bytes : List ℕ) (left room used more : ℕ) → ws ≡ vs ++ v ∷ [] → ReadsRun pool number type meant (map value_view vs) bytes left room used
-    → ReadsRun pool number type meant (value_view v ∷ []) (take (length bytes - used) (drop used bytes)) (left - used) room more → ReadsRun pool number type meant (map value_view ws) bytes left room (used + more)
-values_further {pool} type number meant vs ws v bytes left room used more is so_far next now means =
+    {pool : Types} (type number : ℕ) (meant : Target) (vs ws : List Value) (v : Value) (bytes : List ℕ) (left depth_left used more : ℕ) → ws ≡ vs ++ v ∷ [] → ReadsRun pool number type meant (map value_view vs) bytes left depth_left used
+    → ReadsRun pool number type meant (value_view v ∷ []) (take (length bytes - used) (drop used bytes)) (left - used) depth_left more → ReadsRun pool number type meant (map value_view ws) bytes left depth_left (used + more)
+values_further {pool} type number meant vs ws v bytes left depth_left used more is so_far next now means =
     let then : Part = put_each number (map value_view vs) now in
     let still = still_means pool type number meant (map value_view vs) now means in
     let same : put_each number (value_view v ∷ []) then ≡ put_each number (map value_view ws) now =
     sym
     (ap (λ (z : List Value). put_each number (map value_view z) now) is ∙ ap (λ (z : List Datum). put_each number z now) (map-append value_view vs (v ∷ []))
     ∙ each_next number (map value_view vs) (value_view v) now) in
-    subst (λ (z : Part). ReadsTo pool now z bytes left room (used + more)) same
-    (filled_further now then (put_each number (value_view v ∷ []) then) bytes left room used more (so_far now means) (next then still))
+    subst (λ (z : Part). ReadsTo pool now z bytes left depth_left (used + more)) same
+    (filled_further now then (put_each number (value_view v ∷ []) then) bytes left depth_left used more (so_far now means) (next then still))
 
 pub listed_further :
     {pool : Types} (kind : Kind) (number : ℕ) (vs ws : List Value) (v : Value) (bytes : List ℕ) (left used more : ℕ) → ws ≡ vs ++ v ∷ [] → ReadsList pool kind number (map value_view vs) bytes left used
     → ReadsList pool kind number (value_view v ∷ []) (take (length bytes - used) (drop used bytes)) (left - used) more → ReadsList pool kind number (map value_view ws) bytes left (used + more)
-listed_further kind number vs ws v bytes left used more is so_far next room =
-    values_further (wire_type_of kind) number (Element kind) vs ws v bytes left room used more is (so_far room) (next room)
+listed_further kind number vs ws v bytes left used more is so_far next depth_left =
+    values_further (wire_type_of kind) number (Element kind) vs ws v bytes left depth_left used more is (so_far depth_left) (next depth_left)
 
 -- A LIST OF MESSAGES: one goes to its end
 message_listed_view : (pool : Types) (n : ℕ) (p : Part) (w : MessageOf) → put_listed n (message w) p ≡ put_message pool (ListSlot n) p w
@@ -69,16 +69,16 @@ message_listed pool n p b = ap (λ (d : Datum). put_listed n d p) (value_view-Me
 
 -- no message is read yet
 pub none_listed :
-    {pool : Types} (type number : ℕ) (meant : Purpose) (vs : List Value) (bytes : List ℕ) (left room : ℕ) → vs ≡ [] → ReadsRun pool number type meant (map value_view vs) bytes left room 0
-none_listed {pool} type number meant vs bytes left room none now means =
-    subst (λ (z : List Value). ReadsTo pool now (put_each number (map value_view z) now) bytes left room 0) (sym none) (nothing_filled now bytes left room)
+    {pool : Types} (type number : ℕ) (meant : Target) (vs : List Value) (bytes : List ℕ) (left depth_left : ℕ) → vs ≡ [] → ReadsRun pool number type meant (map value_view vs) bytes left depth_left 0
+none_listed {pool} type number meant vs bytes left depth_left none now means =
+    subst (λ (z : List Value). ReadsTo pool now (put_each number (map value_view z) now) bytes left depth_left 0) (sym none) (nothing_filled now bytes left depth_left)
 
 -- after these bytes the list is still open
 pub list_further :
-    {pool : Types} {number type : ℕ} {of_type : MessageId} (vs : List Value) (bytes : List ℕ) (left room used : ℕ) → IsListOpen pool number type of_type bytes left room
-    → ReadsRun pool number type (Message of_type (ListSlot number)) (map value_view vs) bytes left room used → IsListOpen pool number type of_type (take (length bytes - used) (drop used bytes)) (left - used) room
-list_further {pool} {number} {type} {of_type} vs bytes left room used from so_far = record {
+    {pool : Types} {number type : ℕ} {of_type : MessageId} (vs : List Value) (bytes : List ℕ) (left depth_left used : ℕ) → IsListOpen pool number type of_type bytes left depth_left
+    → ReadsRun pool number type (Message of_type (ListSlot number)) (map value_view vs) bytes left depth_left used → IsListOpen pool number type of_type (take (length bytes - used) (drop used bytes)) (left - used) depth_left
+list_further {pool} {number} {type} {of_type} vs bytes left depth_left used from so_far = record {
   now = put_each number (map value_view vs) from.now;
-  there = still_open from.now (put_each number (map value_view vs) from.now) bytes left room used from.there (so_far from.now from.means);
+  there = still_open from.now (put_each number (map value_view vs) from.now) bytes left depth_left used from.there (so_far from.now from.means);
   means = still_means pool type number (Message of_type (ListSlot number)) (map value_view vs) from.now from.means;
 }

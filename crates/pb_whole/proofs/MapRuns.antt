@@ -18,7 +18,7 @@ use Rattle.pb_value.specs.declared.body.MapKey.{MapKey}
 use Rattle.pb_value.specs.declared.body.Value.{Value}
 use Rattle.pb_parts.specs.Close.Mapped.{pairs_view, put_mapped, put_all_mapped, FitsMapped, FitMapped, RisesIn}
 use Rattle.pb_parts.specs.Open.Frames.{Part, message_part, entry_part, group_part, put_entry, Scope, Frame, frame_of, one_more_in, EndsAt, up_to, Stands}
-use Rattle.pb_parts.specs.Open.Purposes.{Means, part_context}
+use Rattle.pb_parts.specs.Open.Targets.{Means, part_context}
 use Rattle.pb_parts.specs.Close.Closing.{HasRoomFor}
 use Rattle.pb_whole.specs.Reads.{StandsIn, IsOpen, HasTagAt}
 use Rattle.pb_whole.specs.Entries.{more_in, IsMapOpen}
@@ -29,10 +29,10 @@ use Rattle.pb_parts.proofs.FrameLemmas.{entry_closes}
 use Rattle.pb_whole.proofs.Payloads.{payload_place, place_before, behind_inner, entry_begun, none_left, typed_tag}
 use Rattle.pb_parts.proofs.MapPuts.{mapped_next, pairs_next, fit_next, size_next, all_context}
 use Rattle.pb_parts.specs.declared.open.part.Slot.TheVariants as slot
-use Rattle.pb_parts.specs.declared.open.purpose.Purpose.TheVariants as purpose
+use Rattle.pb_parts.specs.declared.open.target.Target.TheVariants as target
 
 -- THE LEVELS stay
-pub more_room : (k n : ℕ) (s : Scope) → (more_in k n s).room ≡ s.room
+pub more_room : (k n : ℕ) (s : Scope) → (more_in k n s).depth_left ≡ s.depth_left
 more_room k zero s = refl
 more_room k (suc n) s = more_room k n s
 
@@ -56,10 +56,10 @@ rises_in ok (entry_part key2 k2 x d) s = tt
 rises_in ok (group_part us) s = tt
 
 pub entry_in_map :
-    {pool : Types} (bytes : List ℕ) (left : Option ℕ) (number tag_size start size room : ℕ) (key kd : Kind) → IsPool pool → IsMapOpen pool number key kd bytes left room
+    {pool : Types} (bytes : List ℕ) (left : Option ℕ) (number tag_size start size depth_left : ℕ) (key kd : Kind) → IsPool pool → IsMapOpen pool number key kd bytes left depth_left
     → HasTagAt bytes left number 2 tag_size → ((at : ℕ) → HasLength (passed (given_at at left bytes) tag_size) size (passed (given_at at left bytes) start))
-    → 0 < room → IsOpen pool (entry_part key kd None None) (take (length bytes - start) (drop start bytes)) size (room - 1)
-entry_in_map bytes left number tag_size start size room key kd ok from has l some = record {
+    → 0 < depth_left → IsOpen pool (entry_part key kd None None) (take (length bytes - start) (drop start bytes)) size (depth_left - 1)
+entry_in_map bytes left number tag_size start size depth_left key kd ok from has l some = record {
   m = from.m;
   depth = from.depth;
   levels = from.levels;
@@ -67,7 +67,7 @@ entry_in_map bytes left number tag_size start size room key kd ok from has l som
   base = from.base;
   p0 = from.p0;
   frames = frame_of from.now number (slot.Map number) false from.scope ∷ from.frames;
-  stands = entry_begun from.at left bytes number tag_size start size room key kd ok from.stands from.level (has from.at) (l from.at) from.means some;
+  stands = entry_begun from.at left bytes number tag_size start size depth_left key kd ok from.stands from.level (has from.at) (l from.at) from.means some;
 }
 
 mapped_is : (n : ℕ) (p : Part) (key kd : Kind) (x : Option Scalar) (d : Option Datum) (y : Scalar) (e : Datum) → y ≡ unwrap_or x (default_of key) → e ≡ unwrap_or d (missing (λ _ _. empty) kd) → put_mapped n (y, e) p ≡ put_entry (slot.Map n) p key kd x d
@@ -95,8 +95,8 @@ entry_taken {pool} {m} {depth} {levels} {base} {p0} {frames} {scope} {now} at le
 )
 
 -- THE MAP is open where its message is
-pub map_open_in : {pool : Types} {now : Part} (bytes : List ℕ) (left room number : ℕ) (key kd : Kind) → IsOpen pool now bytes left room → Means pool (part_context now) number 2 (purpose.Entry key kd) → IsMapOpen pool number key kd bytes (Some left) room
-map_open_in {pool} {now} bytes left room number key kd from means = record {
+pub map_open_in : {pool : Types} {now : Part} (bytes : List ℕ) (left depth_left number : ℕ) (key kd : Kind) → IsOpen pool now bytes left depth_left → Means pool (part_context now) number 2 (target.Entry key kd) → IsMapOpen pool number key kd bytes (Some left) depth_left
+map_open_in {pool} {now} bytes left depth_left number key kd from means = record {
   m = from.m;
   depth = from.depth;
   levels = from.levels;
@@ -112,14 +112,14 @@ map_open_in {pool} {now} bytes left room number key kd from means = record {
 }
 
 pub run_filled :
-    {pool : Types} {m depth levels : ℕ} {base : List Record} {p0 : Place} {frames : List Frame} {new : Part} {q : Place} (scope : Scope) (now : Part) (number room : ℕ) (items : List (MapKey × Value)) → scope.room ≡ room → new ≡ put_all_mapped number (pairs_view items) now
-    → Stands pool m depth levels base p0 frames (put_all_mapped number (pairs_view items) now) (more_in number (length items) scope) q → StandsIn pool m depth levels base p0 frames room new q
-run_filled {pool} {m} {depth} {levels} {base} {p0} {frames} {new} {q} scope now number room items level is there =
+    {pool : Types} {m depth levels : ℕ} {base : List Record} {p0 : Place} {frames : List Frame} {new : Part} {q : Place} (scope : Scope) (now : Part) (number depth_left : ℕ) (items : List (MapKey × Value)) → scope.depth_left ≡ depth_left → new ≡ put_all_mapped number (pairs_view items) now
+    → Stands pool m depth levels base p0 frames (put_all_mapped number (pairs_view items) now) (more_in number (length items) scope) q → StandsIn pool m depth levels base p0 frames depth_left new q
+run_filled {pool} {m} {depth} {levels} {base} {p0} {frames} {new} {q} scope now number depth_left items level is there =
     (more_in number (length items) scope, subst (λ (z : Part). Stands pool m depth levels base p0 frames z (more_in number (length items) scope) q) (sym is) there, more_room number (length items) scope ∙ level)
 
 -- ONE MORE ENTRY
-pub means_along : (pool : Types) (number k : ℕ) (xs : List (Scalar × Datum)) (now : Part) (key kd : Kind) → Means pool (part_context now) k 2 (purpose.Entry key kd) → Means pool (part_context (put_all_mapped number xs now)) k 2 (purpose.Entry key kd)
-means_along pool number k xs now key kd means = subst (λ z. Means pool z k 2 (purpose.Entry key kd)) (sym (all_context number xs now)) means
+pub means_along : (pool : Types) (number k : ℕ) (xs : List (Scalar × Datum)) (now : Part) (key kd : Kind) → Means pool (part_context now) k 2 (target.Entry key kd) → Means pool (part_context (put_all_mapped number xs now)) k 2 (target.Entry key kd)
+means_along pool number k xs now key kd means = subst (λ z. Means pool z k 2 (target.Entry key kd)) (sym (all_context number xs now)) means
 
 pub run_further :
     {pool : Types} {m depth levels : ℕ} {base : List Record} {p0 : Place} {frames : List Frame} (scope : Scope) (now : Part) (p : Place) (here size number : ℕ) (items new : List (MapKey × Value)) (e : MapKey × Value) → new ≡ items ++ e ∷ []
@@ -136,9 +136,9 @@ run_further {pool} {m} {depth} {levels} {base} {p0} {frames} scope now p here si
     )
 
 pub open_further :
-    {pool : Types} {number : ℕ} {key kd : Kind} {bytes : List ℕ} {left : Option ℕ} {room : ℕ} (from : IsMapOpen pool number key kd bytes left room) (here : ℕ) (behind : Option ℕ) (items : List (MapKey × Value)) → behind ≡ option_map (λ (e : ℕ). e - here) left
+    {pool : Types} {number : ℕ} {key kd : Kind} {bytes : List ℕ} {left : Option ℕ} {depth_left : ℕ} (from : IsMapOpen pool number key kd bytes left depth_left) (here : ℕ) (behind : Option ℕ) (items : List (MapKey × Value)) → behind ≡ option_map (λ (e : ℕ). e - here) left
     → Stands pool from.m from.depth from.levels from.base from.p0 from.frames (put_all_mapped number (pairs_view items) from.now) (more_in number (length items) from.scope) (passed (given_at from.at left bytes) here)
-    → IsMapOpen pool number key kd (take (length bytes - here) (drop here bytes)) behind room
+    → IsMapOpen pool number key kd (take (length bytes - here) (drop here bytes)) behind depth_left
 open_further {pool} {number} {key} {kd} {bytes} {left} from here behind items is there = record {
   m = from.m;
   depth = from.depth;

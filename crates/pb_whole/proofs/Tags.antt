@@ -7,17 +7,17 @@ use Rattle.pb_wire.specs.Fault.{Place, Moves, Reads as ReadsNumber, HasTag, HasL
 use Rattle.pb_wire.specs.Token.{given_at, passed}
 use Rattle.pb_wire.proofs.TokenLemmas.{moves_passed}
 use Rattle.pb_schema.specs.Types.{Types}
-use Rattle.pb_parts.specs.declared.open.purpose.Purpose.{Purpose}
+use Rattle.pb_parts.specs.declared.open.target.Target.{Target}
 use Rattle.pb_parts.specs.declared.tokens.step.Step.{Step}
-use Rattle.pb_parts.specs.Values.PayloadValue.{IsBytesPurpose}
-use Rattle.pb_parts.specs.Open.Purposes.{Means, part_context}
+use Rattle.pb_parts.specs.Values.PayloadValue.{IsBytesTarget}
+use Rattle.pb_parts.specs.Open.Targets.{Means, part_context}
 use Rattle.pb_parts.specs.Open.Frames.{Part, Scope, Frame, EndsAt, Stands}
-use Rattle.pb_parts.specs.Tokens.After.{tag, awaited, goes_down, IsRoomFor, After}
+use Rattle.pb_parts.specs.Tokens.After.{tag, awaited, goes_down, HasLevelFor, After}
 use Rattle.pb_parts.specs.Tokens.Number.{IsNumberType}
 use Rattle.pb_parts.proofs.AfterLemmas.{after_tag, after_length}
 use Rattle.pb_parts.proofs.DeepLemmas.{reads_below}
 use Rattle.pb_parts.proofs.PlaceLemmas.{slice_from, passed_twice}
-use Rattle.pb_parts.specs.declared.open.purpose.Purpose.TheVariants as purpose
+use Rattle.pb_parts.specs.declared.open.target.Target.TheVariants as target
 use Rattle.pb_parts.specs.declared.tokens.step.Step.TheVariants as step
 
 -- WHAT BEGINS the bytes after some of them comes after those
@@ -32,11 +32,11 @@ there_behind P at left behind rest used more is h =
 
 -- A TAG of a record that opens nothing: its value or its length comes next
 pub tag_next :
-    {pool : Types} {m depth levels : ℕ} {base : List Record} {p0 : Place} {frames : List Frame} {scope : Scope} {now : Part} {q u : Place} (next : Step) (k w : ℕ) (meant : Purpose)
+    {pool : Types} {m depth levels : ℕ} {base : List Record} {p0 : Place} {frames : List Frame} {scope : Scope} {now : Part} {q u : Place} (next : Step) (k w : ℕ) (meant : Target)
     → Stands pool m depth levels base p0 frames now scope q → awaited next ≡ Some (tag k w meant) → HasTag q k w u → Means pool (part_context now) k w meant → (goes_down meant ≡ true → ⊥) → After pool m depth levels base p0 frames next now scope u
 tag_next next k w meant s is has means stays = after_tag next (tag k w meant) s is has means (λ deep. absurd (stays deep))
 
-pub number_stays : (pool : Types) (now : Part) (k w : ℕ) (meant : Purpose) → Means pool (part_context now) k w meant → IsNumberType w → goes_down meant ≡ true → ⊥
+pub number_stays : (pool : Types) (now : Part) (k w : ℕ) (meant : Target) → Means pool (part_context now) k w meant → IsNumberType w → goes_down meant ≡ true → ⊥
 number_stays pool now k w meant means type deep = let two : w ≡ 2 = (reads_below pool now k w meant means deep (no_start type)).0 in by_type type two
   where
     no_start : IsNumberType w → w ≡ 3 → ⊥
@@ -49,19 +49,19 @@ number_stays pool now k w meant means type deep = let two : w ≡ 2 = (reads_bel
     by_type (inr (inl e)) two = absurd (omega (arith, e, two))
     by_type (inr (inr e)) two = absurd (omega (arith, e, two))
 
-pub bytes_stay : (meant : Purpose) → IsBytesPurpose meant → goes_down meant ≡ true → ⊥
-bytes_stay (purpose.One k s) bytes deep = false≢true deep
-bytes_stay (purpose.Element k) bytes deep = false≢true deep
-bytes_stay (purpose.Key k) bytes deep = false≢true deep
-bytes_stay (purpose.EntryValue k) bytes deep = false≢true deep
-bytes_stay purpose.Unknown bytes deep = false≢true deep
-bytes_stay (purpose.Packed k) bytes deep = bytes
-bytes_stay (purpose.Message j s) bytes deep = bytes
-bytes_stay (purpose.Entry key k) bytes deep = bytes
+pub bytes_stay : (meant : Target) → IsBytesTarget meant → goes_down meant ≡ true → ⊥
+bytes_stay (target.One k s) bytes deep = false≢true deep
+bytes_stay (target.Element k) bytes deep = false≢true deep
+bytes_stay (target.Key k) bytes deep = false≢true deep
+bytes_stay (target.EntryValue k) bytes deep = false≢true deep
+bytes_stay target.Unknown bytes deep = false≢true deep
+bytes_stay (target.Packed k) bytes deep = bytes
+bytes_stay (target.Message j s) bytes deep = bytes
+bytes_stay (target.Entry key k) bytes deep = bytes
 
 -- after the tag of a number
 pub number_next :
-    {pool : Types} {m depth levels : ℕ} {base : List Record} {p0 : Place} {frames : List Frame} {scope : Scope} {now : Part} {q u : Place} (k w : ℕ) (meant : Purpose) → IsNumberType w
+    {pool : Types} {m depth levels : ℕ} {base : List Record} {p0 : Place} {frames : List Frame} {scope : Scope} {now : Part} {q u : Place} (k w : ℕ) (meant : Target) → IsNumberType w
     → Stands pool m depth levels base p0 frames now scope q → HasTag q k w u → Means pool (part_context now) k w meant → (next : Step) × (awaited next ≡ Some (tag k w meant)) × After pool m depth levels base p0 frames next now scope u
 number_next {pool} {m} {depth} {levels} {base} {p0} {frames} {scope} {now} {q} {u} k w meant type s has means = by_type type
   where
@@ -75,9 +75,9 @@ number_next {pool} {m} {depth} {levels} {base} {p0} {frames} {scope} {now} {q} {
 
 -- after the tag of a record that opens something, where a level is left for it
 pub opening_next :
-    {pool : Types} {m depth levels : ℕ} {base : List Record} {p0 : Place} {frames : List Frame} {scope : Scope} {now : Part} {q u : Place} (k : ℕ) (meant : Purpose)
-    → Stands pool m depth levels base p0 frames now scope q → HasTag q k 2 u → Means pool (part_context now) k 2 meant → IsRoomFor scope.room meant → After pool m depth levels base p0 frames (step.Length k meant) now scope u
-opening_next k meant s has means room = after_tag (step.Length k meant) (tag k 2 meant) s refl has means room
+    {pool : Types} {m depth levels : ℕ} {base : List Record} {p0 : Place} {frames : List Frame} {scope : Scope} {now : Part} {q u : Place} (k : ℕ) (meant : Target)
+    → Stands pool m depth levels base p0 frames now scope q → HasTag q k 2 u → Means pool (part_context now) k 2 meant → HasLevelFor scope.depth_left meant → After pool m depth levels base p0 frames (step.Length k meant) now scope u
+opening_next k meant s has means depth_left = after_tag (step.Length k meant) (tag k 2 meant) s refl has means depth_left
 
 -- A PAYLOAD of bytes after its tag and its length
 -- a tag and a length end before the known end
@@ -106,8 +106,8 @@ length_there at left rest used start {n = n} has reads is fits =
     ends (Some e) has h = let before = before_end at e rest used start has h in (e - start, refl, omega (arith, before))
 
 pub bytes_next :
-    {pool : Types} {m depth levels : ℕ} {base : List Record} {p0 : Place} {frames : List Frame} {scope : Scope} {now : Part} {q u t : Place} (k n : ℕ) (meant : Purpose)
-    → Stands pool m depth levels base p0 frames now scope q → HasTag q k 2 u → Means pool (part_context now) k 2 meant → IsBytesPurpose meant → HasLength u n t → After pool m depth levels base p0 frames (step.Payload k meant n) now scope t
+    {pool : Types} {m depth levels : ℕ} {base : List Record} {p0 : Place} {frames : List Frame} {scope : Scope} {now : Part} {q u t : Place} (k n : ℕ) (meant : Target)
+    → Stands pool m depth levels base p0 frames now scope q → HasTag q k 2 u → Means pool (part_context now) k 2 meant → IsBytesTarget meant → HasLength u n t → After pool m depth levels base p0 frames (step.Payload k meant n) now scope t
 bytes_next k n meant s has means bytes l = after_length k meant n (tag_next (step.Length k meant) k 2 meant s refl has means (bytes_stay meant bytes)) refl bytes l
 
 pub payload_leads : (p : Place) (start size : ℕ) (u : Place) → start + size ≤ length p.rest → HasLength u size (passed p start) → Moves (passed p start) (take ((start + size) - start) (drop start p.rest)) (passed p (start + size))

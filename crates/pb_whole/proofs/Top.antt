@@ -27,8 +27,8 @@ use Rattle.pb_whole.specs.Reads.{StandsIn, IsOpen, ReadsTo}
 
 -- NOTHING IS OPEN BUT THE TOP: the part is the message, and no end is known
 pub is_top :
-    {pool : Types} {m depth levels : ℕ} {base : List Record} {p0 : Place} {frames : List Frame} {now : Part} {o : Open Context} {room inner : ℕ} {path : _} {p : Place} {earlier : List Record}
-    → frames ≡ [] → Held pool m depth levels base p0 frames now o room inner path p earlier → (v : Message) × (now ≡ message_part m v)
+    {pool : Types} {m depth levels : ℕ} {base : List Record} {p0 : Place} {frames : List Frame} {now : Part} {o : Open Context} {depth_left inner : ℕ} {path : _} {p : Place} {earlier : List Record}
+    → frames ≡ [] → Held pool m depth levels base p0 frames now o depth_left inner path p earlier → (v : Message) × (now ≡ message_part m v)
 is_top none (at_top {now = now} v form is_open is_room is_inner is_path is_place is_base goes_on) = by_part now form
   where
     by_part : {k : ℕ} (part : Part) → IsSameForm part (message_part k v) → (w : Message) × (part ≡ message_part k w)
@@ -40,8 +40,8 @@ is_top none (inside up h begun form can deep completes is_path counts ends goes_
 -- THE END
 -- the part is the message, of the type and the levels that it began with
 top_inner :
-    {pool : Types} {m depth levels : ℕ} {base : List Record} {p0 : Place} {now : Part} {o : Open Context} {room inner : ℕ} {path : _} {p : Place} {earlier : List Record}
-    → Held pool m depth levels base p0 [] now o room inner path p earlier → inner ≡ levels
+    {pool : Types} {m depth levels : ℕ} {base : List Record} {p0 : Place} {now : Part} {o : Open Context} {depth_left inner : ℕ} {path : _} {p : Place} {earlier : List Record}
+    → Held pool m depth levels base p0 [] now o depth_left inner path p earlier → inner ≡ levels
 top_inner (at_top v form is_open is_room is_inner is_path is_place is_base goes_on) = is_inner
 
 -- what there is of the top is well formed
@@ -67,9 +67,9 @@ unfolding value
 text_read pool m limits b p0 k v scope q from size s none = from_held s.held s.behind s.worth
   where
     from_held :
-        {o : Open Context} {room inner : ℕ} {path : List PathStep} {p : Place} {earlier rs : List Record} → Held pool m limits.depth 101 [] p0 [] (message_part k v) o room inner path p earlier
-        → Behind (schema_of pool) o room p rs q → v ≡ value_within pool inner k (earlier ++ rs) → Text pool m limits b v
-    from_held {o} {room} {inner} {path} {p} {earlier} {rs} (at_top v0 form is_open is_room is_inner is_path is_place is_base goes_on) h worth =
+        {o : Open Context} {depth_left inner : ℕ} {path : List PathStep} {p : Place} {earlier rs : List Record} → Held pool m limits.depth 101 [] p0 [] (message_part k v) o depth_left inner path p earlier
+        → Behind (schema_of pool) o depth_left p rs q → v ≡ value_within pool inner k (earlier ++ rs) → Text pool m limits b v
+    from_held {o} {depth_left} {inner} {path} {p} {earlier} {rs} (at_top v0 form is_open is_room is_inner is_path is_place is_base goes_on) h worth =
         let whole : b ≡ h.front = sym from ∙ sym (ap (λ (z : Place). z.rest) is_place) ∙ h.moves.given ∙ ap (λ (z : List ℕ). h.front ++ z) none ∙ append-nil h.front in
         record {
           size = size;
@@ -78,7 +78,7 @@ text_read pool m limits b p0 k v scope q from size s none = from_held s.held s.b
             spelled = subst (AreRecords rs) (sym whole) h.spelled;
             sound =
                 subst (λ (z : ℕ). AllSound (schema_of pool) (in_message m) z rs) is_room
-                (subst (λ (z : Open Context). AllSound (schema_of pool) (context_of z) room rs) is_open h.sound);
+                (subst (λ (z : Open Context). AllSound (schema_of pool) (context_of z) depth_left rs) is_open h.sound);
             valued =
                 worth ∙ ap (λ (z : ℕ). value_within pool z k (earlier ++ rs)) is_inner ∙ ap (λ (z : ℕ). value_within pool 101 z (earlier ++ rs)) form
                 ∙ ap (λ (z : List Record). value_within pool 101 m (z ++ rs)) is_base;
@@ -86,7 +86,7 @@ text_read pool m limits b p0 k v scope q from size s none = from_held s.held s.b
         }
 
 top_scope : ℕ → ℕ → Scope
-top_scope depth size = record { room = depth; end = Some size; counts = λ _. 0 }
+top_scope depth size = record { depth_left = depth; end = Some size; counts = λ _. 0 }
 
 -- NO RECORD IS READ YET of a message that is empty so far
 at_start :
@@ -115,14 +115,14 @@ text_open pool k depth b v none deep within bytes = record {
 
 -- ALL ARE READ
 pub text_filled :
-    (pool : Types) (k room : ℕ) (limits : Bounds) (b : List ℕ) (v : Message) (new : Part) (j : ℕ) (w : Message)
-    → IsPool pool → v ≡ empty → room ≡ limits.depth → room ≤ 100 → length b ≤ limits.bytes → k < length pool.messages → AreBytes b
-    → new ≡ message_part j w → ReadsTo pool (message_part k v) new b (length b) room (length b) → Text pool k limits b w × IsWellFormed pool k w
-text_filled pool k room limits b v new j w rules none same deep size within bytes is filled =
-    let (scope, stands, level) = filled k room 101 0 [] (given_at 0 (Some (length b)) b) [] (at_start pool k room b v none deep within bytes) in
+    (pool : Types) (k depth_left : ℕ) (limits : Bounds) (b : List ℕ) (v : Message) (new : Part) (j : ℕ) (w : Message)
+    → IsPool pool → v ≡ empty → depth_left ≡ limits.depth → depth_left ≤ 100 → length b ≤ limits.bytes → k < length pool.messages → AreBytes b
+    → new ≡ message_part j w → ReadsTo pool (message_part k v) new b (length b) depth_left (length b) → Text pool k limits b w × IsWellFormed pool k w
+text_filled pool k depth_left limits b v new j w rules none same deep size within bytes is filled =
+    let (scope, stands, level) = filled k depth_left 101 0 [] (given_at 0 (Some (length b)) b) [] (at_start pool k depth_left b v none deep within bytes) in
     let there : Stands pool k limits.depth 101 [] (given_at 0 (Some (length b)) b) [] (message_part j w) scope (passed (given_at 0 (Some (length b)) b) (length b)) =
     subst (λ (z : ℕ). Stands pool k z 101 [] (given_at 0 (Some (length b)) b) [] (message_part j w) scope (passed (given_at 0 (Some (length b)) b) (length b))) same
-    (subst (λ (z : Part). Stands pool k room 101 [] (given_at 0 (Some (length b)) b) [] z scope (passed (given_at 0 (Some (length b)) b) (length b))) is stands) in (
+    (subst (λ (z : Part). Stands pool k depth_left 101 [] (given_at 0 (Some (length b)) b) [] z scope (passed (given_at 0 (Some (length b)) b) (length b))) is stands) in (
       text_read pool k limits b (given_at 0 (Some (length b)) b) j w scope (passed (given_at 0 (Some (length b)) b) (length b)) refl size there (drop-length b),
       top_well_formed j w rules there,
     )

@@ -9,9 +9,9 @@ use Rattle.pb_schema.specs.Types.{Types}
 use Rattle.pb_value.specs.declared.body.MapKey.{MapKey}
 use Rattle.pb_value.specs.declared.body.Value.{Value}
 use Rattle.pb_value.specs.View.{key_view, value_view}
-use Rattle.pb_parts.specs.declared.open.purpose.Purpose.TheVariants.{Entry}
+use Rattle.pb_parts.specs.declared.open.target.Target.TheVariants.{Entry}
 use Rattle.pb_parts.specs.Open.Frames.{Part, Scope, Frame, one_more_in, Stands}
-use Rattle.pb_parts.specs.Open.Purposes.{Means, part_context}
+use Rattle.pb_parts.specs.Open.Targets.{Means, part_context}
 use Rattle.pb_parts.specs.Close.Mapped.{pairs_view, put_mapped, put_all_mapped, FitsMapped, FitMapped}
 
 -- this many more records of a number
@@ -20,7 +20,7 @@ more_in k zero scope = scope
 more_in k (suc n) scope = one_more_in k (more_in k n scope)
 
 -- somewhere a part is open in which the records of a number are entries, and these bytes come next in it
-pub record IsMapOpen (pool : Types) (number : ℕ) (key kd : Kind) (bytes : List ℕ) (left : Option ℕ) (room : ℕ) : Type 0 where
+pub record IsMapOpen (pool : Types) (number : ℕ) (key kd : Kind) (bytes : List ℕ) (left : Option ℕ) (depth_left : ℕ) : Type 0 where
   pub m : ℕ
   pub depth : ℕ
   pub levels : ℕ
@@ -31,32 +31,32 @@ pub record IsMapOpen (pool : Types) (number : ℕ) (key kd : Kind) (bytes : List
   pub scope : Scope
   pub now : Part
   pub stands : Stands pool m depth levels base p0 frames now scope (given_at at left bytes)
-  pub level : scope.room ≡ room
+  pub level : scope.depth_left ≡ depth_left
   pub means : Means pool (part_context now) number 2 (Entry key kd)
 
 -- the entry that begins the bytes: its map takes it, and then the part is worth its record too
 abbrev pub IsEntry : Types → ℕ → Kind → Kind → List ℕ → Option ℕ → ℕ → MapKey × Value → ℕ → Type 0
-IsEntry pool number key kd bytes left room e used =
+IsEntry pool number key kd bytes left depth_left e used =
     (m depth levels at : ℕ) (base : List Record) (p0 : Place) (frames : List Frame) (scope : Scope) (now : Part)
-    → Stands pool m depth levels base p0 frames now scope (given_at at left bytes) → scope.room ≡ room → Means pool (part_context now) number 2 (Entry key kd)
+    → Stands pool m depth levels base p0 frames now scope (given_at at left bytes) → scope.depth_left ≡ depth_left → Means pool (part_context now) number 2 (Entry key kd)
     → FitsMapped number (key_view e.0) now
     × Stands pool m depth levels base p0 frames (put_mapped number (key_view e.0, value_view e.1) now) (one_more_in number scope)
     (passed (given_at at left bytes) used)
 
 -- the same of several
 abbrev pub AreEntries : Types → ℕ → Kind → Kind → List ℕ → Option ℕ → ℕ → List (MapKey × Value) → ℕ → Type 0
-AreEntries pool number key kd bytes left room es used =
+AreEntries pool number key kd bytes left depth_left es used =
     (m depth levels at : ℕ) (base : List Record) (p0 : Place) (frames : List Frame) (scope : Scope) (now : Part)
-    → Stands pool m depth levels base p0 frames now scope (given_at at left bytes) → scope.room ≡ room → Means pool (part_context now) number 2 (Entry key kd)
+    → Stands pool m depth levels base p0 frames now scope (given_at at left bytes) → scope.depth_left ≡ depth_left → Means pool (part_context now) number 2 (Entry key kd)
     → FitMapped number (pairs_view es) now
     × Stands pool m depth levels base p0 frames (put_all_mapped number (pairs_view es) now) (more_in number (length es) scope)
     (passed (given_at at left bytes) used)
 
 -- where they are read, and their size
 abbrev pub ReadsEntries : {E : Type 0} → Types → ℕ → Kind → Kind → List ℕ → Option ℕ → ℕ → Result (Vec (MapKey × Value) Global × ℕ) E → Type 0
-ReadsEntries pool number key kd bytes left room result = IfOk result (λ r. AreEntries pool number key kd bytes left room r.0.items r.1)
+ReadsEntries pool number key kd bytes left depth_left result = IfOk result (λ r. AreEntries pool number key kd bytes left depth_left r.0.items r.1)
 
 -- where one is read it is the last of the entries
 abbrev pub AddsEntry : {E : Type 0} → Types → ℕ → Kind → Kind → List ℕ → Option ℕ → ℕ → List (MapKey × Value) → List (MapKey × Value) → Result ℕ E → Type 0
-AddsEntry pool number key kd bytes left room old new result =
-    IfOk result (λ n. (e : MapKey × Value) × (new ≡ old ++ e ∷ []) × IsEntry pool number key kd bytes left room e n)
+AddsEntry pool number key kd bytes left depth_left old new result =
+    IfOk result (λ n. (e : MapKey × Value) × (new ≡ old ++ e ∷ []) × IsEntry pool number key kd bytes left depth_left e n)

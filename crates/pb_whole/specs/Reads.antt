@@ -14,11 +14,11 @@ use Rattle.pb_whole.specs.declared.reader.Left.{Left}
 
 -- with some scope that has this many levels left, whole records of a part end at a place
 abbrev pub StandsIn : Types → ℕ → ℕ → ℕ → List Record → Place → List Frame → ℕ → Part → Place → Type 0
-StandsIn pool m depth levels base p0 frames room now q =
-    (scope : Scope) × Stands pool m depth levels base p0 frames now scope q × (scope.room ≡ room)
+StandsIn pool m depth levels base p0 frames depth_left now q =
+    (scope : Scope) × Stands pool m depth levels base p0 frames now scope q × (scope.depth_left ≡ depth_left)
 
 -- somewhere the part is open, and these bytes come next in it, of which some are before its known end
-pub record IsOpen (pool : Types) (now : Part) (bytes : List ℕ) (left room : ℕ) : Type 0 where
+pub record IsOpen (pool : Types) (now : Part) (bytes : List ℕ) (left depth_left : ℕ) : Type 0 where
   pub m : ℕ
   pub depth : ℕ
   pub levels : ℕ
@@ -26,7 +26,7 @@ pub record IsOpen (pool : Types) (now : Part) (bytes : List ℕ) (left room : �
   pub base : List Record
   pub p0 : Place
   pub frames : List Frame
-  pub stands : StandsIn pool m depth levels base p0 frames room now (given_at at (Some left) bytes)
+  pub stands : StandsIn pool m depth levels base p0 frames depth_left now (given_at at (Some left) bytes)
 
 -- the pool meets its rules, somewhere the part is open, and the bytes that come next in it are fewer than 2 GiB
 pub record CanRead (pool : Types) (now : PartKept) (bytes : List ℕ) (left : Left) : Type 0 where
@@ -47,10 +47,10 @@ pub record IsAtTag (pool : Types) (now : PartKept) (bytes : List ℕ) (left : Le
 
 -- whole sound records are read: the part is worth those before and these
 abbrev pub ReadsTo : Types → Part → Part → List ℕ → ℕ → ℕ → ℕ → Type 0
-ReadsTo pool old new bytes left room used =
+ReadsTo pool old new bytes left depth_left used =
     (m depth levels at : ℕ) (base : List Record) (p0 : Place) (frames : List Frame)
-    → StandsIn pool m depth levels base p0 frames room old (given_at at (Some left) bytes)
-    → StandsIn pool m depth levels base p0 frames room new (passed (given_at at (Some left) bytes) used)
+    → StandsIn pool m depth levels base p0 frames depth_left old (given_at at (Some left) bytes)
+    → StandsIn pool m depth levels base p0 frames depth_left new (passed (given_at at (Some left) bytes) used)
 
 -- where a record is read, it takes this many bytes
 abbrev pub ReadsOne : {E : Type 0} → Types → PartKept → PartKept → List ℕ → Left → Result ℕ E → Type 0

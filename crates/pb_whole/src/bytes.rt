@@ -2,15 +2,15 @@
 
 ghost use Rattle.std.specs.Prelude.{◌≡◌};
 ghost use Rattle.pb_parts.specs.Open.PartView.{part_view};
-ghost use Rattle.pb_parts.specs.Open.Purposes.{Means, part_context};
-ghost use Rattle.pb_parts.specs.Values.PayloadValue.{IsBytesPurpose};
+ghost use Rattle.pb_parts.specs.Open.Targets.{Means, part_context};
+ghost use Rattle.pb_parts.specs.Values.PayloadValue.{IsBytesTarget};
 ghost use Rattle.pb_whole.specs.Reads.{IsAtTag, Passes, ReadsOne};
 
 use crate::reader::{Left, Reader};
 use crate::tokens::payload_after;
 use pb_parts::error::NoMemory;
 use pb_parts::open::part::Part;
-use pb_parts::open::purpose::Purpose;
+use pb_parts::open::target::Target;
 use pb_parts::tokens::record_tag::RecordTag;
 use pb_parts::values::payload_value::PayloadError;
 use pb_parts::values::put_payload::put_payload;
@@ -22,14 +22,14 @@ impl Reader<'_> {
         &self,
         part: &mut Part,
         tag: RecordTag,
-        purpose: Purpose,
+        target: Target,
         bytes: &[u8],
         left: Left,
     ) -> Result<usize, NoMemory>
         requires at_tag { IsAtTag self.now.pool.now part.old bytes.now left tag }
         requires bytes { tag.wire_type ≡ 2 }
-        requires means { Means self.now.pool.now (part_context (part_view part.old)) tag.number 2 purpose }
-        requires purpose { IsBytesPurpose purpose }
+        requires means { Means self.now.pool.now (part_context (part_view part.old)) tag.number 2 target }
+        requires target { IsBytesTarget target }
         ensures passes { Passes tag.size bytes.now result }
         ensures read { ReadsOne self.now.pool.now part.old part.new bytes.now left result }
     {
@@ -42,7 +42,7 @@ impl Reader<'_> {
             self.pool,
             part,
             tag.number,
-            purpose,
+            target,
             &bytes[start..end],
         ) {
             Ok(()) => Ok(end),

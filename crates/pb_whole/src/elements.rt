@@ -4,9 +4,9 @@ ghost use Rattle.std.specs.Prelude.{◌≡◌, ◌⊎◌, ◌≤◌, ◌<◌, �
 ghost use Rattle.pb_schema.specs.Kinds.{wire_type_of};
 ghost use Rattle.pb_schema.specs.Rules.{IsPool};
 ghost use Rattle.pb_value.specs.View.{value_view};
-ghost use Rattle.pb_parts.specs.declared.open.purpose.Purpose.TheVariants as purposes;
+ghost use Rattle.pb_parts.specs.declared.open.target.Target.TheVariants as targets;
 ghost use Rattle.pb_parts.specs.Open.PartView.{part_view};
-ghost use Rattle.pb_parts.specs.Open.Purposes.{Means, part_context};
+ghost use Rattle.pb_parts.specs.Open.Targets.{Means, part_context};
 ghost use Rattle.pb_parts.specs.Tokens.Number.{IsNumberType};
 ghost use Rattle.pb_whole.specs.Reads.{HasTagAt, IsAtTag, Passes, ReadsOne};
 ghost use Rattle.pb_whole.specs.Listed.{ReadsList, IsElement, AreElements};
@@ -15,10 +15,10 @@ use crate::reader::{Left, Reader};
 use crate::tokens::tag_again;
 use pb_parts::error::NoMemory;
 use pb_parts::open::part::Part;
-use pb_parts::open::purpose::Purpose;
+use pb_parts::open::target::Target;
 use pb_parts::tokens::number::number_value;
 use pb_parts::tokens::number_token::{NumberToken, number_at};
-use pb_parts::tokens::record_tag::{RecordTag, left_behind};
+use pb_parts::tokens::record_tag::{RecordTag, left_after};
 use pb_parts::values::put_elements::put_elements;
 use pb_parts::values::put_number::is_undeclared;
 use pb_parts::values::put_scalar::put_scalar;
@@ -50,7 +50,7 @@ impl Reader<'_> {
         ensures within { IfSome result (λ r. (tag.size ≤ r.1) × (r.1 ≤ length bytes.now)) }
         ensures put { IsElement self.now.pool.now kind tag.number bytes.now remaining result }
     {
-        let after = left_behind(Some(remaining), tag.size);
+        let after = left_after(Some(remaining), tag.size);
         match number_at(tag.wire_type, &bytes[tag.size..], after) {
             NumberToken::Whole(number, size) => {
                 if is_undeclared(self.pool, kind, number) {
@@ -128,16 +128,16 @@ impl Reader<'_> {
     ) -> Result<usize, NoMemory>
         requires at_tag { IsAtTag self.now.pool.now part.old bytes.now left tag }
         requires number { IsNumberType tag.wire_type }
-        requires means { Means self.now.pool.now (part_context (part_view part.old)) tag.number tag.wire_type (purposes.Element kind) }
+        requires means { Means self.now.pool.now (part_context (part_view part.old)) tag.number tag.wire_type (targets.Element kind) }
         ensures passes { Passes tag.size bytes.now result }
         ensures read { ReadsOne self.now.pool.now part.old part.new bytes.now left result }
     {
-        let purpose = Purpose::Element(kind);
+        let target = Target::Element(kind);
         let Some((value, size)) = self.element_after(kind, tag, bytes, left.remaining) else {
-            return self.read_one(part, tag, purpose, bytes, left);
+            return self.read_one(part, tag, target, bytes, left);
         };
         if !begins_again(bytes, size) {
-            put_scalar(self.alloc, self.pool, part, tag.number, purpose, value)?;
+            put_scalar(self.alloc, self.pool, part, tag.number, target, value)?;
             return Ok(size);
         }
         let (values, used) = self.elements_from(

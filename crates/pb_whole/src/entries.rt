@@ -2,10 +2,10 @@
 
 ghost use Rattle.std.specs.Prelude.{◌≡◌, ◌≤◌, ◌<◌, ◌^◌, Some, length, IfOk, IfSome};
 ghost use Rattle.pb_schema.specs.Rules.{IsPool};
-ghost use Rattle.pb_parts.specs.declared.open.purpose.Purpose.TheVariants as purposes;
+ghost use Rattle.pb_parts.specs.declared.open.target.Target.TheVariants as targets;
 ghost use Rattle.pb_parts.specs.Open.PartView.{part_view};
-ghost use Rattle.pb_parts.specs.Open.Purposes.{Means, part_context};
-ghost use Rattle.pb_parts.specs.Values.PayloadValue.{IsBytesPurpose};
+ghost use Rattle.pb_parts.specs.Open.Targets.{Means, part_context};
+ghost use Rattle.pb_parts.specs.Values.PayloadValue.{IsBytesTarget};
 ghost use Rattle.pb_whole.specs.Reads.{CanRead, HasTagAt, IsAtTag, Passes, ReadsAll, ReadsOne};
 ghost use Rattle.pb_whole.specs.Entries.{IsMapOpen, AddsEntry, ReadsEntries};
 
@@ -15,8 +15,8 @@ use crate::tokens::{is_number, payload_after, tag_again};
 use pb_parts::close::closing::{key_or_default, value_or_missing};
 use pb_parts::close::put_entries::put_entries;
 use pb_parts::error::NoMemory;
-use pb_parts::open::part::Part;
-use pb_parts::open::purpose::{Purpose, purpose_of};
+use pb_parts::open::part::{Entry, Part};
+use pb_parts::open::target::{Target, target_of};
 use pb_parts::tokens::record_tag::{RecordTag, record_tag};
 use pb_schema::Kind;
 use pb_value::{MapKey, Value};
@@ -45,20 +45,20 @@ impl Reader<'_> {
         &self,
         entry: &mut Part,
         tag: RecordTag,
-        purpose: Purpose,
+        target: Target,
         bytes: &[u8],
         left: Left,
     ) -> Result<usize, NoMemory>
         requires at_tag { IsAtTag self.now.pool.now entry.old bytes.now left tag }
-        requires means { Means self.now.pool.now (part_context (part_view entry.old)) tag.number tag.wire_type purpose }
-        requires purpose { IsBytesPurpose purpose }
+        requires means { Means self.now.pool.now (part_context (part_view entry.old)) tag.number tag.wire_type target }
+        requires target { IsBytesTarget target }
         ensures passes { Passes tag.size bytes.now result }
         ensures read { ReadsOne self.now.pool.now entry.old entry.new bytes.now left result }
     {
         if tag.wire_type == 2 {
-            self.read_bytes(entry, tag, purpose, bytes, left)
+            self.read_bytes(entry, tag, target, bytes, left)
         } else if is_number(tag.wire_type) {
-            self.read_one(entry, tag, purpose, bytes, left)
+            self.read_one(entry, tag, target, bytes, left)
         } else {
             Err(NoMemory)
         }
@@ -78,10 +78,10 @@ impl Reader<'_> {
         ensures passes { Passes tag.size bytes.now result }
         ensures read { ReadsOne self.now.pool.now entry.old entry.new bytes.now left result }
     {
-        let purpose = purpose_of(self.pool, entry, tag.number, tag.wire_type);
-        match purpose {
-            Purpose::Key(_) | Purpose::EntryValue(_) => {
-                self.read_scalar(entry, tag, purpose, bytes, left)
+        let target = target_of(self.pool, entry, tag.number, tag.wire_type);
+        match target {
+            Target::Key(_) | Target::EntryValue(_) => {
+                self.read_scalar(entry, tag, target, bytes, left)
             }
             _ => self.read_apart(entry, tag, bytes, left),
         }
@@ -137,24 +137,25 @@ impl Reader<'_> {
         let Some((start, size)) = payload_after(tag.size, bytes, Some(left.remaining)) else {
             return Err(NoMemory);
         };
-        let mut entry = Part::Entry {
+        let mut entry = Part::Entry(Entry {
             key_kind,
             value_kind,
             key: None,
             value: None,
-        };
+        });
         let within = Left {
             remaining: size,
             depth_left: left.depth_left - 1,
         };
         self.read_entry(&mut entry, &bytes[start..], within)?;
         match entry {
-            Part::Entry {
-                key_kind,
-                value_kind,
-                key,
-                value,
-            } => {
+            Part::Entry(entry) => {
+                let Entry {
+                    key_kind,
+                    value_kind,
+                    key,
+                    value,
+                } = entry;
                 let key = key_or_default(self.alloc, key_kind, key);
                 let value = value_or_missing(self.alloc, value_kind, value);
                 entries.push((key, value))?;
@@ -214,7 +215,7 @@ impl Reader<'_> {
         left: Left,
     ) -> Result<usize, NoMemory>
         requires at_tag { IsAtTag self.now.pool.now part.old bytes.now left tag }
-        requires means { Means self.now.pool.now (part_context (part_view part.old)) tag.number 2 (purposes.Entry key_kind value_kind) }
+        requires means { Means self.now.pool.now (part_context (part_view part.old)) tag.number 2 (targets.Entry key_kind value_kind) }
         ensures passes { Passes tag.size bytes.now result }
         ensures read { ReadsOne self.now.pool.now part.old part.new bytes.now left result }
     {

@@ -1,9 +1,9 @@
 //! Groups, which end at their end tags.
 
 ghost use Rattle.std.specs.Prelude.{◌≡◌, ◌<◌};
-ghost use Rattle.pb_parts.specs.declared.open.purpose.Purpose.TheVariants as purposes;
+ghost use Rattle.pb_parts.specs.declared.open.target.Target.TheVariants as targets;
 ghost use Rattle.pb_parts.specs.Open.PartView.{part_view};
-ghost use Rattle.pb_parts.specs.Open.Purposes.{Means, part_context};
+ghost use Rattle.pb_parts.specs.Open.Targets.{Means, part_context};
 ghost use Rattle.pb_whole.specs.Reads.{CanRead, IsAtTag, Passes, ReadsOne};
 ghost use Rattle.pb_whole.specs.Reads.Groups.{ReadsGroup};
 
@@ -13,7 +13,7 @@ use pb_parts::close::put::put_message;
 use pb_parts::error::NoMemory;
 use pb_parts::open::opening::{message_slot, take_message};
 use pb_parts::open::part::{Part, Slot};
-use pb_parts::open::purpose::purpose_of;
+use pb_parts::open::target::target_of;
 use pb_parts::tokens::record_tag::{RecordTag, record_tag};
 use pb_schema::MessageId;
 
@@ -63,7 +63,7 @@ impl Reader<'_> {
         requires at_tag { IsAtTag self.now.pool.now part.old bytes.now left tag }
         requires start { tag.wire_type ≡ 3 }
         requires level { 0 < left.depth_left }
-        requires means { Means self.now.pool.now (part_context (part_view part.old)) tag.number 3 (purposes.Message message_type slot) }
+        requires means { Means self.now.pool.now (part_context (part_view part.old)) tag.number 3 (targets.Message message_type slot) }
         ensures passes { Passes tag.size bytes.now result }
         ensures read { ReadsOne self.now.pool.now part.old part.new bytes.now left result }
     {
@@ -75,12 +75,7 @@ impl Reader<'_> {
                 put_message(self.alloc, self.pool, slot, part, message)?;
                 Ok(tag.size + size)
             }
-            Part::Entry {
-                key_kind: _,
-                value_kind: _,
-                key: _key,
-                value: _value,
-            } => Err(NoMemory),
+            Part::Entry(_entry) => Err(NoMemory),
             Part::Group(_records) => Err(NoMemory),
         }
     }
@@ -97,7 +92,7 @@ impl Reader<'_> {
         requires at_tag { IsAtTag self.now.pool.now part.old bytes.now left tag }
         requires start { tag.wire_type ≡ 3 }
         requires level { 0 < left.depth_left }
-        requires means { Means self.now.pool.now (part_context (part_view part.old)) tag.number 3 purposes.Unknown }
+        requires means { Means self.now.pool.now (part_context (part_view part.old)) tag.number 3 targets.Unknown }
         ensures passes { Passes tag.size bytes.now result }
         ensures read { ReadsOne self.now.pool.now part.old part.new bytes.now left result }
     {
@@ -110,12 +105,7 @@ impl Reader<'_> {
                 Ok(tag.size + size)
             }
             Part::Message(_kind, _body) => Err(NoMemory),
-            Part::Entry {
-                key_kind: _,
-                value_kind: _,
-                key: _key,
-                value: _value,
-            } => Err(NoMemory),
+            Part::Entry(_entry) => Err(NoMemory),
         }
     }
 
@@ -137,8 +127,8 @@ impl Reader<'_> {
         if left.depth_left == 0 {
             return Err(NoMemory);
         }
-        let purpose = purpose_of(self.pool, part, tag.number, 3);
-        match message_slot(purpose) {
+        let target = target_of(self.pool, part, tag.number, 3);
+        match message_slot(target) {
             Some((message_type, Slot::List(_))) => {
                 self.read_messages(part, tag, message_type, bytes, left)
             }

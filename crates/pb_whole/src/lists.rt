@@ -1,9 +1,9 @@
 //! Packed lists.
 
 ghost use Rattle.std.specs.Prelude.{◌≡◌};
-ghost use Rattle.pb_parts.specs.declared.open.purpose.Purpose.TheVariants as purposes;
+ghost use Rattle.pb_parts.specs.declared.open.target.Target.TheVariants as targets;
 ghost use Rattle.pb_parts.specs.Open.PartView.{part_view};
-ghost use Rattle.pb_parts.specs.Open.Purposes.{Means, part_context};
+ghost use Rattle.pb_parts.specs.Open.Targets.{Means, part_context};
 ghost use Rattle.pb_whole.specs.Reads.{IsAtTag, Passes, ReadsOne};
 
 use crate::reader::{Left, Reader};
@@ -31,7 +31,7 @@ impl Reader<'_> {
     ) -> Result<usize, NoMemory>
         requires at_tag { IsAtTag self.now.pool.now part.old bytes.now left tag }
         requires bytes { tag.wire_type ≡ 2 }
-        requires means { Means self.now.pool.now (part_context (part_view part.old)) tag.number 2 (purposes.Packed kind) }
+        requires means { Means self.now.pool.now (part_context (part_view part.old)) tag.number 2 (targets.Packed kind) }
         ensures passes { Passes tag.size bytes.now result }
         ensures read { ReadsOne self.now.pool.now part.old part.new bytes.now left result }
     {
@@ -59,7 +59,7 @@ impl Reader<'_> {
     ) -> Result<usize, NoMemory>
         requires at_tag { IsAtTag self.now.pool.now part.old bytes.now left tag }
         requires bytes { tag.wire_type ≡ 2 }
-        requires means { Means self.now.pool.now (part_context (part_view part.old)) tag.number 2 (purposes.Packed kind) }
+        requires means { Means self.now.pool.now (part_context (part_view part.old)) tag.number 2 (targets.Packed kind) }
         ensures passes { Passes tag.size bytes.now result }
         ensures read { ReadsOne self.now.pool.now part.old part.new bytes.now left result }
     {
@@ -86,7 +86,7 @@ impl Reader<'_> {
     ) -> Result<usize, NoMemory>
         requires at_tag { IsAtTag self.now.pool.now part.old bytes.now left tag }
         requires bytes { tag.wire_type ≡ 2 }
-        requires means { Means self.now.pool.now (part_context (part_view part.old)) tag.number 2 (purposes.Packed kind) }
+        requires means { Means self.now.pool.now (part_context (part_view part.old)) tag.number 2 (targets.Packed kind) }
         ensures passes { Passes tag.size bytes.now result }
         ensures read { ReadsOne self.now.pool.now part.old part.new bytes.now left result }
     {

@@ -3,9 +3,9 @@
 ghost use Rattle.std.specs.Prelude.{◌≡◌, ◌≤◌, ◌<◌, ◌^◌, Some, length, IfOk};
 ghost use Rattle.pb_schema.specs.Rules.{IsPool};
 ghost use Rattle.pb_parts.specs.declared.open.part.Slot.TheVariants.{List as ListSlot};
-ghost use Rattle.pb_parts.specs.declared.open.purpose.Purpose.TheVariants as purposes;
+ghost use Rattle.pb_parts.specs.declared.open.target.Target.TheVariants as targets;
 ghost use Rattle.pb_parts.specs.Open.PartView.{part_view};
-ghost use Rattle.pb_parts.specs.Open.Purposes.{Means, part_context};
+ghost use Rattle.pb_parts.specs.Open.Targets.{Means, part_context};
 ghost use Rattle.pb_whole.specs.Reads.{HasTagAt, IsAtTag, Passes, ReadsOne};
 ghost use Rattle.pb_whole.specs.Listed.{IsListOpen, IsMessage, AreMessages};
 
@@ -13,11 +13,11 @@ use crate::reader::{Left, Reader};
 use crate::tokens::{payload_after, tag_again};
 use pb_parts::close::put::put_message;
 use pb_parts::error::NoMemory;
-use pb_parts::open::opening::{room_in, take_message};
+use pb_parts::open::opening::{depth_left_in, take_message};
 use pb_parts::open::part::{Part, Slot};
-use pb_parts::open::purpose::Purpose;
+use pb_parts::open::target::Target;
 use pb_parts::tokens::record_tag::RecordTag;
-use pb_parts::tokens::tag_step::has_room;
+use pb_parts::tokens::tag_step::has_level;
 use pb_parts::values::put_elements::put_elements;
 use pb_schema::MessageId;
 use pb_value::Value;
@@ -37,11 +37,11 @@ impl Reader<'_> {
     ) -> Result<usize, NoMemory>
         requires at_tag { IsAtTag self.now.pool.now part.old bytes.now left tag }
         requires bytes { tag.wire_type ≡ 2 }
-        requires means { Means self.now.pool.now (part_context (part_view part.old)) tag.number 2 (purposes.Message message_type slot) }
+        requires means { Means self.now.pool.now (part_context (part_view part.old)) tag.number 2 (targets.Message message_type slot) }
         ensures passes { Passes tag.size bytes.now result }
         ensures read { ReadsOne self.now.pool.now part.old part.new bytes.now left result }
     {
-        if !has_room(left.depth_left, Purpose::Message(message_type, slot)) {
+        if !has_level(left.depth_left, Target::Message(message_type, slot)) {
             return Err(NoMemory);
         }
         let Some((start, size)) = payload_after(tag.size, bytes, Some(left.remaining)) else {
@@ -50,7 +50,7 @@ impl Reader<'_> {
         let mut inner = Part::Message(message_type, take_message(self.alloc, slot, part));
         let within = Left {
             remaining: size,
-            depth_left: room_in(slot, left.depth_left),
+            depth_left: depth_left_in(slot, left.depth_left),
         };
         self.read_records(&mut inner, &bytes[start..], within)?;
         match inner {
@@ -58,12 +58,7 @@ impl Reader<'_> {
                 put_message(self.alloc, self.pool, slot, part, message)?;
                 Ok(start + size as usize)
             }
-            Part::Entry {
-                key_kind: _,
-                value_kind: _,
-                key: _key,
-                value: _value,
-            } => Err(NoMemory),
+            Part::Entry(_entry) => Err(NoMemory),
             Part::Group(_records) => Err(NoMemory),
         }
     }
@@ -99,12 +94,7 @@ impl Reader<'_> {
         self.read_records(&mut message, &bytes[start..], within)?;
         match message {
             Part::Message(_kind, body) => Ok((Value::Message(body), start + size as usize)),
-            Part::Entry {
-                key_kind: _,
-                value_kind: _,
-                key: _key,
-                value: _value,
-            } => Err(NoMemory),
+            Part::Entry(_entry) => Err(NoMemory),
             Part::Group(_records) => Err(NoMemory),
         }
     }
@@ -133,12 +123,7 @@ impl Reader<'_> {
         let size = self.read_to_end(&mut message, tag.number, &bytes[tag.size..], within)?;
         match message {
             Part::Message(_kind, body) => Ok((Value::Message(body), tag.size + size)),
-            Part::Entry {
-                key_kind: _,
-                value_kind: _,
-                key: _key,
-                value: _value,
-            } => Err(NoMemory),
+            Part::Entry(_entry) => Err(NoMemory),
             Part::Group(_records) => Err(NoMemory),
         }
     }
@@ -223,7 +208,7 @@ impl Reader<'_> {
     ) -> Result<usize, NoMemory>
         requires at_tag { IsAtTag self.now.pool.now part.old bytes.now left tag }
         requires means { Means self.now.pool.now (part_context (part_view part.old)) tag.number tag.wire_type
-            (purposes.Message message_type (ListSlot tag.number)) }
+            (targets.Message message_type (ListSlot tag.number)) }
         ensures passes { Passes tag.size bytes.now result }
         ensures read { ReadsOne self.now.pool.now part.old part.new bytes.now left result }
     {

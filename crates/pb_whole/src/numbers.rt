@@ -1,17 +1,17 @@
 //! Numbers.
 
-ghost use Rattle.pb_parts.specs.declared.open.purpose.Purpose.TheVariants as purposes;
+ghost use Rattle.pb_parts.specs.declared.open.target.Target.TheVariants as targets;
 ghost use Rattle.pb_parts.specs.Open.PartView.{part_view};
-ghost use Rattle.pb_parts.specs.Open.Purposes.{Means, part_context};
+ghost use Rattle.pb_parts.specs.Open.Targets.{Means, part_context};
 ghost use Rattle.pb_parts.specs.Tokens.Number.{IsNumberType};
 ghost use Rattle.pb_whole.specs.Reads.{IsAtTag, Passes, ReadsOne};
 
 use crate::reader::{Left, Reader};
 use pb_parts::error::NoMemory;
 use pb_parts::open::part::Part;
-use pb_parts::open::purpose::{Purpose, purpose_of};
+use pb_parts::open::target::{Target, target_of};
 use pb_parts::tokens::number_token::{NumberToken, number_at};
-use pb_parts::tokens::record_tag::{RecordTag, left_behind};
+use pb_parts::tokens::record_tag::{RecordTag, left_after};
 use pb_parts::values::put_number::put_number;
 
 impl Reader<'_> {
@@ -21,20 +21,20 @@ impl Reader<'_> {
         &self,
         part: &mut Part,
         tag: RecordTag,
-        purpose: Purpose,
+        target: Target,
         bytes: &[u8],
         left: Left,
     ) -> Result<usize, NoMemory>
         requires at_tag { IsAtTag self.now.pool.now part.old bytes.now left tag }
         requires number { IsNumberType tag.wire_type }
-        requires means { Means self.now.pool.now (part_context (part_view part.old)) tag.number tag.wire_type purpose }
+        requires means { Means self.now.pool.now (part_context (part_view part.old)) tag.number tag.wire_type target }
         ensures passes { Passes tag.size bytes.now result }
         ensures read { ReadsOne self.now.pool.now part.old part.new bytes.now left result }
     {
-        let after = left_behind(Some(left.remaining), tag.size);
+        let after = left_after(Some(left.remaining), tag.size);
         match number_at(tag.wire_type, &bytes[tag.size..], after) {
             NumberToken::Whole(value, size) => {
-                put_number(self.alloc, self.pool, part, tag.number, purpose, value)?;
+                put_number(self.alloc, self.pool, part, tag.number, target, value)?;
                 Ok(tag.size + size)
             }
             NumberToken::Short => Err(NoMemory),
@@ -53,15 +53,15 @@ impl Reader<'_> {
     ) -> Result<usize, NoMemory>
         requires at_tag { IsAtTag self.now.pool.now part.old bytes.now left tag }
         requires number { IsNumberType tag.wire_type }
-        requires means { Means self.now.pool.now (part_context (part_view part.old)) tag.number tag.wire_type purposes.Unknown }
+        requires means { Means self.now.pool.now (part_context (part_view part.old)) tag.number tag.wire_type targets.Unknown }
         ensures passes { Passes tag.size bytes.now result }
         ensures read { ReadsOne self.now.pool.now part.old part.new bytes.now left result }
     {
-        self.read_one(part, tag, Purpose::Unknown, bytes, left)
+        self.read_one(part, tag, Target::Unknown, bytes, left)
     }
 
     /// As `read_one`, for what few numbers outside maps are for. A function of its own, so that `read_number` is small enough to be
-    /// inlined. The purpose is looked up once more: as an argument it would be written to memory for each number.
+    /// inlined. The target is looked up once more: as an argument it would be written to memory for each number.
     #[inline(never)]
     fn read_other(
         &self,
@@ -75,8 +75,8 @@ impl Reader<'_> {
         ensures passes { Passes tag.size bytes.now result }
         ensures read { ReadsOne self.now.pool.now part.old part.new bytes.now left result }
     {
-        let purpose = purpose_of(self.pool, part, tag.number, tag.wire_type);
-        self.read_one(part, tag, purpose, bytes, left)
+        let target = target_of(self.pool, part, tag.number, tag.wire_type);
+        self.read_one(part, tag, target, bytes, left)
     }
 
     /// Puts the number after a tag into a part, and how many bytes its record takes. An element takes those of its list with it that
@@ -94,13 +94,13 @@ impl Reader<'_> {
         ensures passes { Passes tag.size bytes.now result }
         ensures read { ReadsOne self.now.pool.now part.old part.new bytes.now left result }
     {
-        let purpose = purpose_of(self.pool, part, tag.number, tag.wire_type);
-        match purpose {
-            Purpose::Element(kind) => self.read_elements(part, tag, kind, bytes, left),
-            Purpose::One(kind, shape) => {
-                self.read_one(part, tag, Purpose::One(kind, shape), bytes, left)
+        let target = target_of(self.pool, part, tag.number, tag.wire_type);
+        match target {
+            Target::Element(kind) => self.read_elements(part, tag, kind, bytes, left),
+            Target::One(kind, shape) => {
+                self.read_one(part, tag, Target::One(kind, shape), bytes, left)
             }
-            Purpose::Unknown => self.read_unknown(part, tag, bytes, left),
+            Target::Unknown => self.read_unknown(part, tag, bytes, left),
             _ => self.read_other(part, tag, bytes, left),
         }
     }

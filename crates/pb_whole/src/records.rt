@@ -7,7 +7,7 @@ use crate::reader::{Left, Reader};
 use crate::tokens::is_number;
 use pb_parts::error::NoMemory;
 use pb_parts::open::part::{Part, Slot};
-use pb_parts::open::purpose::{Purpose, purpose_of};
+use pb_parts::open::target::{Target, target_of};
 use pb_parts::tokens::record_tag::{RecordTag, record_tag};
 
 impl Reader<'_> {
@@ -26,23 +26,23 @@ impl Reader<'_> {
         ensures passes { Passes tag.size bytes.now result }
         ensures read { ReadsOne self.now.pool.now part.old part.new bytes.now left result }
     {
-        let purpose = purpose_of(self.pool, part, tag.number, 2);
-        match purpose {
-            Purpose::Message(message_type, Slot::List(_)) => {
+        let target = target_of(self.pool, part, tag.number, 2);
+        match target {
+            Target::Message(message_type, Slot::List(_)) => {
                 self.read_messages(part, tag, message_type, bytes, left)
             }
-            Purpose::Message(message_type, slot) => {
+            Target::Message(message_type, slot) => {
                 self.read_message(part, tag, message_type, slot, bytes, left)
             }
-            Purpose::One(kind, shape) => {
-                self.read_bytes(part, tag, Purpose::One(kind, shape), bytes, left)
+            Target::One(kind, shape) => {
+                self.read_bytes(part, tag, Target::One(kind, shape), bytes, left)
             }
-            Purpose::Entry(key_kind, value_kind) => {
+            Target::Entry(key_kind, value_kind) => {
                 self.read_entries(part, tag, key_kind, value_kind, bytes, left)
             }
-            Purpose::Packed(kind) => self.read_packed(part, tag, kind, bytes, left),
-            Purpose::Element(_) | Purpose::Key(_) | Purpose::EntryValue(_) | Purpose::Unknown =>
-                self.read_bytes(part, tag, purpose, bytes, left),
+            Target::Packed(kind) => self.read_packed(part, tag, kind, bytes, left),
+            Target::Element(_) | Target::Key(_) | Target::EntryValue(_) | Target::Unknown =>
+                self.read_bytes(part, tag, target, bytes, left),
         }
     }
 

@@ -5,8 +5,8 @@ ghost use Rattle.pb_parts.specs.Tokens.Number.{IsNumberType};
 ghost use Rattle.pb_whole.specs.Lengths.{TellsLength};
 ghost use Rattle.pb_whole.specs.Reads.{HasTagAt};
 
-use pb_parts::tokens::front::front_number;
-use pb_parts::tokens::record_tag::{RecordTag, left_behind, record_tag};
+use pb_parts::tokens::prefix::prefix_number;
+use pb_parts::tokens::record_tag::{RecordTag, left_after, record_tag};
 use pb_parts::tokens::tag::payload_size;
 
 /// Where the payload of a record begins whose tag takes this many bytes, and its size. `left` is how many bytes come before the end of
@@ -17,8 +17,8 @@ pub fn length_after(tag_size: usize, bytes: &[u8], left: Option<u32>) -> Option<
     ensures within { IfSome result (λ t. (tag_size ≤ t.0) × (t.0 ≤ length bytes.now) × (t.1 < 2 ^ 31)) }
     ensures whole { TellsLength tag_size bytes.now left result }
 {
-    let after = left_behind(left, tag_size);
-    let Ok(Some((length, used))) = front_number(&bytes[tag_size..], after) else {
+    let after = left_after(left, tag_size);
+    let Ok(Some((length, used))) = prefix_number(&bytes[tag_size..], after) else {
         return None;
     };
     let start = tag_size + used;

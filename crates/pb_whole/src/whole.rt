@@ -45,12 +45,7 @@ pub fn build<'p>(
     keep_heap(alloc, bytes.len());
     match top {
         Part::Message(_kind, body) => Ok(from_well_formed(alloc, pool, message_type, body)),
-        Part::Entry {
-            key_kind: _,
-            value_kind: _,
-            key: _key,
-            value: _value,
-        } => Err(NoMemory),
+        Part::Entry(_entry) => Err(NoMemory),
         Part::Group(_records) => Err(NoMemory),
     }
 }

@@ -4,7 +4,7 @@ use Rattle.pb_wire.specs.Record.{Record}
 use Rattle.pb_wire.specs.Fault.{Place, HasLength}
 use Rattle.pb_schema.specs.Types.{Types}
 use Rattle.pb_schema.specs.Rules.{IsPool}
-use Rattle.pb_parts.specs.declared.open.purpose.Purpose.{Purpose}
+use Rattle.pb_parts.specs.declared.open.target.Target.{Target}
 use Rattle.pb_decode.specs.declared.reader.state.Reader.{Reader}
 use Rattle.pb_parts.specs.declared.tokens.step.Step.TheVariants as step
 use Rattle.pb_parts.specs.Open.Frames.{CanHold}
@@ -13,7 +13,7 @@ use Rattle.pb_parts.specs.Tokens.After.{After}
 use Rattle.pb_decode.specs.Reader.{frames_view, state_view, Reads}
 
 -- after a length of this size, where its payload begins, the reader goes on by what its record is for
-abbrev pub PassesLength : {A E : Type 0} → ℕ → Purpose → ℕ → ℕ → Reader → Reader → Result A E → Type 0
+abbrev pub PassesLength : {A E : Type 0} → ℕ → Target → ℕ → ℕ → Reader → Reader → Result A E → Type 0
 PassesLength number meant begin size old new result =
     (pool : Types) (m depth levels : ℕ) (base : List Record) (p0 u t : Place)
     → IsPool pool → CanHold pool (part_view old.part)
@@ -21,7 +21,7 @@ PassesLength number meant begin size old new result =
     → HasLength u size t → t.at ≡ begin → OnOk result (Reads pool m depth levels base p0 (state_view new) t.rest)
 
 -- the same where nothing is opened
-abbrev pub PassesLengthAlone : ℕ → Purpose → ℕ → ℕ → Reader → Reader → Type 0
+abbrev pub PassesLengthAlone : ℕ → Target → ℕ → ℕ → Reader → Reader → Type 0
 PassesLengthAlone number meant begin size old new =
     (pool : Types) (m depth levels : ℕ) (base : List Record) (p0 u t : Place)
     → After pool m depth levels base p0 (frames_view old.frames.items) (step.Length number meant) (part_view old.part) (scope_view old.scope) u

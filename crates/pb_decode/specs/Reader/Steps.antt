@@ -9,7 +9,7 @@ use Rattle.pb_schema.specs.Types.{Types}
 use Rattle.pb_schema.specs.Rules.{IsPool}
 use Rattle.pb_schema.specs.Kinds.{wire_type_of}
 use Rattle.pb_decode.specs.declared.error.DecodeError.{DecodeError}
-use Rattle.pb_parts.specs.declared.open.purpose.Purpose.{Purpose}
+use Rattle.pb_parts.specs.declared.open.target.Target.{Target}
 use Rattle.pb_decode.specs.declared.reader.state.Reader.{Reader}
 use Rattle.pb_parts.specs.declared.tokens.number.Number.{Number}
 use Rattle.pb_parts.specs.declared.tokens.record_tag.RecordTag.{RecordTag}
@@ -17,7 +17,7 @@ use Rattle.pb_parts.specs.declared.tokens.step.Step.TheVariants.{Tag, Elements}
 use Rattle.pb_parts.specs.Open.Frames.{CanHold}
 use Rattle.pb_parts.specs.Open.Openings.{innermost_group}
 use Rattle.pb_parts.specs.Open.PartView.{part_view}
-use Rattle.pb_parts.specs.Open.Purposes.{Means, part_context}
+use Rattle.pb_parts.specs.Open.Targets.{Means, part_context}
 use Rattle.pb_parts.specs.Tokens.Number.{number_view}
 use Rattle.pb_parts.specs.Tokens.Numbers.{Follows}
 use Rattle.pb_parts.specs.Tokens.After.{tag, awaited}
@@ -81,10 +81,10 @@ KeepsReading pool old new result =
     → Reads pool m depth levels base p0 (state_view old) rest → OnOk result (Reads pool m depth levels base p0 (state_view new) rest)
 
 -- ---- after a value, whose bytes are these
-abbrev pub IsAfterNumber : {A E : Type 0} → Types → Reader → Reader → ℕ → Purpose → Number → Result A E → Type 0
-IsAfterNumber pool old new number purpose value result =
+abbrev pub IsAfterNumber : {A E : Type 0} → Types → Reader → Reader → ℕ → Target → Number → Result A E → Type 0
+IsAfterNumber pool old new number target value result =
     (m depth levels : ℕ) (base : List Record) (p0 w : Place) (rest : List ℕ)
-    → Reads pool m depth levels base p0 (state_view old) rest → awaited old.step ≡ Some (tag number (wire_type (number_view value)) purpose)
+    → Reads pool m depth levels base p0 (state_view old) rest → awaited old.step ≡ Some (tag number (wire_type (number_view value)) target)
     → Follows (here (state_view old) rest) (number_view value) w → OnOk result (StandsAt pool m depth levels base p0 (state_view new) w)
 
 abbrev pub IsAfterPayload : {A : Type 0} → Types → Reader → Reader → List ℕ → Result A DecodeError → Type 0
@@ -133,7 +133,7 @@ TellsTagNumberFault pool old n size result =
     → IfErr result (λ e. IfFault e (Told pool m depth p0))
 
 -- the group is open that its first tag begins, by what its record is for
-abbrev pub EntersGroup : {A E : Type 0} → Reader → Reader → ℕ → Purpose → ℕ → Result A E → Type 0
+abbrev pub EntersGroup : {A E : Type 0} → Reader → Reader → ℕ → Target → ℕ → Result A E → Type 0
 EntersGroup old new number meant size result =
     (pool : Types) (m depth levels : ℕ) (base : List Record) (p0 : Place) (rest : List ℕ)
     → IsPool pool → CanHold pool (part_view old.part) → Means pool (part_context (part_view old.part)) number 3 meant

@@ -50,7 +50,7 @@ pub(crate) fn begin_at(
             at: 0,
             part: Part::Message(message_type, body),
             scope: Scope {
-                room: depth_left,
+                depth_left,
                 end,
                 occurrences,
             },
@@ -117,7 +117,7 @@ fn body_of(part: Part) -> Result<Body, DecodeError>
 {
     match part {
         Part::Message(_, body) => Ok(body),
-        Part::Entry { .. } => Err(DecodeError::Finished),
+        Part::Entry(_) => Err(DecodeError::Finished),
         Part::Group(_) => Err(DecodeError::Finished),
     }
 }

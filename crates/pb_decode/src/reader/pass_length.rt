@@ -1,10 +1,10 @@
 //! What begins after the length of a record.
 
 ghost use Rattle.std.specs.Prelude.{◌≡◌, ◌+◌, ◌≤◌, ◌<◌, ◌^◌, ◌∷◌, OnOk};
-ghost use Rattle.pb_parts.specs.declared.open.purpose.Purpose.TheVariants as purposes;
+ghost use Rattle.pb_parts.specs.declared.open.target.Target.TheVariants as targets;
 ghost use Rattle.pb_parts.specs.declared.tokens.step.Step.TheVariants as steps;
 ghost use Rattle.pb_parts.specs.Open.PartView.{frame_view};
-ghost use Rattle.pb_parts.specs.Values.PayloadValue.{IsBytesPurpose};
+ghost use Rattle.pb_parts.specs.Values.PayloadValue.{IsBytesTarget};
 ghost use Rattle.pb_decode.specs.Reader.{frames_view, weight};
 ghost use Rattle.pb_decode.specs.Reader.Lengths.{PassesLength, PassesLengthAlone};
 
@@ -12,7 +12,7 @@ use crate::reader::state::Reader;
 use pb_parts::error::NoMemory;
 use pb_parts::open::opening::{open_entry, open_message};
 use pb_parts::open::part::{Frame, Slot};
-use pb_parts::open::purpose::Purpose;
+use pb_parts::open::target::Target;
 use pb_parts::tokens::begin::{begin_list, begin_payload};
 use pb_parts::tokens::step::Step;
 use pb_schema::{Kind, MessageId};
@@ -47,7 +47,7 @@ fn pass_message(
     requires { begin + size < 2 ^ 32 }
     ensures at { OnOk result (reader.new.at ≡ begin) }
     ensures step { OnOk result (weight reader.new.step ≡ 0) }
-    ensures reads { PassesLength number (purposes.Message message_type slot) begin size reader.old reader.new result }
+    ensures reads { PassesLength number (targets.Message message_type slot) begin size reader.old reader.new result }
 {
     let end = begin + size;
     let frame = open_message(
@@ -77,7 +77,7 @@ fn pass_entry(
     requires { begin + size < 2 ^ 32 }
     ensures at { OnOk result (reader.new.at ≡ begin) }
     ensures step { OnOk result (weight reader.new.step ≡ 0) }
-    ensures reads { PassesLength number (purposes.Entry key_kind value_kind) begin size reader.old reader.new result }
+    ensures reads { PassesLength number (targets.Entry key_kind value_kind) begin size reader.old reader.new result }
 {
     let frame = open_entry(
         alloc,
@@ -98,20 +98,20 @@ fn pass_list(reader: &mut Reader, number: u32, kind: Kind, begin: u32, size: u32
     requires { begin + size < 2 ^ 32 }
     ensures at { reader.new.at ≡ begin }
     ensures step { weight reader.new.step ≡ 0 }
-    ensures reads { PassesLengthAlone number (purposes.Packed kind) begin size reader.old reader.new }
+    ensures reads { PassesLengthAlone number (targets.Packed kind) begin size reader.old reader.new }
 {
     reader.step = begin_list(&mut reader.scope, number, kind, begin + size);
     reader.at = begin;
 }
 
 /// After any other length its payload comes next.
-fn pass_bytes(reader: &mut Reader, number: u32, purpose: Purpose, begin: u32, size: u32)
-    requires { IsBytesPurpose purpose }
+fn pass_bytes(reader: &mut Reader, number: u32, target: Target, begin: u32, size: u32)
+    requires { IsBytesTarget target }
     ensures at { reader.new.at ≡ begin }
     ensures step { weight reader.new.step ≡ 1 }
-    ensures reads { PassesLengthAlone number purpose begin size reader.old reader.new }
+    ensures reads { PassesLengthAlone number target begin size reader.old reader.new }
 {
-    reader.step = begin_payload(number, purpose, size);
+    reader.step = begin_payload(number, target, size);
     reader.at = begin;
 }
 
@@ -120,30 +120,30 @@ pub(crate) fn pass_length(
     alloc: Global,
     reader: &mut Reader,
     number: u32,
-    purpose: Purpose,
+    target: Target,
     begin: u32,
     size: u32,
 ) -> Result<(), NoMemory>
     requires { begin + size < 2 ^ 32 }
     ensures at { OnOk result (reader.new.at ≡ begin) }
     ensures step { OnOk result (weight reader.new.step ≤ 1) }
-    ensures reads { PassesLength number purpose begin size reader.old reader.new result }
+    ensures reads { PassesLength number target begin size reader.old reader.new result }
 {
-    match purpose {
-        Purpose::Message(message_type, slot) => {
+    match target {
+        Target::Message(message_type, slot) => {
             pass_message(alloc, reader, number, message_type, slot, begin, size)?;
             Ok(())
         }
-        Purpose::Entry(key_kind, value_kind) => {
+        Target::Entry(key_kind, value_kind) => {
             pass_entry(alloc, reader, number, key_kind, value_kind, begin, size)?;
             Ok(())
         }
-        Purpose::Packed(kind) => {
+        Target::Packed(kind) => {
             pass_list(reader, number, kind, begin, size);
             Ok(())
         }
         _ => {
-            pass_bytes(reader, number, purpose, begin, size);
+            pass_bytes(reader, number, target, begin, size);
             Ok(())
         }
     }

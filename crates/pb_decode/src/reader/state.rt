@@ -18,7 +18,7 @@ use crate::reader::take_next::take_next;
 use pb_parts::close::put::count_one;
 use pb_parts::error::NoMemory;
 use pb_parts::open::part::{Frame, Part, Scope};
-use pb_parts::open::purpose::Purpose;
+use pb_parts::open::target::Target;
 use pb_parts::tokens::number::Number;
 use pb_parts::tokens::number_token::{NumberToken, number_at};
 use pb_parts::tokens::step::Step;
@@ -52,7 +52,7 @@ fn pass_number(
     pool: &Pool,
     reader: &mut Reader,
     number: u32,
-    purpose: Purpose,
+    target: Target,
     value: Number,
     size: usize,
 ) -> Result<(), NoMemory>
@@ -62,9 +62,9 @@ fn pass_number(
     requires fits { reader.old.at + size < 2 ^ 32 }
     ensures at { OnOk result ((reader.new.at ≡ reader.old.at + size) × (reader.new.step ≡ Tag)) }
     ensures same_end { OnOk result (reader.new.scope.end ≡ reader.old.scope.end) }
-    ensures stands { IsAfterNumber pool.now reader.old reader.new number purpose value result }
+    ensures stands { IsAfterNumber pool.now reader.old reader.new number target value result }
 {
-    put_number(alloc, pool, &mut reader.part, number, purpose, value)?;
+    put_number(alloc, pool, &mut reader.part, number, target, value)?;
     count_one(&mut reader.scope, number)?;
     reader.at += size as u32;
     reader.step = Step::Tag;
@@ -78,13 +78,13 @@ pub(crate) fn take_number(
     reader: &mut Reader,
     number: u32,
     wire_type: u8,
-    purpose: Purpose,
+    target: Target,
     bytes: &[u8],
 ) -> Result<Option<usize>, DecodeError>
     requires rules { IsPool pool.now }
     requires reading { IsReading pool.now (state_view reader.old) bytes.now }
     requires number { IsNumberType wire_type }
-    requires step { awaited reader.old.step ≡ Some (tag number wire_type purpose) }
+    requires step { awaited reader.old.step ≡ Some (tag number wire_type target) }
     ensures passes { IfOk result (λ o. Passes (state_view reader.old) bytes.now (state_view reader.new) o) }
     ensures taken { TakesNext pool.now reader.old reader.new bytes.now result }
     ensures waits { IfOk result (λ o. IfNone o (Waits (state_view reader.new) bytes.now)) }
@@ -92,7 +92,7 @@ pub(crate) fn take_number(
 {
     match number_at(wire_type, bytes, left(reader)) {
         NumberToken::Whole(value, size) => {
-            pass_number(alloc, pool, reader, number, purpose, value, size)?;
+            pass_number(alloc, pool, reader, number, target, value, size)?;
             Ok(Some(size))
         }
         NumberToken::Short => Ok(None),

@@ -83,15 +83,8 @@ fn close_innermost(alloc: Global, pool: &Pool, reader: &mut Reader) -> Result<()
             close_message(alloc, pool, outer, around, number, slot, message)?;
             Ok(())
         }
-        Part::Entry {
-            key_kind,
-            value_kind,
-            key,
-            value,
-        } => {
-            close_entry(
-                alloc, outer, around, number, slot, key_kind, value_kind, key, value,
-            )?;
+        Part::Entry(entry) => {
+            close_entry(alloc, outer, around, number, slot, entry)?;
             Ok(())
         }
         Part::Group(_) => unreachable!(),

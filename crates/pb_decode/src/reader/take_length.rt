@@ -11,8 +11,8 @@ use crate::error::DecodeError;
 use crate::reader::fault::fault_at;
 use crate::reader::pass_length::pass_length;
 use crate::reader::state::{Reader, left};
-use pb_parts::open::purpose::Purpose;
-use pb_parts::tokens::front::front_number;
+use pb_parts::open::target::Target;
+use pb_parts::tokens::prefix::prefix_number;
 use pb_parts::tokens::tag::payload_size;
 use pb_schema::Pool;
 use std::alloc::Global;
@@ -23,18 +23,18 @@ pub(crate) fn take_length(
     pool: &Pool,
     reader: &mut Reader,
     number: u32,
-    purpose: Purpose,
+    target: Target,
     bytes: &[u8],
 ) -> Result<Option<usize>, DecodeError>
     requires rules { IsPool pool.now }
     requires reading { IsReading pool.now (state_view reader.old) bytes.now }
-    requires step { reader.old.step ≡ steps.Length number purpose }
+    requires step { reader.old.step ≡ steps.Length number target }
     ensures passes { IfOk result (λ o. Passes (state_view reader.old) bytes.now (state_view reader.new) o) }
     ensures taken { TakesNext pool.now reader.old reader.new bytes.now result }
     ensures waits { IfOk result (λ o. IfNone o (Waits (state_view reader.new) bytes.now)) }
     ensures refused { TellsFault pool.now reader.old bytes.now result }
 {
-    match front_number(bytes, left(reader)) {
+    match prefix_number(bytes, left(reader)) {
         Err(cause) => Err(fault_at(alloc, reader, reader.at, cause)),
         Ok(None) => Ok(None),
         Ok(Some((length, used))) => {
@@ -42,7 +42,7 @@ pub(crate) fn take_length(
             match payload_size(length, begin, reader.scope.end) {
                 Err(cause) => Err(fault_at(alloc, reader, reader.at, cause)),
                 Ok(size) => {
-                    pass_length(alloc, reader, number, purpose, begin, size)?;
+                    pass_length(alloc, reader, number, target, begin, size)?;
                     Ok(Some(used))
                 }
             }

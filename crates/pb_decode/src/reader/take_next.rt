@@ -35,14 +35,12 @@ fn take_open(
 {
     match reader.step {
         Step::Tag => take_tag(alloc, pool, reader, bytes),
-        Step::Varint(number, purpose) => take_number(
-            alloc, pool, reader, number, 0, purpose, bytes,
-        ),
-        Step::I64(number, purpose) => take_number(alloc, pool, reader, number, 1, purpose, bytes),
-        Step::I32(number, purpose) => take_number(alloc, pool, reader, number, 5, purpose, bytes),
-        Step::Length(number, purpose) => take_length(alloc, pool, reader, number, purpose, bytes),
-        Step::Payload(number, purpose, size) => {
-            take_payload(alloc, pool, reader, number, purpose, size, bytes)
+        Step::Varint(number, target) => take_number(alloc, pool, reader, number, 0, target, bytes),
+        Step::I64(number, target) => take_number(alloc, pool, reader, number, 1, target, bytes),
+        Step::I32(number, target) => take_number(alloc, pool, reader, number, 5, target, bytes),
+        Step::Length(number, target) => take_length(alloc, pool, reader, number, target, bytes),
+        Step::Payload(number, target, size) => {
+            take_payload(alloc, pool, reader, number, target, size, bytes)
         }
         Step::Elements(number, kind, outer) => {
             take_element(alloc, pool, reader, number, kind, outer, bytes)

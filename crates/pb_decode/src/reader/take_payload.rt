@@ -6,7 +6,7 @@ ghost use Rattle.pb_parts.specs.declared.tokens.step.Step.TheVariants.{Tag, Payl
 ghost use Rattle.pb_parts.specs.Open.Frames.{CanHold};
 ghost use Rattle.pb_parts.specs.Open.Occurrences.{counts_view};
 ghost use Rattle.pb_parts.specs.Open.PartView.{part_view};
-ghost use Rattle.pb_parts.specs.Values.PayloadValue.{IsBytesPurpose};
+ghost use Rattle.pb_parts.specs.Values.PayloadValue.{IsBytesTarget};
 ghost use Rattle.pb_decode.specs.Reader.{state_view, IsReading, Passes};
 ghost use Rattle.pb_decode.specs.Reader.Waiting.{Waits};
 ghost use Rattle.pb_decode.specs.Reader.Steps.{TellsFault, TakesNext, IsAfterPayload, TellsPayloadFault};
@@ -15,7 +15,7 @@ use crate::error::DecodeError;
 use crate::reader::fault::fault_at;
 use crate::reader::state::Reader;
 use pb_parts::close::put::count_one;
-use pb_parts::open::purpose::Purpose;
+use pb_parts::open::target::Target;
 use pb_parts::tokens::step::Step;
 use pb_parts::values::payload_value::PayloadError;
 use pb_parts::values::put_payload::put_payload;
@@ -29,13 +29,13 @@ fn pass_payload(
     pool: &Pool,
     reader: &mut Reader,
     number: u32,
-    purpose: Purpose,
+    target: Target,
     bytes: &[u8],
 ) -> Result<(), DecodeError>
     requires rules { IsPool pool.now }
     requires can { CanHold pool.now (part_view reader.old.part) }
-    requires purpose { IsBytesPurpose purpose }
-    requires step { reader.old.step ≡ Payload number purpose (length bytes.now) }
+    requires target { IsBytesTarget target }
+    requires step { reader.old.step ≡ Payload number target (length bytes.now) }
     requires few { counts_view reader.old.scope.occurrences number < 2 ^ 32 - 1 }
     requires fits { reader.old.at + length bytes.now < 2 ^ 32 }
     ensures at { OnOk result ((reader.new.at ≡ reader.old.at + length bytes.now) × (reader.new.step ≡ Tag)) }
@@ -43,7 +43,7 @@ fn pass_payload(
     ensures stands { IsAfterPayload pool.now reader.old reader.new bytes.now result }
     ensures refused { TellsPayloadFault pool.now reader.old bytes.now result }
 {
-    match put_payload(alloc, pool, &mut reader.part, number, purpose, bytes) {
+    match put_payload(alloc, pool, &mut reader.part, number, target, bytes) {
         Ok(()) => {
             count_one(&mut reader.scope, number)?;
             reader.at += bytes.len() as u32;
@@ -64,13 +64,13 @@ pub(crate) fn take_payload(
     pool: &Pool,
     reader: &mut Reader,
     number: u32,
-    purpose: Purpose,
+    target: Target,
     size: u32,
     bytes: &[u8],
 ) -> Result<Option<usize>, DecodeError>
     requires rules { IsPool pool.now }
     requires reading { IsReading pool.now (state_view reader.old) bytes.now }
-    requires step { reader.old.step ≡ Payload number purpose size }
+    requires step { reader.old.step ≡ Payload number target size }
     ensures passes { IfOk result (λ o. Passes (state_view reader.old) bytes.now (state_view reader.new) o) }
     ensures taken { TakesNext pool.now reader.old reader.new bytes.now result }
     ensures waits { IfOk result (λ o. IfNone o (Waits (state_view reader.new) bytes.now)) }
@@ -80,6 +80,6 @@ pub(crate) fn take_payload(
     if bytes.len() < wanted {
         return Ok(None);
     }
-    pass_payload(alloc, pool, reader, number, purpose, &bytes[..wanted])?;
+    pass_payload(alloc, pool, reader, number, target, &bytes[..wanted])?;
     Ok(Some(wanted))
 }

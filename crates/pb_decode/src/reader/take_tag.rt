@@ -21,8 +21,8 @@ use pb_parts::close::put::close_message;
 use pb_parts::error::NoMemory;
 use pb_parts::open::opening::open_group;
 use pb_parts::open::part::{Frame, Part};
-use pb_parts::open::purpose::{Purpose, purpose_of};
-use pb_parts::tokens::front::front_number;
+use pb_parts::open::target::{Target, target_of};
+use pb_parts::tokens::prefix::prefix_number;
 use pb_parts::tokens::tag::{group_end, group_refusal, tag_parts};
 use pb_parts::tokens::tag_step::tag_step;
 use pb_schema::Pool;
@@ -60,7 +60,13 @@ fn pass_record_tag(
     ensures reads { PassesTag pool.now reader.old reader.new number wire_type size result }
     ensures refused { TellsTagFault pool.now reader.old number wire_type size result }
 {
-    match tag_step(pool, &reader.part, reader.scope.room, number, wire_type) {
+    match tag_step(
+        pool,
+        &reader.part,
+        reader.scope.depth_left,
+        number,
+        wire_type,
+    ) {
         Some(step) => {
             reader.at += size as u32;
             reader.step = step;
@@ -76,11 +82,11 @@ pub(crate) fn enter_group(
     alloc: Global,
     reader: &mut Reader,
     number: u32,
-    meant: Purpose,
+    meant: Target,
     size: usize,
 ) -> Result<(), NoMemory>
     requires step { reader.old.step ≡ Tag }
-    requires room { 0 < reader.old.scope.room }
+    requires depth_left { 0 < reader.old.scope.depth_left }
     requires fits { reader.old.at + size < 2 ^ 32 }
     ensures at { OnOk result (reader.new.at ≡ reader.old.at + size) }
     ensures step { OnOk result (reader.new.step ≡ Tag) }
@@ -97,7 +103,7 @@ fn pass_group_start(
     alloc: Global,
     reader: &mut Reader,
     number: u32,
-    meant: Purpose,
+    meant: Target,
     size: usize,
 ) -> Result<(), DecodeError>
     requires step { reader.old.step ≡ Tag }
@@ -106,7 +112,7 @@ fn pass_group_start(
     ensures reads { EntersGroup reader.old reader.new number meant size result }
     ensures refused { (pool : Types) → TellsTagFault pool reader.old number 3 size result }
 {
-    match group_refusal(reader.scope.room) {
+    match group_refusal(reader.scope.depth_left) {
         Some(cause) => Err(fault_inside(alloc, reader, number, reader.at, cause)),
         None => {
             enter_group(alloc, reader, number, meant, size)?;
@@ -155,7 +161,7 @@ pub(crate) fn leave_group(
             close_group(outer, around, number, slot, records)?;
             Ok(())
         }
-        Part::Entry { .. } => unreachable!(),
+        Part::Entry(_) => unreachable!(),
     }
 }
 
@@ -204,7 +210,7 @@ fn pass_tag(
         Err(cause) => return Err(fault_at(alloc, reader, reader.at, cause)),
     };
     if wire_type == 3 {
-        let meant = purpose_of(pool, &reader.part, number, wire_type);
+        let meant = target_of(pool, &reader.part, number, wire_type);
         pass_group_start(alloc, reader, number, meant, size)?;
         Ok(())
     } else if wire_type == 4 {
@@ -242,7 +248,7 @@ pub(crate) fn take_tag(
     if is_spent(bytes, left(reader)) {
         return Ok(None);
     }
-    match front_number(bytes, left(reader)) {
+    match prefix_number(bytes, left(reader)) {
         Ok(Some((tag, size))) => {
             pass_tag(alloc, pool, reader, tag, size)?;
             Ok(Some(size))

@@ -1,20 +1,20 @@
 //! Messages and map entries that are complete in the bytes: each is read by `pb_whole` and goes into its slot, without a frame.
 
 ghost use Rattle.std.specs.Prelude.{◌≡◌, ◌+◌, ◌≤◌, length, IfOk, IfSome, IfNone};
-ghost use Rattle.pb_parts.specs.declared.open.purpose.Purpose.TheVariants as purposes;
+ghost use Rattle.pb_parts.specs.declared.open.target.Target.TheVariants as targets;
 ghost use Rattle.pb_parts.specs.Open.PartView.{part_view};
-ghost use Rattle.pb_parts.specs.Open.Purposes.{Means, part_context};
+ghost use Rattle.pb_parts.specs.Open.Targets.{Means, part_context};
 ghost use Rattle.pb_decode.specs.Reader.Steps.{IsAtTag, TakesWhole};
 
 use crate::reader::state::{Reader, left};
 use pb_parts::close::closing::close_entry;
 use pb_parts::close::put::close_message;
 use pb_parts::error::NoMemory;
-use pb_parts::open::opening::{is_free, room_in};
-use pb_parts::open::part::{Part, Slot};
-use pb_parts::open::purpose::Purpose;
+use pb_parts::open::opening::{depth_left_in, is_free};
+use pb_parts::open::part::{Entry, Part, Slot};
+use pb_parts::open::target::Target;
 use pb_parts::tokens::record_tag::RecordTag;
-use pb_parts::tokens::tag_step::has_room;
+use pb_parts::tokens::tag_step::has_level;
 use pb_schema::{Kind, MessageId};
 use pb_value::parts::empty_body;
 use pb_whole::reader::{Left, Reader as WholeReader};
@@ -33,12 +33,12 @@ pub(crate) fn take_message(
 ) -> Result<Option<usize>, NoMemory>
     requires at_tag { IsAtTag whole.now.pool.now reader.old bytes.now tag }
     requires bytes { tag.wire_type ≡ 2 }
-    requires means { Means whole.now.pool.now (part_context (part_view reader.old.part)) tag.number 2 (purposes.Message message_type slot) }
+    requires means { Means whole.now.pool.now (part_context (part_view reader.old.part)) tag.number 2 (targets.Message message_type slot) }
     ensures passes { IfOk result (λ o. IfSome o (λ n. (tag.size ≤ n) × (n ≤ length bytes.now) × (reader.new.at ≡ reader.old.at + n))) }
     ensures none { IfOk result (λ o. IfNone o (reader.new ≡ reader.old)) }
     ensures taken { TakesWhole whole.now.pool.now reader.old reader.new bytes.now result }
 {
-    if !has_room(reader.scope.room, Purpose::Message(message_type, slot)) {
+    if !has_level(reader.scope.depth_left, Target::Message(message_type, slot)) {
         return Ok(None);
     }
     if !is_free(&reader.part, slot) {
@@ -51,7 +51,7 @@ pub(crate) fn take_message(
     let mut inner = Part::Message(message_type, empty_body(whole.alloc));
     let within = Left {
         remaining: size,
-        depth_left: room_in(slot, reader.scope.room),
+        depth_left: depth_left_in(slot, reader.scope.depth_left),
     };
     let Ok(()) = whole.read_records(&mut inner, &bytes[start..], within) else {
         *by_tokens = true;
@@ -74,12 +74,7 @@ pub(crate) fn take_message(
             reader.at += end as u32;
             Ok(Some(end))
         }
-        Part::Entry {
-            key_kind: _,
-            value_kind: _,
-            key: _key,
-            value: _value,
-        } => Ok(None),
+        Part::Entry(_entry) => Ok(None),
         Part::Group(_records) => Ok(None),
     }
 }
@@ -96,54 +91,39 @@ pub(crate) fn take_entry(
 ) -> Result<Option<usize>, NoMemory>
     requires at_tag { IsAtTag whole.now.pool.now reader.old bytes.now tag }
     requires bytes { tag.wire_type ≡ 2 }
-    requires means { Means whole.now.pool.now (part_context (part_view reader.old.part)) tag.number 2 (purposes.Entry key_kind value_kind) }
+    requires means { Means whole.now.pool.now (part_context (part_view reader.old.part)) tag.number 2 (targets.Entry key_kind value_kind) }
     ensures passes { IfOk result (λ o. IfSome o (λ n. (tag.size ≤ n) × (n ≤ length bytes.now) × (reader.new.at ≡ reader.old.at + n))) }
     ensures none { IfOk result (λ o. IfNone o (reader.new ≡ reader.old)) }
     ensures taken { TakesWhole whole.now.pool.now reader.old reader.new bytes.now result }
 {
-    if reader.scope.room == 0 {
+    if reader.scope.depth_left == 0 {
         return Ok(None);
     }
     let Some((start, size)) = payload_after(tag.size, bytes, left(reader)) else {
         return Ok(None);
     };
     let end = start + size as usize;
-    let mut entry = Part::Entry {
+    let mut entry = Part::Entry(Entry {
         key_kind,
         value_kind,
         key: None,
         value: None,
-    };
+    });
     let within = Left {
         remaining: size,
-        depth_left: reader.scope.room - 1,
+        depth_left: reader.scope.depth_left - 1,
     };
     let Ok(()) = whole.read_entry(&mut entry, &bytes[start..], within) else {
         *by_tokens = true;
         return Ok(None);
     };
     match entry {
-        Part::Entry {
-            key_kind,
-            value_kind,
-            key,
-            value,
-        } => {
+        Part::Entry(entry) => {
             let number = tag.number;
             let slot = Slot::Map(number);
             let outer = &mut reader.part;
             let around = &mut reader.scope;
-            close_entry(
-                whole.alloc,
-                outer,
-                around,
-                number,
-                slot,
-                key_kind,
-                value_kind,
-                key,
-                value,
-            )?;
+            close_entry(whole.alloc, outer, around, number, slot, entry)?;
             reader.at += end as u32;
             Ok(Some(end))
         }

@@ -4,8 +4,8 @@ ghost use Rattle.std.specs.Prelude.{◌≡◌, ◌⊎◌, ◌+◌, ◌≤◌, �
 ghost use Rattle.pb_schema.specs.Rules.{IsPool};
 ghost use Rattle.pb_parts.specs.declared.tokens.step.Step.TheVariants.{Tag};
 ghost use Rattle.pb_parts.specs.Open.PartView.{part_view};
-ghost use Rattle.pb_parts.specs.Open.Purposes.{Means, part_context};
-ghost use Rattle.pb_parts.specs.Values.PayloadValue.{IsBytesPurpose};
+ghost use Rattle.pb_parts.specs.Open.Targets.{Means, part_context};
+ghost use Rattle.pb_parts.specs.Values.PayloadValue.{IsBytesTarget};
 ghost use Rattle.pb_parts.specs.Tokens.Number.{IsNumberType};
 ghost use Rattle.pb_decode.specs.Reader.{state_view, IsReading};
 ghost use Rattle.pb_decode.specs.Reader.Steps.{IsAtTag, TakesWhole};
@@ -16,11 +16,11 @@ use crate::reader::take_tag::{enter_group, innermost, leave_group};
 use crate::reader::whole_payload::{take_entry, take_message};
 use pb_parts::close::put::count_one;
 use pb_parts::error::NoMemory;
-use pb_parts::open::purpose::{Purpose, purpose_of};
+use pb_parts::open::target::{Target, target_of};
 use pb_parts::tokens::number_token::{NumberToken, number_at};
-use pb_parts::tokens::record_tag::{RecordTag, left_behind, record_tag};
+use pb_parts::tokens::record_tag::{RecordTag, left_after, record_tag};
 use pb_parts::tokens::tag::group_end;
-use pb_parts::tokens::tag_step::has_room;
+use pb_parts::tokens::tag_step::has_level;
 use pb_parts::values::payload_value::PayloadError;
 use pb_parts::values::put_number::put_number;
 use pb_parts::values::put_payload::put_payload;
@@ -43,11 +43,11 @@ fn take_number_record(
     ensures none { IfOk result (λ o. IfNone o (reader.new ≡ reader.old)) }
     ensures taken { TakesWhole pool.now reader.old reader.new bytes.now result }
 {
-    let after = left_behind(left(reader), tag.size);
+    let after = left_after(left(reader), tag.size);
     match number_at(tag.wire_type, &bytes[tag.size..], after) {
         NumberToken::Whole(value, size) => {
-            let purpose = purpose_of(pool, &reader.part, tag.number, tag.wire_type);
-            put_number(alloc, pool, &mut reader.part, tag.number, purpose, value)?;
+            let target = target_of(pool, &reader.part, tag.number, tag.wire_type);
+            put_number(alloc, pool, &mut reader.part, tag.number, target, value)?;
             count_one(&mut reader.scope, tag.number)?;
             let used = tag.size + size;
             reader.at += used as u32;
@@ -58,12 +58,12 @@ fn take_number_record(
     }
 }
 
-/// Says that a record of a purpose has its payload's bytes for its value, or is unknown.
-fn is_for_bytes(purpose: Purpose) -> bool
-    ensures { result ≡ true → IsBytesPurpose purpose }
+/// Says that a record with this target has its payload's bytes for its value, or is unknown.
+fn is_for_bytes(target: Target) -> bool
+    ensures { result ≡ true → IsBytesTarget target }
 {
-    match purpose {
-        Purpose::Packed(_) | Purpose::Message(_, _) | Purpose::Entry(_, _) => false,
+    match target {
+        Target::Packed(_) | Target::Message(_, _) | Target::Entry(_, _) => false,
         _ => true,
     }
 }
@@ -74,13 +74,13 @@ fn take_bytes_record(
     pool: &Pool,
     reader: &mut Reader,
     tag: RecordTag,
-    purpose: Purpose,
+    target: Target,
     bytes: &[u8],
 ) -> Result<Option<usize>, NoMemory>
     requires at_tag { IsAtTag pool.now reader.old bytes.now tag }
     requires bytes { tag.wire_type ≡ 2 }
-    requires means { Means pool.now (part_context (part_view reader.old.part)) tag.number 2 purpose }
-    requires purpose { IsBytesPurpose purpose }
+    requires means { Means pool.now (part_context (part_view reader.old.part)) tag.number 2 target }
+    requires target { IsBytesTarget target }
     ensures passes { IfOk result (λ o. IfSome o (λ n. (tag.size ≤ n) × (n ≤ length bytes.now) × (reader.new.at ≡ reader.old.at + n))) }
     ensures none { IfOk result (λ o. IfNone o (reader.new ≡ reader.old)) }
     ensures taken { TakesWhole pool.now reader.old reader.new bytes.now result }
@@ -90,7 +90,7 @@ fn take_bytes_record(
     };
     let end = start + size as usize;
     let payload = &bytes[start..end];
-    match put_payload(alloc, pool, &mut reader.part, tag.number, purpose, payload) {
+    match put_payload(alloc, pool, &mut reader.part, tag.number, target, payload) {
         Ok(()) => {
             count_one(&mut reader.scope, tag.number)?;
             reader.at += end as u32;
@@ -108,24 +108,24 @@ fn take_opening(
     pool: &Pool,
     reader: &mut Reader,
     tag: RecordTag,
-    purpose: Purpose,
+    target: Target,
     bytes: &[u8],
 ) -> Result<Option<usize>, NoMemory>
     requires at_tag { IsAtTag pool.now reader.old bytes.now tag }
     requires bytes { tag.wire_type ≡ 2 }
-    requires means { Means pool.now (part_context (part_view reader.old.part)) tag.number 2 purpose }
+    requires means { Means pool.now (part_context (part_view reader.old.part)) tag.number 2 target }
     ensures passes { IfOk result (λ o. IfSome o (λ n. (tag.size ≤ n) × (n ≤ length bytes.now) × (reader.new.at ≡ reader.old.at + n))) }
     ensures none { IfOk result (λ o. IfNone o (reader.new ≡ reader.old)) }
     ensures taken { TakesWhole pool.now reader.old reader.new bytes.now result }
 {
-    if !has_room(reader.scope.room, purpose) {
+    if !has_level(reader.scope.depth_left, target) {
         return Ok(None);
     }
     let Some((start, size)) = length_after(tag.size, bytes, left(reader)) else {
         return Ok(None);
     };
     let begin = reader.at + start as u32;
-    pass_length(alloc, reader, tag.number, purpose, begin, size)?;
+    pass_length(alloc, reader, tag.number, target, begin, size)?;
     Ok(Some(start))
 }
 
@@ -137,24 +137,24 @@ fn take_inner_or_open(
     pool: &Pool,
     reader: &mut Reader,
     tag: RecordTag,
-    purpose: Purpose,
+    target: Target,
     by_tokens: &mut bool,
     bytes: &[u8],
 ) -> Result<Option<usize>, NoMemory>
     requires at_tag { IsAtTag pool.now reader.old bytes.now tag }
     requires bytes { tag.wire_type ≡ 2 }
-    requires means { Means pool.now (part_context (part_view reader.old.part)) tag.number 2 purpose }
+    requires means { Means pool.now (part_context (part_view reader.old.part)) tag.number 2 target }
     ensures passes { IfOk result (λ o. IfSome o (λ n. (tag.size ≤ n) × (n ≤ length bytes.now) × (reader.new.at ≡ reader.old.at + n))) }
     ensures none { IfOk result (λ o. IfNone o (reader.new ≡ reader.old)) }
     ensures taken { TakesWhole pool.now reader.old reader.new bytes.now result }
 {
     if !*by_tokens {
         let whole = WholeReader { alloc, pool };
-        let taken = match purpose {
-            Purpose::Message(message_type, slot) => {
+        let taken = match target {
+            Target::Message(message_type, slot) => {
                 take_message(&whole, reader, tag, message_type, slot, by_tokens, bytes)?
             }
-            Purpose::Entry(key_kind, value_kind) => {
+            Target::Entry(key_kind, value_kind) => {
                 take_entry(&whole, reader, tag, key_kind, value_kind, by_tokens, bytes)?
             }
             _ => None,
@@ -163,7 +163,7 @@ fn take_inner_or_open(
             return Ok(Some(size));
         }
     }
-    take_opening(alloc, pool, reader, tag, purpose, bytes)
+    take_opening(alloc, pool, reader, tag, target, bytes)
 }
 
 /// Takes the record of a length if its bytes are its value and are complete after its tag, or opens what it opens, and how many
@@ -182,11 +182,11 @@ fn take_length_record(
     ensures none { IfOk result (λ o. IfNone o (reader.new ≡ reader.old)) }
     ensures taken { TakesWhole pool.now reader.old reader.new bytes.now result }
 {
-    let purpose = purpose_of(pool, &reader.part, tag.number, 2);
-    if is_for_bytes(purpose) {
-        take_bytes_record(alloc, pool, reader, tag, purpose, bytes)
+    let target = target_of(pool, &reader.part, tag.number, 2);
+    if is_for_bytes(target) {
+        take_bytes_record(alloc, pool, reader, tag, target, bytes)
     } else {
-        take_inner_or_open(alloc, pool, reader, tag, purpose, by_tokens, bytes)
+        take_inner_or_open(alloc, pool, reader, tag, target, by_tokens, bytes)
     }
 }
 
@@ -204,10 +204,10 @@ fn take_group_start(
     ensures none { IfOk result (λ o. IfNone o (reader.new ≡ reader.old)) }
     ensures taken { TakesWhole pool.now reader.old reader.new bytes.now result }
 {
-    if reader.scope.room == 0 {
+    if reader.scope.depth_left == 0 {
         return Ok(None);
     }
-    let meant = purpose_of(pool, &reader.part, tag.number, tag.wire_type);
+    let meant = target_of(pool, &reader.part, tag.number, tag.wire_type);
     enter_group(alloc, reader, tag.number, meant, tag.size)?;
     Ok(Some(tag.size))
 }

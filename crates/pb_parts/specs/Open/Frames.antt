@@ -98,7 +98,7 @@ IsSameForm (group_part us) (group_part vs) = Unit {0}
 -- what is kept of an open part beside what there is of it: the levels left, where its known end is, and how many whole records of each number
 -- are in it so far
 pub record Scope : Type 0 where
-  pub room : ℕ
+  pub depth_left : ℕ
   pub end : Option ℕ
   pub counts : ℕ → ℕ
 
@@ -208,16 +208,16 @@ Takes (slot.Unknown n) (group_part vs) (group_part us) = Unit {0}
 pub data Held (pool : Types) (m depth levels : ℕ) (base : List Record) (p0 : Place) :
     List Frame → Part → Open Context → ℕ → ℕ → List PathStep → Place → List Record → Type 0 where
   at_top :
-      {now : Part} {o : Open Context} {room inner : ℕ} {path : List PathStep} {p : Place} {earlier : List Record}
-      → (v : Message) → IsSameForm now (message_part m v) → o ≡ records (a_message m) → room ≡ depth → inner ≡ levels
+      {now : Part} {o : Open Context} {depth_left inner : ℕ} {path : List PathStep} {p : Place} {earlier : List Record}
+      → (v : Message) → IsSameForm now (message_part m v) → o ≡ records (a_message m) → depth_left ≡ depth → inner ≡ levels
       → path ≡ [] → p ≡ p0 → earlier ≡ base → GoesOnFrom pool inner now earlier
-      → Held pool m depth levels base p0 [] now o room inner path p earlier
+      → Held pool m depth levels base p0 [] now o depth_left inner path p earlier
   inside :
       {frame : Frame} {frames : List Frame} {now : Part} {o a : Open Context} {below outer inner : ℕ}
       {path steps : List PathStep} {p q u : Place} {rs before earlier : List Record}
-      → Held pool m depth levels base p0 frames frame.part a frame.scope.room outer steps p before → Behind (schema_of pool) a frame.scope.room p rs q
-      → Begun (schema_of pool) a frame.scope.room frame.number q o below u → IsPartOf frame.part (context_of a) → CanHold pool frame.part
-      → frame.scope.room < outer → Completes pool outer inner frame (before ++ rs) now earlier → path ≡ steps ++ step frame.number rs ∷ []
+      → Held pool m depth levels base p0 frames frame.part a frame.scope.depth_left outer steps p before → Behind (schema_of pool) a frame.scope.depth_left p rs q
+      → Begun (schema_of pool) a frame.scope.depth_left frame.number q o below u → IsPartOf frame.part (context_of a) → CanHold pool frame.part
+      → frame.scope.depth_left < outer → Completes pool outer inner frame (before ++ rs) now earlier → path ≡ steps ++ step frame.number rs ∷ []
       → CountsOf frame.scope.counts rs → EndsAt q frame.scope.end
       → GoesOnFrom pool inner now earlier → Takes frame.slot frame.part now × (opening_type frame.group ≡ open_type o)
       → Held pool m depth levels base p0 (frame ∷ frames) now o below inner path u earlier
@@ -232,10 +232,10 @@ pub record Stands
   pub begin : Place
   pub earlier : List Record
   pub records_so_far : List Record
-  pub held : Held pool m depth levels base p0 frames now open_now scope.room inner path begin earlier
+  pub held : Held pool m depth levels base p0 frames now open_now scope.depth_left inner path begin earlier
   pub form : IsPartOf now (context_of open_now)
-  pub deep : scope.room < inner
-  pub behind : Behind (schema_of pool) open_now scope.room begin records_so_far q
+  pub deep : scope.depth_left < inner
+  pub behind : Behind (schema_of pool) open_now scope.depth_left begin records_so_far q
   pub counted : CountsOf scope.counts records_so_far
   pub ends : EndsAt q scope.end
   pub bytes : AreBytes p0.rest

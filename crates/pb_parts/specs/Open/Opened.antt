@@ -9,32 +9,32 @@ use Rattle.pb_wire.specs.Sound.{AllSound}
 use Rattle.pb_wire.specs.Grammar.{payload_at}
 
 -- these whole sound records of the open part lead from p to q
-pub record Behind (S : Schema) (o : Open S.Context) (room : ℕ) (p : Place) (rs : List Record) (q : Place) : Type 0 where
+pub record Behind (S : Schema) (o : Open S.Context) (depth_left : ℕ) (p : Place) (rs : List Record) (q : Place) : Type 0 where
   pub front : List ℕ
   pub spelled : AreRecords rs front
-  pub sound : AllSound S (context_of o) room rs
+  pub sound : AllSound S (context_of o) depth_left rs
   pub moves : Moves p front q
 
--- After the tag that is at q a payload or a group is open: `o`, with this many levels left, which begins at u. It is in `a`, which has `room` levels
+-- After the tag that is at q a payload or a group is open: `o`, with this many levels left, which begins at u. It is in `a`, which has `depth_left` levels
 -- left.
-pub data Begun (S : Schema) (a : Open S.Context) (room k : ℕ) (q : Place) : Open S.Context → ℕ → Place → Type 0 where
+pub data Begun (S : Schema) (a : Open S.Context) (depth_left k : ℕ) (q : Place) : Open S.Context → ℕ → Place → Type 0 where
   a_message :
-      {o : Open S.Context} {below n : ℕ} {d : S.Context} {r t u : Place} → room ≡ suc below → HasTag q k 2 r
-      → S.reading (context_of a) k ≡ message d → HasLength r n t → o ≡ records d → u ≡ payload_at t n → Begun S a room k q o below u
+      {o : Open S.Context} {below n : ℕ} {d : S.Context} {r t u : Place} → depth_left ≡ suc below → HasTag q k 2 r
+      → S.reading (context_of a) k ≡ message d → HasLength r n t → o ≡ records d → u ≡ payload_at t n → Begun S a depth_left k q o below u
   a_value :
-      {o : Open S.Context} {below n : ℕ} {d : S.Context} {r t u : Place} → room ≡ below → HasTag q k 2 r
-      → S.reading (context_of a) k ≡ same_level d → HasLength r n t → o ≡ records d → u ≡ payload_at t n → Begun S a room k q o below u
+      {o : Open S.Context} {below n : ℕ} {d : S.Context} {r t u : Place} → depth_left ≡ below → HasTag q k 2 r
+      → S.reading (context_of a) k ≡ same_level d → HasLength r n t → o ≡ records d → u ≡ payload_at t n → Begun S a depth_left k q o below u
   a_group :
-      {o : Open S.Context} {below : ℕ} {r u : Place} → room ≡ suc below → HasTag q k 3 r → o ≡ in_group k (S.group_context (context_of a) k)
-      → u ≡ r → Begun S a room k q o below u
+      {o : Open S.Context} {below : ℕ} {r u : Place} → depth_left ≡ suc below → HasTag q k 3 r → o ≡ in_group k (S.group_context (context_of a) k)
+      → u ≡ r → Begun S a depth_left k q o below u
 
 -- From p0 on this is open at the levels and with the path given, and begins at p.
 pub data Opened (S : Schema) (top : Open S.Context) (depth : ℕ) (p0 : Place) : Open S.Context → ℕ → List PathStep → Place → Type 0 where
   at_top :
-      {o : Open S.Context} {room : ℕ} {path : List PathStep} {p : Place} → o ≡ top → room ≡ depth → path ≡ [] → p ≡ p0 → Opened S top depth p0 o room path p
+      {o : Open S.Context} {depth_left : ℕ} {path : List PathStep} {p : Place} → o ≡ top → depth_left ≡ depth → path ≡ [] → p ≡ p0 → Opened S top depth p0 o depth_left path p
   inner :
-      {o a : Open S.Context} {room below k : ℕ} {path steps : List PathStep} {p q u : Place} {rs : List Record}
-      → Opened S top depth p0 a room steps p → Behind S a room p rs q → Begun S a room k q o below u
+      {o a : Open S.Context} {depth_left below k : ℕ} {path steps : List PathStep} {p q u : Place} {rs : List Record}
+      → Opened S top depth p0 a depth_left steps p → Behind S a depth_left p rs q → Begun S a depth_left k q o below u
       → path ≡ steps ++ step k rs ∷ [] → Opened S top depth p0 o below path u
 
 -- the fault of the open part, as the fault of the whole

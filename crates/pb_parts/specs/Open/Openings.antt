@@ -44,12 +44,12 @@ without_message (slot.Map n) p = p
 without_message (slot.Unknown n) p = p
 
 -- how many levels are left in a message that is opened for a slot: that of an entry is at the level of the entry
-abbrev pub room_in : Slot → ℕ → ℕ
-room_in slot.Entry room = room
-room_in (slot.One s n) room = room - 1
-room_in (slot.List n) room = room - 1
-room_in (slot.Map n) room = room - 1
-room_in (slot.Unknown n) room = room - 1
+abbrev pub depth_left_in : Slot → ℕ → ℕ
+depth_left_in slot.Entry depth_left = depth_left
+depth_left_in (slot.One s n) depth_left = depth_left - 1
+depth_left_in (slot.List n) depth_left = depth_left - 1
+depth_left_in (slot.Map n) depth_left = depth_left - 1
+depth_left_in (slot.Unknown n) depth_left = depth_left - 1
 
 -- the number of the group that is open innermost, if an end tag ends the open part there
 abbrev pub innermost_group : List Frame → Option ℕ

@@ -14,13 +14,13 @@ use Rattle.pb_schema.specs.Closed.{is_undeclared}
 use Rattle.pb_schema.specs.Context.{element_of}
 use Rattle.pb_value.specs.Data.{Message, scalar}
 use Rattle.pb_parts.specs.declared.open.part.Slot.TheVariants as slot
-use Rattle.pb_parts.specs.declared.open.purpose.Purpose.{Purpose}
-use Rattle.pb_parts.specs.declared.open.purpose.Purpose.TheVariants as purpose
+use Rattle.pb_parts.specs.declared.open.target.Target.{Target}
+use Rattle.pb_parts.specs.declared.open.target.Target.TheVariants as target
 use Rattle.pb_parts.specs.declared.tokens.step.Step.{Step}
 use Rattle.pb_parts.specs.declared.tokens.step.Step.TheVariants as step
 use Rattle.pb_parts.specs.Open.Frames.{Part, message_part, Scope, Frame, EndsAt, Stands}
-use Rattle.pb_parts.specs.Open.Purposes.{Means, part_context}
-use Rattle.pb_parts.specs.Values.PayloadValue.{IsBytesPurpose}
+use Rattle.pb_parts.specs.Open.Targets.{Means, part_context}
+use Rattle.pb_parts.specs.Values.PayloadValue.{IsBytesTarget}
 use Rattle.pb_parts.specs.Values.Put.{with_record}
 use Rattle.pb_parts.specs.Values.Run.{with_each}
 
@@ -28,9 +28,9 @@ use Rattle.pb_parts.specs.Values.Run.{with_each}
 pub record Tag : Type 0 where
   pub number : ℕ
   pub type : ℕ
-  pub meant : Purpose
+  pub meant : Target
 
-abbrev pub tag : ℕ → ℕ → Purpose → Tag
+abbrev pub tag : ℕ → ℕ → Target → Tag
 tag n w p = record { number = n; type = w; meant = p }
 
 -- the tag whose value or length comes next
@@ -62,24 +62,24 @@ abbrev pub with_elements : Types → ℕ → Kind → List ℕ → Message → M
 with_elements pool n (kind.ClosedEnum e) front v = with_numbers pool n (kind.ClosedEnum e) (numbers_of 0 front) v
 with_elements pool n k front v = with_each n (map scalar (elements k (len front))) v
 
--- what a record of this purpose opens is a level below; the value of an entry is at the level of the entry
-abbrev pub goes_down : Purpose → Bool
-goes_down (purpose.Message j slot.Entry) = false
-goes_down (purpose.Message j (slot.One s n)) = true
-goes_down (purpose.Message j (slot.List n)) = true
-goes_down (purpose.Message j (slot.Map n)) = true
-goes_down (purpose.Message j (slot.Unknown n)) = true
-goes_down (purpose.Entry key k) = true
-goes_down (purpose.One k s) = false
-goes_down (purpose.Element k) = false
-goes_down (purpose.Packed k) = false
-goes_down (purpose.Key k) = false
-goes_down (purpose.EntryValue k) = false
-goes_down purpose.Unknown = false
+-- what a record of this target opens is a level below; the value of an entry is at the level of the entry
+abbrev pub goes_down : Target → Bool
+goes_down (target.Message j slot.Entry) = false
+goes_down (target.Message j (slot.One s n)) = true
+goes_down (target.Message j (slot.List n)) = true
+goes_down (target.Message j (slot.Map n)) = true
+goes_down (target.Message j (slot.Unknown n)) = true
+goes_down (target.Entry key k) = true
+goes_down (target.One k s) = false
+goes_down (target.Element k) = false
+goes_down (target.Packed k) = false
+goes_down (target.Key k) = false
+goes_down (target.EntryValue k) = false
+goes_down target.Unknown = false
 
--- there is a level left for what a record of this purpose opens
-abbrev pub IsRoomFor : ℕ → Purpose → Type 0
-IsRoomFor room p = goes_down p ≡ true → 0 < room
+-- there is a level left for what a record of this target opens
+abbrev pub HasLevelFor : ℕ → Target → Type 0
+HasLevelFor depth_left p = goes_down p ≡ true → 0 < depth_left
 
 -- where the part has its known end: inside a packed list that is where the list's end leads back to
 abbrev pub end_of_part : Step → Option ℕ → Option ℕ
@@ -96,21 +96,21 @@ part_scope next scope = record scope { end = end_of_part next scope.end }
 
 -- After the last whole record, which ends at q, and where the part was v with this many levels left: what comes next is `next`, the reader is at u, and
 -- the part is now `now`.
-pub data Underway (pool : Types) (room : ℕ) (v : Part) (q : Place) : Step → Part → Place → Type 0 where
-  nothing : {next : Step} {now : Part} {u : Place} → next ≡ step.Tag → now ≡ v → u ≡ q → Underway pool room v q next now u
+pub data Underway (pool : Types) (depth_left : ℕ) (v : Part) (q : Place) : Step → Part → Place → Type 0 where
+  nothing : {next : Step} {now : Part} {u : Place} → next ≡ step.Tag → now ≡ v → u ≡ q → Underway pool depth_left v q next now u
   a_tag :
       {next : Step} {now : Part} {u : Place} (t : Tag)
       → awaited next ≡ Some t → HasTag q t.number t.type u → Means pool (part_context v) t.number t.type t.meant
-      → IsRoomFor room t.meant → now ≡ v → Underway pool room v q next now u
+      → HasLevelFor depth_left t.meant → now ≡ v → Underway pool depth_left v q next now u
   a_length :
-      {next : Step} {now : Part} {r u : Place} {k n : ℕ} {p : Purpose}
+      {next : Step} {now : Part} {r u : Place} {k n : ℕ} {p : Target}
       → next ≡ step.Payload k p n → HasTag q k 2 r → HasLength r n u → Means pool (part_context v) k 2 p
-      → IsRoomFor room p → IsBytesPurpose p → now ≡ v → Underway pool room v q next now u
+      → HasLevelFor depth_left p → IsBytesTarget p → now ≡ v → Underway pool depth_left v q next now u
   some_elements :
       {next : Step} {now : Part} {r t u : Place} {k n m : ℕ} {outer : Option ℕ} {kd : Kind} {w : Message} {front : List ℕ}
-      → next ≡ step.Elements k kd outer → HasTag q k 2 r → HasLength r n t → Means pool (part_context v) k 2 (purpose.Packed kd)
+      → next ≡ step.Elements k kd outer → HasTag q k 2 r → HasLength r n t → Means pool (part_context v) k 2 (target.Packed kd)
       → Elements (element_of kd) (payload_at t n) u front → v ≡ message_part m w
-      → now ≡ message_part m (with_elements pool k kd front w) → Underway pool room v q next now u
+      → now ≡ message_part m (with_elements pool k kd front w) → Underway pool depth_left v q next now u
 
 -- These frames and this part are what there is of the bytes from p0 on, and the reader is at u, where `next` comes. The scope is that of the part; inside
 -- a packed list its end is the list's.
@@ -120,5 +120,5 @@ pub record After
   pub before : Part
   pub place : Place
   pub stands : Stands pool m depth levels base p0 frames before (part_scope next scope) place
-  pub begun : Underway pool scope.room before place next now u
+  pub begun : Underway pool scope.depth_left before place next now u
   pub ends : EndsAt u scope.end

@@ -13,15 +13,15 @@ use Rattle.pb_schema.specs.Types.{Types}
 use Rattle.pb_schema.specs.Context.{a_message, schema_of}
 use Rattle.pb_parts.specs.declared.open.part.Part.{Part as PartKept}
 use Rattle.pb_parts.specs.declared.open.part.Scope.{Scope as ScopeKept}
-use Rattle.pb_parts.specs.declared.open.purpose.Purpose.{Purpose}
-use Rattle.pb_parts.specs.declared.open.purpose.Purpose.TheVariants as purpose
+use Rattle.pb_parts.specs.declared.open.target.Target.{Target}
+use Rattle.pb_parts.specs.declared.open.target.Target.TheVariants as target
 use Rattle.pb_parts.specs.declared.tokens.step.Step.{Step}
 use Rattle.pb_parts.specs.declared.tokens.step.Step.TheVariants as step
 use Rattle.pb_parts.specs.Open.Frames.{Part, Scope, Frame, path_of, path_to, Stands}
 use Rattle.pb_parts.specs.Open.Openings.{innermost_group}
 use Rattle.pb_parts.specs.Open.PartView.{part_view, scope_view}
 use Rattle.pb_parts.specs.Tokens.After.{tag, awaited, After}
-use Rattle.pb_parts.specs.Values.PayloadValue.{IsBytesPurpose}
+use Rattle.pb_parts.specs.Values.PayloadValue.{IsBytesTarget}
 
 -- this is the fault of the bytes from p0 on
 abbrev pub IsBad : Types → ℕ → ℕ → Place → Fault → Type 0
@@ -54,23 +54,23 @@ RefusesEnd innermost number result =
 
 -- the first tag of a group that is refused, where this many levels are left
 abbrev pub RefusesGroup : ℕ → Option Cause → Type 0
-RefusesGroup room result =
+RefusesGroup depth_left result =
     (pool : Types) (m depth levels number : ℕ) (base : List Record) (p0 q u : Place) (frames : List Frame) (scope : Scope) (now : Part)
-    → Stands pool m depth levels base p0 frames now scope q → scope.room ≡ room → HasTag q number 3 u
+    → Stands pool m depth levels base p0 frames now scope q → scope.depth_left ≡ depth_left → HasTag q number 3 u
     → IfSome result (λ c. IsBad pool m depth p0 (fault q.at (path_to frames scope number) c))
 
 -- what comes next after a tag in a part, where this many levels are left
-abbrev pub GoesOnBehindTag : Types → PartKept → ℕ → ℕ → ℕ → Option Step → Type 0
-GoesOnBehindTag pool part room number type result =
+abbrev pub GoesOnAfterTag : Types → PartKept → ℕ → ℕ → ℕ → Option Step → Type 0
+GoesOnAfterTag pool part depth_left number type result =
     (m depth levels : ℕ) (base : List Record) (p0 q u : Place) (frames : List Frame) (scope : Scope)
-    → Stands pool m depth levels base p0 frames (part_view part) scope q → scope.room ≡ room → HasTag q number type u
+    → Stands pool m depth levels base p0 frames (part_view part) scope q → scope.depth_left ≡ depth_left → HasTag q number type u
     → IfSome result (λ next. After pool m depth levels base p0 frames next (part_view part) scope u)
 
 -- or what it begins is one level too many
 abbrev pub IsTooDeep : Types → PartKept → ℕ → ℕ → ℕ → Option Step → Type 0
-IsTooDeep pool part room number type result =
+IsTooDeep pool part depth_left number type result =
     (m depth levels : ℕ) (base : List Record) (p0 q u : Place) (frames : List Frame) (scope : Scope)
-    → Stands pool m depth levels base p0 frames (part_view part) scope q → scope.room ≡ room → HasTag q number type u
+    → Stands pool m depth levels base p0 frames (part_view part) scope q → scope.depth_left ≡ depth_left → HasTag q number type u
     → IfNone result (IsBad pool m depth p0 (fault q.at (path_to frames scope number) TooDeep))
 
 -- ---- lengths
@@ -78,7 +78,7 @@ IsTooDeep pool part room number type result =
 abbrev pub RefusesLengthBytes : {A : Type 0} → List ℕ → Option ℕ → Result A Cause → Type 0
 RefusesLengthBytes bytes left result =
     (pool : Types) (m depth levels at number : ℕ) (base : List Record) (p0 : Place) (frames : List Frame) (scope : Scope) (now : Part) (next : Step)
-    (meant : Purpose)
+    (meant : Target)
     → After pool m depth levels base p0 frames next now scope (given_at at left bytes) → awaited next ≡ Some (tag number 2 meant)
     → IfErr result (λ c. IsBad pool m depth p0 (fault at (path_to frames scope number) c))
 
@@ -86,7 +86,7 @@ RefusesLengthBytes bytes left result =
 abbrev pub RefusesLength : {A : Type 0} → ℕ → ℕ → Option ℕ → Result A Cause → Type 0
 RefusesLength n begin end result =
     (pool : Types) (m depth levels number : ℕ) (base : List Record) (p0 u t : Place) (frames : List Frame) (scope : Scope) (now : Part) (next : Step)
-    (meant : Purpose)
+    (meant : Target)
     → After pool m depth levels base p0 frames next now scope u → awaited next ≡ Some (tag number 2 meant) → Reads u n t → t.at ≡ begin → scope.end ≡ end
     → IfErr result (λ c. IsBad pool m depth p0 (fault u.at (path_to frames scope number) c))
 
@@ -94,12 +94,12 @@ RefusesLength n begin end result =
 abbrev pub BeginsList : ℕ → Kind → ℕ → ScopeKept → ScopeKept → Step → Type 0
 BeginsList number kind end old new result =
     (pool : Types) (m depth levels n : ℕ) (base : List Record) (p0 u t : Place) (frames : List Frame) (now : Part)
-    → After pool m depth levels base p0 frames (step.Length number (purpose.Packed kind)) now (scope_view old) u → HasLength u n t → end ≡ t.at + n
+    → After pool m depth levels base p0 frames (step.Length number (target.Packed kind)) now (scope_view old) u → HasLength u n t → end ≡ t.at + n
     → After pool m depth levels base p0 frames result now (scope_view new) (payload_at t n)
 
 -- after a length that opens nothing its payload comes next
-abbrev pub BeginsPayload : ℕ → Purpose → ℕ → Step → Type 0
+abbrev pub BeginsPayload : ℕ → Target → ℕ → Step → Type 0
 BeginsPayload number meant size result =
     (pool : Types) (m depth levels : ℕ) (base : List Record) (p0 u t : Place) (frames : List Frame) (scope : Scope) (now : Part)
-    → IsBytesPurpose meant → After pool m depth levels base p0 frames (step.Length number meant) now scope u → HasLength u size t
+    → IsBytesTarget meant → After pool m depth levels base p0 frames (step.Length number meant) now scope u → HasLength u size t
     → After pool m depth levels base p0 frames result now scope t

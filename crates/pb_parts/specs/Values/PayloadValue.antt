@@ -5,8 +5,8 @@ use Rattle.pb_schema.specs.declared.types.Kind.{Kind}
 use Rattle.pb_schema.specs.declared.types.Kind.TheVariants as kind
 use Rattle.pb_parts.specs.declared.values.payload_value.PayloadError.{PayloadError}
 use Rattle.pb_parts.specs.declared.values.payload_value.PayloadError.TheVariants as error
-use Rattle.pb_parts.specs.declared.open.purpose.Purpose.{Purpose}
-use Rattle.pb_parts.specs.declared.open.purpose.Purpose.TheVariants as purpose
+use Rattle.pb_parts.specs.declared.open.target.Target.{Target}
+use Rattle.pb_parts.specs.declared.open.target.Target.TheVariants as target
 
 -- A string that is not UTF-8 is reported with the length of its longest prefix that is.
 abbrev pub IsPayloadError : Kind → List ℕ → PayloadError → Type 0
@@ -18,13 +18,13 @@ abbrev pub IfBadText : PayloadError → (ℕ → Type 0) → Type 0
 IfBadText (error.BadText valid) P = P valid
 IfBadText error.Memory P = Unit {0}
 
--- a record of this purpose has its payload's bytes for its value, or is unknown: nothing opens after its length
-abbrev pub IsBytesPurpose : Purpose → Type 0
-IsBytesPurpose (purpose.One k s) = Unit {0}
-IsBytesPurpose (purpose.Element k) = Unit {0}
-IsBytesPurpose (purpose.Key k) = Unit {0}
-IsBytesPurpose (purpose.EntryValue k) = Unit {0}
-IsBytesPurpose purpose.Unknown = Unit {0}
-IsBytesPurpose (purpose.Packed k) = ⊥
-IsBytesPurpose (purpose.Message j s) = ⊥
-IsBytesPurpose (purpose.Entry key k) = ⊥
+-- a record of this target has its payload's bytes for its value, or is unknown: nothing opens after its length
+abbrev pub IsBytesTarget : Target → Type 0
+IsBytesTarget (target.One k s) = Unit {0}
+IsBytesTarget (target.Element k) = Unit {0}
+IsBytesTarget (target.Key k) = Unit {0}
+IsBytesTarget (target.EntryValue k) = Unit {0}
+IsBytesTarget target.Unknown = Unit {0}
+IsBytesTarget (target.Packed k) = ⊥
+IsBytesTarget (target.Message j s) = ⊥
+IsBytesTarget (target.Entry key k) = ⊥

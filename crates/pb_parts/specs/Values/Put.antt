@@ -6,20 +6,20 @@ use Rattle.pb_schema.specs.Types.{Types, message_fields}
 use Rattle.pb_schema.specs.Scalar.{Scalar, int32, int64, uint32, uint64, boolean, float, double, enum, text, bytes}
 use Rattle.pb_value.specs.Data.{Datum, scalar, Message, message, one, body, fields_of, unknown_of}
 use Rattle.pb_value.specs.Change.{stored_at, push_at, with_fields}
-use Rattle.pb_parts.specs.declared.open.purpose.Purpose.{Purpose}
-use Rattle.pb_parts.specs.declared.open.purpose.Purpose.TheVariants as purpose
+use Rattle.pb_parts.specs.declared.open.target.Target.{Target}
+use Rattle.pb_parts.specs.declared.open.target.Target.TheVariants as target
 use Rattle.pb_parts.specs.Open.Frames.{Part, message_part, entry_part, group_part}
 
 -- the kind of the scalar that a record gives
-abbrev pub scalar_kind : Purpose → Option Kind
-scalar_kind (purpose.One k s) = Some k
-scalar_kind (purpose.Element k) = Some k
-scalar_kind (purpose.Key k) = Some k
-scalar_kind (purpose.EntryValue k) = Some k
-scalar_kind (purpose.Packed k) = None
-scalar_kind (purpose.Message m s) = None
-scalar_kind (purpose.Entry key k) = None
-scalar_kind purpose.Unknown = None
+abbrev pub scalar_kind : Target → Option Kind
+scalar_kind (target.One k s) = Some k
+scalar_kind (target.Element k) = Some k
+scalar_kind (target.Key k) = Some k
+scalar_kind (target.EntryValue k) = Some k
+scalar_kind (target.Packed k) = None
+scalar_kind (target.Message m s) = None
+scalar_kind (target.Entry key k) = None
+scalar_kind target.Unknown = None
 
 -- a value as a map's key
 abbrev pub key_in : Datum → Option Scalar
@@ -35,24 +35,24 @@ key_in (scalar (enum z)) = None
 key_in (scalar (bytes s)) = None
 key_in (message w) = None
 
--- A value into the part that its record belongs to. A record of another part, or of another purpose, puts no value.
-abbrev pub put_datum : Types → ℕ → Purpose → Part → Datum → Part
-put_datum pool n (purpose.One k s) (message_part m v) d = message_part m (with_fields v (stored_at (message_fields pool m) s n (one d) (fields_of v)))
-put_datum pool n (purpose.One k s) (entry_part key kd x e) d = entry_part key kd x e
-put_datum pool n (purpose.One k s) (group_part us) d = group_part us
-put_datum pool n (purpose.Element k) (message_part m v) d = message_part m (with_fields v (push_at n d (fields_of v)))
-put_datum pool n (purpose.Element k) (entry_part key kd x e) d = entry_part key kd x e
-put_datum pool n (purpose.Element k) (group_part us) d = group_part us
-put_datum pool n (purpose.Key k) (message_part m v) d = message_part m v
-put_datum pool n (purpose.Key k) (entry_part key kd x e) d = entry_part key kd (key_in d) e
-put_datum pool n (purpose.Key k) (group_part us) d = group_part us
-put_datum pool n (purpose.EntryValue k) (message_part m v) d = message_part m v
-put_datum pool n (purpose.EntryValue k) (entry_part key kd x e) d = entry_part key kd x (Some d)
-put_datum pool n (purpose.EntryValue k) (group_part us) d = group_part us
-put_datum pool n (purpose.Packed k) p d = p
-put_datum pool n (purpose.Message m s) p d = p
-put_datum pool n (purpose.Entry key k) p d = p
-put_datum pool n purpose.Unknown p d = p
+-- A value into the part that its record belongs to. A record of another part, or of another target, puts no value.
+abbrev pub put_datum : Types → ℕ → Target → Part → Datum → Part
+put_datum pool n (target.One k s) (message_part m v) d = message_part m (with_fields v (stored_at (message_fields pool m) s n (one d) (fields_of v)))
+put_datum pool n (target.One k s) (entry_part key kd x e) d = entry_part key kd x e
+put_datum pool n (target.One k s) (group_part us) d = group_part us
+put_datum pool n (target.Element k) (message_part m v) d = message_part m (with_fields v (push_at n d (fields_of v)))
+put_datum pool n (target.Element k) (entry_part key kd x e) d = entry_part key kd x e
+put_datum pool n (target.Element k) (group_part us) d = group_part us
+put_datum pool n (target.Key k) (message_part m v) d = message_part m v
+put_datum pool n (target.Key k) (entry_part key kd x e) d = entry_part key kd (key_in d) e
+put_datum pool n (target.Key k) (group_part us) d = group_part us
+put_datum pool n (target.EntryValue k) (message_part m v) d = message_part m v
+put_datum pool n (target.EntryValue k) (entry_part key kd x e) d = entry_part key kd x (Some d)
+put_datum pool n (target.EntryValue k) (group_part us) d = group_part us
+put_datum pool n (target.Packed k) p d = p
+put_datum pool n (target.Message m s) p d = p
+put_datum pool n (target.Entry key k) p d = p
+put_datum pool n target.Unknown p d = p
 
 -- a message with a record after its unknown ones
 abbrev pub with_record : ℕ → Payload → Message → Message

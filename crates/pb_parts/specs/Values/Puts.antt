@@ -14,7 +14,7 @@ use Rattle.pb_schema.specs.Types.{Types}
 use Rattle.pb_schema.specs.Kinds.{wire_type_of}
 use Rattle.pb_schema.specs.Context.{a_message, schema_of}
 use Rattle.pb_parts.specs.declared.open.part.Part.{Part}
-use Rattle.pb_parts.specs.declared.open.purpose.Purpose.{Purpose}
+use Rattle.pb_parts.specs.declared.open.target.Target.{Target}
 use Rattle.pb_parts.specs.declared.tokens.number.Number.{Number}
 use Rattle.pb_parts.specs.declared.tokens.step.Step.{Step}
 use Rattle.pb_parts.specs.declared.tokens.step.Step.TheVariants.{Payload, Elements}
@@ -29,8 +29,8 @@ use Rattle.pb_parts.specs.Tokens.After.{tag, awaited, After}
 use Rattle.pb_parts.specs.Values.PayloadValue.{IfBadText}
 use Rattle.pb_parts.specs.Values.Run.{put_run, put_each}
 
--- a number of a record with this purpose
-abbrev pub PutsNumber : {A E : Type 0} → Types → ℕ → Purpose → Number → Part → Part → Result A E → Type 0
+-- a number of a record with this target
+abbrev pub PutsNumber : {A E : Type 0} → Types → ℕ → Target → Number → Part → Part → Result A E → Type 0
 PutsNumber pool number meant value old new result =
     (m depth levels : ℕ) (base : List Record) (p0 u w : Place) (frames : List Frame) (scope : Scope) (next : Step)
     → After pool m depth levels base p0 frames next (part_view old) scope u → awaited next ≡ Some (tag number (wire_type (number_view value)) meant)
@@ -43,15 +43,15 @@ PutsElement pool number kind value old new result =
     → After pool m depth levels base p0 frames (Elements number kind end) (part_view old) scope u → wire_type (number_view value) ≡ wire_type_of kind
     → Follows u (number_view value) w → OnOk result (After pool m depth levels base p0 frames (Elements number kind end) (part_view new) scope w)
 
--- the payload of a record with this purpose, whose bytes are these
-abbrev pub PutsPayload : {A E : Type 0} → Types → ℕ → Purpose → List ℕ → Part → Part → Result A E → Type 0
+-- the payload of a record with this target, whose bytes are these
+abbrev pub PutsPayload : {A E : Type 0} → Types → ℕ → Target → List ℕ → Part → Part → Result A E → Type 0
 PutsPayload pool number meant bytes old new result =
     (m depth levels n : ℕ) (base : List Record) (p0 u w : Place) (frames : List Frame) (scope : Scope)
     → After pool m depth levels base p0 frames (Payload number meant n) (part_view old) scope u → length bytes ≡ n → Moves u bytes w
     → OnOk result (Stands pool m depth levels base p0 frames (part_view new) (one_more_in number scope) w)
 
 -- or they are no UTF-8, which is the fault of what is read
-abbrev pub RefusesPayload : {A : Type 0} → Types → ℕ → Purpose → List ℕ → Part → Result A PayloadError → Type 0
+abbrev pub RefusesPayload : {A : Type 0} → Types → ℕ → Target → List ℕ → Part → Result A PayloadError → Type 0
 RefusesPayload pool number meant bytes old result =
     (m depth levels n : ℕ) (base : List Record) (p0 u w : Place) (frames : List Frame) (scope : Scope)
     → After pool m depth levels base p0 frames (Payload number meant n) (part_view old) scope u → length bytes ≡ n → Moves u bytes w

@@ -7,15 +7,15 @@ ghost use Rattle.pb_schema.specs.Kinds.{default_of, is_key_kind};
 ghost use Rattle.pb_value.specs.View.{key_view, value_view};
 ghost use Rattle.pb_value.specs.Value.{missing};
 ghost use Rattle.pb_value.specs.Data.{empty};
-ghost use Rattle.pb_parts.specs.Open.Frames.{put_entry as put_entry_view, put_group as put_group_view, entry_part, group_part};
+ghost use Rattle.pb_parts.specs.Open.Frames.{put_entry as put_entry_view, put_group as put_group_view, group_part};
 ghost use Rattle.pb_parts.specs.Close.Closing.{HasRoomFor};
 ghost use Rattle.pb_parts.specs.Open.Occurrences.{counts_view};
-ghost use Rattle.pb_parts.specs.Open.PartView.{part_view};
+ghost use Rattle.pb_parts.specs.Open.PartView.{part_view, entry_view};
 ghost use Rattle.pb_parts.specs.Close.Closes.{ClosesAtEnd, ClosesAtTag};
 
 use crate::close::put::count_one;
 use crate::error::{NoMemory, memory_alone};
-use crate::open::part::{Part, Scope, Slot};
+use crate::open::part::{Entry, Part, Scope, Slot};
 use crate::values::put_unknown::put_unknown;
 use pb_schema::Kind;
 use pb_value::parts::{empty_body, insert_entry};
@@ -80,20 +80,18 @@ pub fn value_or_missing(alloc: Global, kind: Kind, value: Option<Value>) -> Valu
 }
 
 /// Puts an entry into the map of the part that holds it.
-pub fn put_entry(
-    alloc: Global,
-    slot: Slot,
-    outer: &mut Part,
-    key_kind: Kind,
-    value_kind: Kind,
-    key: Option<MapKey>,
-    value: Option<Value>,
-) -> Result<(), NoMemory>
-    requires key { IsTrue (is_key_kind key_kind) }
-    requires fits { HasRoomFor slot (part_view outer.old) key_kind (option_map key_view key) }
+pub fn put_entry(alloc: Global, slot: Slot, outer: &mut Part, entry: Entry) -> Result<(), NoMemory>
+    requires key { IsTrue (is_key_kind entry.key_kind) }
+    requires fits { HasRoomFor slot (part_view outer.old) entry.key_kind (option_map key_view entry.key) }
     ensures { OnOk result (part_view outer.new
-        ≡ put_entry_view slot (part_view outer.old) key_kind value_kind (option_map key_view key) (option_map value_view value)) }
+        ≡ put_entry_view slot (part_view outer.old) entry.key_kind entry.value_kind (option_map key_view entry.key) (option_map value_view entry.value)) }
 {
+    let Entry {
+        key_kind,
+        value_kind,
+        key,
+        value,
+    } = entry;
     let key = key_or_default(alloc, key_kind, key);
     let value = value_or_missing(alloc, value_kind, value);
     match outer {
@@ -105,13 +103,7 @@ pub fn put_entry(
             }
             Slot::One(_, _) | Slot::List(_) | Slot::Entry | Slot::Unknown(_) => Ok(()),
         },
-        Part::Entry {
-            key_kind: _,
-            value_kind: _,
-            key: _,
-            value: _,
-        }
-        | Part::Group(_) => Ok(()),
+        Part::Entry(_) | Part::Group(_) => Ok(()),
     }
 }
 
@@ -138,19 +130,15 @@ pub fn close_entry(
     scope: &mut Scope,
     number: u32,
     slot: Slot,
-    key_kind: Kind,
-    value_kind: Kind,
-    key: Option<MapKey>,
-    value: Option<Value>,
+    entry: Entry,
 ) -> Result<(), NoMemory>
-    requires key { IsTrue (is_key_kind key_kind) }
-    requires fits { HasRoomFor slot (part_view outer.old) key_kind (option_map key_view key) }
+    requires key { IsTrue (is_key_kind entry.key_kind) }
+    requires fits { HasRoomFor slot (part_view outer.old) entry.key_kind (option_map key_view entry.key) }
     requires few { counts_view scope.old.occurrences number < 2 ^ 32 - 1 }
     ensures same_end { OnOk result (scope.new.end ≡ scope.old.end) }
-    ensures stands { (pool : Types) → ClosesAtEnd pool number slot
-        (entry_part key_kind value_kind (option_map key_view key) (option_map value_view value)) outer.old scope.old outer.new scope.new result }
+    ensures stands { (pool : Types) → ClosesAtEnd pool number slot (entry_view entry) outer.old scope.old outer.new scope.new result }
 {
-    put_entry(alloc, slot, outer, key_kind, value_kind, key, value)?;
+    put_entry(alloc, slot, outer, entry)?;
     count_one(scope, number)?;
     Ok(())
 }

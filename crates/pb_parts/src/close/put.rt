@@ -57,14 +57,9 @@ pub fn put_message(
             put_in_message(alloc, pool, *kind, body, slot, message)?;
             Ok(())
         }
-        Part::Entry {
-            key_kind: _,
-            value_kind: _,
-            key: _,
-            value,
-        } => match slot {
+        Part::Entry(entry) => match slot {
             Slot::Entry => {
-                *value = Some(Value::Message(message));
+                entry.value = Some(Value::Message(message));
                 Ok(())
             }
             Slot::One(_, _) | Slot::List(_) | Slot::Map(_) | Slot::Unknown(_) => Ok(()),

@@ -136,12 +136,7 @@ pub fn put_entries(
             store_entries(alloc, body, number, entries)?;
             Ok(())
         }
-        Part::Entry {
-            key_kind: _,
-            value_kind: _,
-            key: _,
-            value: _,
-        } => Ok(()),
+        Part::Entry(_) => Ok(()),
         Part::Group(_) => Ok(()),
     }
 }

@@ -3,16 +3,16 @@
 ghost use Rattle.std.specs.Prelude.{◌≡◌, ℕ, true, IfSome, IfNone, option_map};
 ghost use Rattle.pb_value.specs.Data.{empty};
 ghost use Rattle.pb_value.specs.View.{body_view, content_view, value_view};
-ghost use Rattle.pb_parts.specs.declared.open.purpose.Purpose.TheVariants as purpose;
+ghost use Rattle.pb_parts.specs.declared.open.target.Target.TheVariants as target;
 ghost use Rattle.pb_parts.specs.Open.PartView.{part_view};
 ghost use Rattle.pb_parts.specs.Open.Occurrences.{counts_view};
-ghost use Rattle.pb_parts.specs.Open.Purposes.{IsNoMessage};
-ghost use Rattle.pb_parts.specs.Open.Openings.{message_given, message_held, taken_message, without_message, room_in as levels_in};
+ghost use Rattle.pb_parts.specs.Open.Targets.{IsNoMessage};
+ghost use Rattle.pb_parts.specs.Open.Openings.{message_given, message_held, taken_message, without_message, depth_left_in as levels_in};
 ghost use Rattle.pb_parts.specs.Open.Opens.{OpensAtLength, OpensAtTag};
 
 use crate::open::occurrences::Occurrences;
-use crate::open::part::{Frame, Part, Scope, Slot};
-use crate::open::purpose::Purpose;
+use crate::open::part::{Entry, Frame, Part, Scope, Slot};
+use crate::open::target::Target;
 use pb_schema::{Kind, MessageId};
 use pb_value::parts::{empty_body, take_field};
 use pb_value::{Body, Content, Value};
@@ -53,13 +53,8 @@ pub fn is_free(part: &Part, slot: Slot) -> bool
             Slot::List(_) => true,
             Slot::Map(_) | Slot::Entry | Slot::Unknown(_) => false,
         },
-        Part::Entry {
-            key_kind: _,
-            value_kind: _,
-            key: _,
-            value,
-        } => match slot {
-            Slot::Entry => value.is_none(),
+        Part::Entry(entry) => match slot {
+            Slot::Entry => entry.value.is_none(),
             Slot::One(_, _) | Slot::List(_) | Slot::Map(_) | Slot::Unknown(_) => false,
         },
         Part::Group(_) => false,
@@ -77,13 +72,8 @@ fn take_held(alloc: Global, slot: Slot, outer: &mut Part) -> Body
             Slot::One(_, number) => message_in(alloc, take_field(body, number)),
             Slot::List(_) | Slot::Map(_) | Slot::Entry | Slot::Unknown(_) => empty_body(alloc),
         },
-        Part::Entry {
-            key_kind: _,
-            value_kind: _,
-            key: _,
-            value,
-        } => match slot {
-            Slot::Entry => message_of(alloc, value.take()),
+        Part::Entry(entry) => match slot {
+            Slot::Entry => message_of(alloc, entry.value.take()),
             Slot::One(_, _) | Slot::List(_) | Slot::Map(_) | Slot::Unknown(_) => empty_body(alloc),
         },
         Part::Group(_) => empty_body(alloc),
@@ -105,27 +95,27 @@ pub fn take_message(alloc: Global, slot: Slot, outer: &mut Part) -> Body
 
 /// How many levels are left in a message that is opened for a slot.
 #[inline(always)]
-pub fn room_in(slot: Slot, room: u8) -> u8
-    ensures { result ≡ levels_in slot room }
+pub fn depth_left_in(slot: Slot, depth_left: u8) -> u8
+    ensures { result ≡ levels_in slot depth_left }
 {
     match slot {
-        Slot::Entry => room,
-        Slot::One(_, _) => room.saturating_sub(1),
-        Slot::List(_) => room.saturating_sub(1),
-        Slot::Map(_) => room.saturating_sub(1),
-        Slot::Unknown(_) => room.saturating_sub(1),
+        Slot::Entry => depth_left,
+        Slot::One(_, _) => depth_left.saturating_sub(1),
+        Slot::List(_) => depth_left.saturating_sub(1),
+        Slot::Map(_) => depth_left.saturating_sub(1),
+        Slot::Unknown(_) => depth_left.saturating_sub(1),
     }
 }
 
 /// The scope of a part that has no record yet.
 #[inline(always)]
-fn new_scope(alloc: Global, room: u8, end: Option<u32>) -> Scope
-    ensures room { result.room ≡ room }
+fn new_scope(alloc: Global, depth_left: u8, end: Option<u32>) -> Scope
+    ensures depth_left { result.depth_left ≡ depth_left }
     ensures end { result.end ≡ end }
     ensures none { (k : ℕ) → counts_view result.occurrences k ≡ 0 }
 {
     Scope {
-        room,
+        depth_left,
         end,
         occurrences: Occurrences::new(alloc),
     }
@@ -143,10 +133,10 @@ pub fn open_message(
     slot: Slot,
     end: u32,
 ) -> Frame
-    ensures { OpensAtLength number (purpose.Message message_type slot) end part.old scope.old result part.new scope.new }
+    ensures { OpensAtLength number (target.Message message_type slot) end part.old scope.old result part.new scope.new }
 {
     let message = take_message(alloc, slot, part);
-    let inner = new_scope(alloc, room_in(slot, scope.room), Some(end));
+    let inner = new_scope(alloc, depth_left_in(slot, scope.depth_left), Some(end));
     let outer = mem::replace(part, Part::Message(message_type, message));
     let around = mem::replace(scope, inner);
     Frame {
@@ -169,15 +159,15 @@ pub fn open_entry(
     value_kind: Kind,
     end: u32,
 ) -> Frame
-    ensures { OpensAtLength number (purpose.Entry key_kind value_kind) end part.old scope.old result part.new scope.new }
+    ensures { OpensAtLength number (target.Entry key_kind value_kind) end part.old scope.old result part.new scope.new }
 {
-    let inner = new_scope(alloc, scope.room.saturating_sub(1), Some(end));
-    let entry = Part::Entry {
+    let inner = new_scope(alloc, scope.depth_left.saturating_sub(1), Some(end));
+    let entry = Part::Entry(Entry {
         key_kind,
         value_kind,
         key: None,
         value: None,
-    };
+    });
     let outer = mem::replace(part, entry);
     let around = mem::replace(scope, inner);
     Frame {
@@ -200,10 +190,10 @@ fn open_field_group(
     message_type: MessageId,
     slot: Slot,
 ) -> Frame
-    ensures { OpensAtTag number (purpose.Message message_type slot) part.old scope.old result part.new scope.new }
+    ensures { OpensAtTag number (target.Message message_type slot) part.old scope.old result part.new scope.new }
 {
     let message = take_message(alloc, slot, part);
-    let inner = new_scope(alloc, scope.room.saturating_sub(1), scope.end);
+    let inner = new_scope(alloc, scope.depth_left.saturating_sub(1), scope.end);
     let outer = mem::replace(part, Part::Message(message_type, message));
     let around = mem::replace(scope, inner);
     Frame {
@@ -218,9 +208,9 @@ fn open_field_group(
 /// After the first tag of a group that is no field the group is open. Its end is known where that of its parent is.
 #[inline(always)]
 fn open_unknown_group(alloc: Global, part: &mut Part, scope: &mut Scope, number: u32) -> Frame
-    ensures { OpensAtTag number purpose.Unknown part.old scope.old result part.new scope.new }
+    ensures { OpensAtTag number target.Unknown part.old scope.old result part.new scope.new }
 {
-    let inner = new_scope(alloc, scope.room.saturating_sub(1), scope.end);
+    let inner = new_scope(alloc, scope.depth_left.saturating_sub(1), scope.end);
     let outer = mem::replace(part, Part::Group(Vec::new(alloc)));
     let around = mem::replace(scope, inner);
     Frame {
@@ -234,19 +224,19 @@ fn open_unknown_group(alloc: Global, part: &mut Part, scope: &mut Scope, number:
 
 /// The message that a record opens, and the slot that it goes into, if it opens one.
 #[inline(always)]
-pub fn message_slot(meant: Purpose) -> Option<(MessageId, Slot)>
-    ensures some { IfSome result (λ r. meant ≡ purpose.Message r.0 r.1) }
+pub fn message_slot(meant: Target) -> Option<(MessageId, Slot)>
+    ensures some { IfSome result (λ r. meant ≡ target.Message r.0 r.1) }
     ensures none { IfNone result (IsNoMessage meant) }
 {
     match meant {
-        Purpose::Message(kind, slot) => Some((kind, slot)),
-        Purpose::One(_, _) => None,
-        Purpose::Element(_) => None,
-        Purpose::Packed(_) => None,
-        Purpose::Entry(_, _) => None,
-        Purpose::Key(_) => None,
-        Purpose::EntryValue(_) => None,
-        Purpose::Unknown => None,
+        Target::Message(kind, slot) => Some((kind, slot)),
+        Target::One(_, _) => None,
+        Target::Element(_) => None,
+        Target::Packed(_) => None,
+        Target::Entry(_, _) => None,
+        Target::Key(_) => None,
+        Target::EntryValue(_) => None,
+        Target::Unknown => None,
     }
 }
 
@@ -257,7 +247,7 @@ pub fn open_group(
     part: &mut Part,
     scope: &mut Scope,
     number: u32,
-    meant: Purpose,
+    meant: Target,
 ) -> Frame
     ensures { OpensAtTag number meant part.old scope.old result part.new scope.new }
 {

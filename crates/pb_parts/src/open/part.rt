@@ -5,16 +5,20 @@ use pb_schema::{Kind, MessageId, Shape};
 use pb_value::{Body, MapKey, Value};
 use pb_wire::Unknown;
 
+/// What there is of a map entry.
+#[derive(Drop)]
+pub struct Entry {
+    pub key_kind: Kind,
+    pub value_kind: Kind,
+    pub key: Option<MapKey>,
+    pub value: Option<Value>,
+}
+
 /// What there is of a message, of a map entry or of a group.
 #[derive(Drop)]
 pub enum Part {
     Message(MessageId, Body),
-    Entry {
-        key_kind: Kind,
-        value_kind: Kind,
-        key: Option<MapKey>,
-        value: Option<Value>,
-    },
+    Entry(Entry),
     Group(Vec<(u32, Unknown)>),
 }
 
@@ -37,7 +41,7 @@ pub enum Slot {
 #[derive(Drop)]
 pub struct Scope {
     /// How many levels may still be opened.
-    pub room: u8,
+    pub depth_left: u8,
     /// The position where the part ends, if that is known.
     pub end: Option<u32>,
     /// How many whole records of each number are in it so far.

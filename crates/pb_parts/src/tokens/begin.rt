@@ -5,7 +5,7 @@ ghost use Rattle.pb_parts.specs.declared.tokens.step.Step.TheVariants as steps;
 ghost use Rattle.pb_parts.specs.Tokens.Told.{BeginsList, BeginsPayload};
 
 use crate::open::part::Scope;
-use crate::open::purpose::Purpose;
+use crate::open::target::Target;
 use crate::tokens::step::Step;
 use pb_schema::Kind;
 
@@ -21,9 +21,9 @@ pub fn begin_list(scope: &mut Scope, number: u32, kind: Kind, end: u32) -> Step
 }
 
 /// After a length whose record opens nothing its payload comes next.
-pub fn begin_payload(number: u32, purpose: Purpose, size: u32) -> Step
-    ensures step { result ≡ steps.Payload number purpose size }
-    ensures after { BeginsPayload number purpose size result }
+pub fn begin_payload(number: u32, target: Target, size: u32) -> Step
+    ensures step { result ≡ steps.Payload number target size }
+    ensures after { BeginsPayload number target size result }
 {
-    Step::Payload(number, purpose, size)
+    Step::Payload(number, target, size)
 }

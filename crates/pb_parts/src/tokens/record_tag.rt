@@ -4,7 +4,7 @@ ghost use Rattle.std.specs.Prelude.{◌≡◌, ◌-◌, ◌≤◌, ◌<◌, ℕ,
 ghost use Rattle.pb_wire.specs.Fault.{HasTag};
 ghost use Rattle.pb_wire.specs.Token.{given_at, passed};
 
-use crate::tokens::front::front_number;
+use crate::tokens::prefix::prefix_number;
 use crate::tokens::tag::tag_parts;
 
 /// A whole tag.
@@ -17,7 +17,7 @@ pub struct RecordTag {
 }
 
 /// How many bytes come before the known end after this many more.
-pub fn left_behind(left: Option<u32>, used: usize) -> Option<u32>
+pub fn left_after(left: Option<u32>, used: usize) -> Option<u32>
     ensures { result ≡ option_map (λ e. e - used) left }
 {
     left.map(|left| (left as usize).saturating_sub(used) as u32)
@@ -28,7 +28,7 @@ pub fn record_tag(bytes: &[u8], left: Option<u32>) -> Option<RecordTag>
     ensures within { IfSome result (λ t. (0 < t.size) × (t.size ≤ length bytes.now)) }
     ensures whole { (at : ℕ) → IfSome result (λ t. HasTag (given_at at left bytes.now) t.number t.wire_type (passed (given_at at left bytes.now) t.size)) }
 {
-    let Ok(Some((tag, size))) = front_number(bytes, left) else {
+    let Ok(Some((tag, size))) = prefix_number(bytes, left) else {
         return None;
     };
     let Ok((number, wire_type)) = tag_parts(tag) else {

@@ -46,12 +46,12 @@ pub fn group_end(innermost: Option<u32>, number: u32) -> Result<(), Cause>
 }
 
 /// Why a group is refused in a part with this many levels left.
-pub fn group_refusal(room: u8) -> Option<Cause>
-    ensures allowed { IfNone result (0 < room) }
+pub fn group_refusal(depth_left: u8) -> Option<Cause>
+    ensures allowed { IfNone result (0 < depth_left) }
     ensures settled { IfSome result (λ c. c ≢ Truncated) }
-    ensures refused { RefusesGroup room result }
+    ensures refused { RefusesGroup depth_left result }
 {
-    if room == 0 {
+    if depth_left == 0 {
         Some(Cause::TooDeep)
     } else {
         None

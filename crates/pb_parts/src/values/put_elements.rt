@@ -62,12 +62,7 @@ pub fn put_elements(
             store_all(alloc, body, number, values)?;
             Ok(())
         }
-        Part::Entry {
-            key_kind: _,
-            value_kind: _,
-            key: _,
-            value: _,
-        } => Ok(()),
+        Part::Entry(_) => Ok(()),
         Part::Group(_) => Ok(()),
     }
 }

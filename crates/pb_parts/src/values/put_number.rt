@@ -1,4 +1,4 @@
-//! Numbers go where their records' purposes say.
+//! Numbers go where their records' targets say.
 
 ghost use Rattle.std.specs.Prelude.{◌≡◌, OnOk};
 ghost use Rattle.pb_schema.specs.Rules.{IsPool};
@@ -12,7 +12,7 @@ ghost use Rattle.pb_parts.specs.Values.Puts.{PutsNumber, PutsElement};
 
 use crate::error::NoMemory;
 use crate::open::part::Part;
-use crate::open::purpose::Purpose;
+use crate::open::target::Target;
 use crate::tokens::number::{Number, number_value};
 use crate::values::put_scalar::put_scalar;
 use crate::values::put_unknown::{put_unknown, unknown_number};
@@ -21,18 +21,18 @@ use std::alloc::Global;
 
 /// The kind of the scalar that a record gives.
 #[inline(always)]
-pub(crate) fn scalar_kind(purpose: Purpose) -> Option<Kind>
-    ensures { result ≡ kind_given purpose }
+pub(crate) fn scalar_kind(target: Target) -> Option<Kind>
+    ensures { result ≡ kind_given target }
 {
-    match purpose {
-        Purpose::One(kind, _) => Some(kind),
-        Purpose::Element(kind) => Some(kind),
-        Purpose::Key(kind) => Some(kind),
-        Purpose::EntryValue(kind) => Some(kind),
-        Purpose::Packed(_) => None,
-        Purpose::Message(_, _) => None,
-        Purpose::Entry(_, _) => None,
-        Purpose::Unknown => None,
+    match target {
+        Target::One(kind, _) => Some(kind),
+        Target::Element(kind) => Some(kind),
+        Target::Key(kind) => Some(kind),
+        Target::EntryValue(kind) => Some(kind),
+        Target::Packed(_) => None,
+        Target::Message(_, _) => None,
+        Target::Entry(_, _) => None,
+        Target::Unknown => None,
     }
 }
 
@@ -63,27 +63,20 @@ pub fn put_number(
     pool: &Pool,
     part: &mut Part,
     number: u32,
-    purpose: Purpose,
+    target: Target,
     value: Number,
 ) -> Result<(), NoMemory>
     requires rules { IsPool pool.now }
     requires can { CanHold pool.now (part_view part.old) }
-    ensures { PutsNumber pool.now number purpose value part.old part.new result }
+    ensures { PutsNumber pool.now number target value part.old part.new result }
 {
-    match scalar_kind(purpose) {
+    match scalar_kind(target) {
         Some(kind) => {
             if is_undeclared(pool, kind, value) {
                 put_unknown_number(part, number, value)?;
                 return Ok(());
             }
-            put_scalar(
-                alloc,
-                pool,
-                part,
-                number,
-                purpose,
-                number_value(kind, value),
-            )?;
+            put_scalar(alloc, pool, part, number, target, number_value(kind, value))?;
             Ok(())
         }
         None => {
@@ -110,14 +103,7 @@ pub fn put_element(
         put_unknown_number(part, number, value)?;
         return Ok(());
     }
-    let purpose = Purpose::Element(kind);
-    put_scalar(
-        alloc,
-        pool,
-        part,
-        number,
-        purpose,
-        number_value(kind, value),
-    )?;
+    let target = Target::Element(kind);
+    put_scalar(alloc, pool, part, number, target, number_value(kind, value))?;
     Ok(())
 }

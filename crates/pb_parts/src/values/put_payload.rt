@@ -1,4 +1,4 @@
-//! Whole payloads after a length go where their records' purposes say.
+//! Whole payloads after a length go where their records' targets say.
 
 ghost use Rattle.std.specs.Prelude.{◌≡◌, ◌≤◌, Some, length, IsUtf8, option_map, OnOk, IfErr, IfNone};
 ghost use Rattle.pb_schema.specs.declared.types.Kind.TheVariants.{Text as TextKind};
@@ -10,12 +10,12 @@ ghost use Rattle.pb_parts.specs.declared.values.payload_value.PayloadError.TheVa
 ghost use Rattle.pb_parts.specs.Open.Frames.{CanHold};
 ghost use Rattle.pb_parts.specs.Open.PartView.{part_view};
 ghost use Rattle.pb_parts.specs.Values.Put.{scalar_kind as kind_given, put_datum};
-ghost use Rattle.pb_parts.specs.Values.PayloadValue.{IfBadText, IsBytesPurpose};
+ghost use Rattle.pb_parts.specs.Values.PayloadValue.{IfBadText, IsBytesTarget};
 ghost use Rattle.pb_parts.specs.Values.Puts.{PutsPayload, RefusesPayload};
 
 use crate::error::NoMemory;
 use crate::open::part::Part;
-use crate::open::purpose::Purpose;
+use crate::open::target::Target;
 use crate::values::payload_value::{PayloadError, payload_value, unknown_payload};
 use crate::values::put_number::scalar_kind;
 use crate::values::put_scalar::put_scalar;
@@ -31,18 +31,18 @@ fn put_value(
     pool: &Pool,
     part: &mut Part,
     number: u32,
-    purpose: Purpose,
+    target: Target,
     value: Option<Value>,
 ) -> Result<(), NoMemory>
     requires { CanHold pool.now (part_view part.old) }
     ensures put { (x : Scalar) → option_map value_view value ≡ Some (scalar x)
-        → OnOk result (part_view part.new ≡ put_datum pool.now number purpose (part_view part.old) (scalar x)) }
+        → OnOk result (part_view part.new ≡ put_datum pool.now number target (part_view part.old) (scalar x)) }
     ensures same { IfNone value (part.new ≡ part.old) }
 {
     let Some(value) = value else {
         return Ok(());
     };
-    put_scalar(alloc, pool, part, number, purpose, value)
+    put_scalar(alloc, pool, part, number, target, value)
 }
 
 /// A payload that comes next, all of whose bytes are here, goes into the part that its record belongs to, and the reader is
@@ -53,22 +53,22 @@ pub fn put_payload(
     pool: &Pool,
     part: &mut Part,
     number: u32,
-    purpose: Purpose,
+    target: Target,
     bytes: &[u8],
 ) -> Result<(), PayloadError>
     requires rules { IsPool pool.now }
     requires can { CanHold pool.now (part_view part.old) }
-    requires bytes { IsBytesPurpose purpose }
-    ensures stands { PutsPayload pool.now number purpose bytes.now part.old part.new result }
-    ensures refused { RefusesPayload pool.now number purpose bytes.now part.old result }
+    requires bytes { IsBytesTarget target }
+    ensures stands { PutsPayload pool.now number target bytes.now part.old part.new result }
+    ensures refused { RefusesPayload pool.now number target bytes.now part.old result }
     ensures same { IfErr result (λ e. IfBadText e (λ _. part.new ≡ part.old)) }
     ensures within { IfErr result (λ e. IfBadText e (λ valid. valid ≤ length bytes.now)) }
-    ensures accepted { (kind_given purpose ≡ Some TextKind → IsUtf8 bytes.now) → IfErr result (λ e. e ≡ Memory) }
+    ensures accepted { (kind_given target ≡ Some TextKind → IsUtf8 bytes.now) → IfErr result (λ e. e ≡ Memory) }
 {
-    match scalar_kind(purpose) {
+    match scalar_kind(target) {
         Some(kind) => {
             let value = payload_value(alloc, kind, bytes)?;
-            put_value(alloc, pool, part, number, purpose, value)?;
+            put_value(alloc, pool, part, number, target, value)?;
             Ok(())
         }
         None => {

@@ -37,12 +37,7 @@ fn put_records(part: &mut Part, records: Vec<(u32, Unknown)>) -> Result<(), NoMe
             append(&mut body.unknown, records)?;
             Ok(())
         }
-        Part::Entry {
-            key_kind: _,
-            value_kind: _,
-            key: _,
-            value: _,
-        } => Ok(()),
+        Part::Entry(_) => Ok(()),
         Part::Group(others) => {
             append(others, records)?;
             Ok(())

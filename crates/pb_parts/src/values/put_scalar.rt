@@ -1,4 +1,4 @@
-//! Scalars go where their records' purposes say.
+//! Scalars go where their records' targets say.
 
 ghost use Rattle.std.specs.Prelude.{◌≡◌, ℕ, OnOk, option_map};
 ghost use Rattle.pb_schema.specs.declared.types.Kind.{Kind};
@@ -10,7 +10,7 @@ ghost use Rattle.pb_parts.specs.Values.Put.{key_in, put_datum};
 
 use crate::error::{NoMemory, memory_alone};
 use crate::open::part::Part;
-use crate::open::purpose::Purpose;
+use crate::open::target::Target;
 use pb_schema::{MessageId, Pool};
 use pb_value::parts::{push_element, store};
 use pb_value::{Body, Content, MapKey, Value};
@@ -44,44 +44,44 @@ fn put_in_message(
     message_type: MessageId,
     body: &mut Body,
     number: u32,
-    purpose: Purpose,
+    target: Target,
     value: Value,
 ) -> Result<(), NoMemory>
     requires { CanHold pool.now (message_part message_type.0 (body_view body.old)) }
     ensures { OnOk result (message_part message_type.0 (body_view body.new)
-        ≡ put_datum pool.now number purpose (message_part message_type.0 (body_view body.old)) (value_view value)) }
+        ≡ put_datum pool.now number target (message_part message_type.0 (body_view body.old)) (value_view value)) }
 {
-    match purpose {
-        Purpose::One(_, shape) => {
+    match target {
+        Target::One(_, shape) => {
             store(pool, message_type, body, shape, number, Content::One(value)).map_err(
                 memory_alone,
             )
         }
-        Purpose::Element(_) => { push_element(alloc, body, number, value).map_err(memory_alone) }
-        Purpose::Packed(_)
-        | Purpose::Message(_, _)
-        | Purpose::Entry(_, _)
-        | Purpose::Key(_)
-        | Purpose::EntryValue(_)
-        | Purpose::Unknown => Ok(()),
+        Target::Element(_) => { push_element(alloc, body, number, value).map_err(memory_alone) }
+        Target::Packed(_)
+        | Target::Message(_, _)
+        | Target::Entry(_, _)
+        | Target::Key(_)
+        | Target::EntryValue(_)
+        | Target::Unknown => Ok(()),
     }
 }
 
 /// Puts a scalar into an entry, as its key or as its value.
 #[inline(always)]
-fn put_in_entry(key: &mut Option<MapKey>, held: &mut Option<Value>, purpose: Purpose, value: Value)
+fn put_in_entry(key: &mut Option<MapKey>, held: &mut Option<Value>, target: Target, value: Value)
     ensures { (pool : Types) (n : ℕ) (k d : Kind) → entry_part k d (option_map key_view key.new) (option_map value_view held.new)
-        ≡ put_datum pool n purpose (entry_part k d (option_map key_view key.old) (option_map value_view held.old)) (value_view value) }
+        ≡ put_datum pool n target (entry_part k d (option_map key_view key.old) (option_map value_view held.old)) (value_view value) }
 {
-    match purpose {
-        Purpose::Key(_) => *key = key_of(value),
-        Purpose::EntryValue(_) => *held = Some(value),
-        Purpose::One(_, _)
-        | Purpose::Element(_)
-        | Purpose::Packed(_)
-        | Purpose::Message(_, _)
-        | Purpose::Entry(_, _)
-        | Purpose::Unknown => {}
+    match target {
+        Target::Key(_) => *key = key_of(value),
+        Target::EntryValue(_) => *held = Some(value),
+        Target::One(_, _)
+        | Target::Element(_)
+        | Target::Packed(_)
+        | Target::Message(_, _)
+        | Target::Entry(_, _)
+        | Target::Unknown => {}
     }
 }
 
@@ -92,24 +92,19 @@ pub fn put_scalar(
     pool: &Pool,
     part: &mut Part,
     number: u32,
-    purpose: Purpose,
+    target: Target,
     value: Value,
 ) -> Result<(), NoMemory>
     requires { CanHold pool.now (part_view part.old) }
-    ensures { OnOk result (part_view part.new ≡ put_datum pool.now number purpose (part_view part.old) (value_view value)) }
+    ensures { OnOk result (part_view part.new ≡ put_datum pool.now number target (part_view part.old) (value_view value)) }
 {
     match part {
         Part::Message(kind, body) => {
-            put_in_message(alloc, pool, *kind, body, number, purpose, value)?;
+            put_in_message(alloc, pool, *kind, body, number, target, value)?;
             Ok(())
         }
-        Part::Entry {
-            key_kind: _,
-            value_kind: _,
-            key,
-            value: held,
-        } => {
-            put_in_entry(key, held, purpose, value);
+        Part::Entry(entry) => {
+            put_in_entry(&mut entry.key, &mut entry.value, target, value);
             Ok(())
         }
         Part::Group(_) => Ok(()),

@@ -44,12 +44,7 @@ pub(crate) fn put_unknown(part: &mut Part, number: u32, unknown: Unknown) -> Res
             push_unknown(body, number, unknown)?;
             Ok(())
         }
-        Part::Entry {
-            key_kind: _,
-            value_kind: _,
-            key: _,
-            value: _,
-        } => Ok(()),
+        Part::Entry(_) => Ok(()),
         Part::Group(records) => {
             records.push((number, unknown))?;
             Ok(())

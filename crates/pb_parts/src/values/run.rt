@@ -8,7 +8,7 @@ ghost use Rattle.pb_parts.specs.Tokens.Number.{IsNumberType};
 use crate::error::NoMemory;
 use crate::tokens::number::number_value;
 use crate::tokens::number_token::{NumberToken, number_here};
-use crate::tokens::record_tag::left_behind;
+use crate::tokens::record_tag::left_after;
 use crate::values::put_number::is_undeclared;
 use crate::values::put_unknown::unknown_number;
 use pb_schema::{Kind, Pool};
@@ -90,7 +90,7 @@ fn add_elements(
     let mut here = 0;
     while here < end {
         let rest = &bytes[here..];
-        let Some(size) = add_element(pool, kind, number, rest, left_behind(left, here), run)? else {
+        let Some(size) = add_element(pool, kind, number, rest, left_after(left, here), run)? else {
             return Ok(here);
         };
         here += size;

@@ -11,8 +11,8 @@ use Rattle.pb_whole.specs.Reads.{ReadsTo}
 
 -- whole records begin the bytes, and after them comes the end tag of this number: this many bytes with that
 abbrev pub ReadsToEnd : Types → ℕ → Part → Part → List ℕ → ℕ → ℕ → ℕ → Type 0
-ReadsToEnd pool number old new bytes left room size =
-    (used : ℕ) × ReadsTo pool old new bytes left room used
+ReadsToEnd pool number old new bytes left depth_left size =
+    (used : ℕ) × ReadsTo pool old new bytes left depth_left used
     × ((at : ℕ) → HasTag (passed (given_at at (Some left) bytes) used) number 4 (passed (given_at at (Some left) bytes) size))
 
 -- where the records of a group are read

@@ -10,14 +10,14 @@ use Rattle.pb_whole.proofs.tokens.length_after.Goals as goal
 pub overflow_add-start : goal.overflow_add-start
 overflow_add-start c =
     let is = ap length (slice_from c.args.tag_size c.args.bytes.now) ∙ length-drop c.args.tag_size c.args.bytes.now in
-    let used = (front_there 0 c.left_behind-after.result (take (length c.args.bytes.now - c.args.tag_size) (drop c.args.tag_size c.args.bytes.now)) c.in-Ok-Some.field-0 c.in-Ok-Some.length c.in-Ok-Some.used c.in-Ok-Some.field-0-is (c.in-Ok-Some.ensures.whole 0)).0 in
+    let used = (front_there 0 c.left_after-after.result (take (length c.args.bytes.now - c.args.tag_size) (drop c.args.tag_size c.args.bytes.now)) c.in-Ok-Some.field-0 c.in-Ok-Some.length c.in-Ok-Some.used c.in-Ok-Some.field-0-is (c.in-Ok-Some.ensures.whole 0)).0 in
     let small = c.requires.small in
     omega (arith, is, used, small)
 
 pub overflow_cast-start : goal.overflow_cast-start
 overflow_cast-start c =
     let is = ap length (slice_from c.args.tag_size c.args.bytes.now) ∙ length-drop c.args.tag_size c.args.bytes.now in
-    let used = (front_there 0 c.left_behind-after.result (take (length c.args.bytes.now - c.args.tag_size) (drop c.args.tag_size c.args.bytes.now)) c.in-Ok-Some.field-0 c.in-Ok-Some.length c.in-Ok-Some.used c.in-Ok-Some.field-0-is (c.in-Ok-Some.ensures.whole 0)).0 in
+    let used = (front_there 0 c.left_after-after.result (take (length c.args.bytes.now - c.args.tag_size) (drop c.args.tag_size c.args.bytes.now)) c.in-Ok-Some.field-0 c.in-Ok-Some.length c.in-Ok-Some.used c.in-Ok-Some.field-0-is (c.in-Ok-Some.ensures.whole 0)).0 in
     let small = c.requires.small in
     let within = c.requires.within in
     omega (arith, is, used, small, within)
@@ -25,7 +25,7 @@ overflow_cast-start c =
 pub returns-in-Ok-clause-within : goal.returns-in-Ok-clause-within
 returns-in-Ok-clause-within c =
     let is = ap length (slice_from c.args.tag_size c.args.bytes.now) ∙ length-drop c.args.tag_size c.args.bytes.now in
-    let used = (front_there 0 c.left_behind-after.result (take (length c.args.bytes.now - c.args.tag_size) (drop c.args.tag_size c.args.bytes.now)) c.in-Ok-Some.field-0 c.in-Ok-Some.length c.in-Ok-Some.used c.in-Ok-Some.field-0-is (c.in-Ok-Some.ensures.whole 0)).0 in
+    let used = (front_there 0 c.left_after-after.result (take (length c.args.bytes.now - c.args.tag_size) (drop c.args.tag_size c.args.bytes.now)) c.in-Ok-Some.field-0 c.in-Ok-Some.length c.in-Ok-Some.used c.in-Ok-Some.field-0-is (c.in-Ok-Some.ensures.whole 0)).0 in
     let within = c.requires.within in
     (omega arith, omega (arith, is, used, within), c.in-Ok.ensures.small)
 
@@ -35,7 +35,7 @@ returns-in-Ok-clause-whole c =
     let rest = take (length c.args.bytes.now - c.args.tag_size) (drop c.args.tag_size c.args.bytes.now) in
     let reads : (at : ℕ) → ReadsNumber (passed (given_at at c.args.left c.args.bytes.now) c.args.tag_size) c.in-Ok-Some.length (passed (given_at at c.args.left c.args.bytes.now) (c.args.tag_size + c.in-Ok-Some.used)) =
     (λ at.
-    let first = front_there (at + c.args.tag_size) c.left_behind-after.result rest c.in-Ok-Some.field-0 c.in-Ok-Some.length c.in-Ok-Some.used c.in-Ok-Some.field-0-is (c.in-Ok-Some.ensures.whole (at + c.args.tag_size)) in
-    there_behind (λ (p q : Place). ReadsNumber p c.in-Ok-Some.length q) at c.args.left c.left_behind-after.result c.args.bytes.now c.args.tag_size c.in-Ok-Some.used c.left_behind-after.ensures first.1) in
+    let first = front_there (at + c.args.tag_size) c.left_after-after.result rest c.in-Ok-Some.field-0 c.in-Ok-Some.length c.in-Ok-Some.used c.in-Ok-Some.field-0-is (c.in-Ok-Some.ensures.whole (at + c.args.tag_size)) in
+    there_behind (λ (p q : Place). ReadsNumber p c.in-Ok-Some.length q) at c.args.left c.left_after-after.result c.args.bytes.now c.args.tag_size c.in-Ok-Some.used c.left_after-after.ensures first.1) in
     length_there at c.args.left c.args.bytes.now c.args.tag_size (c.args.tag_size + c.in-Ok-Some.used) has reads c.in-Ok.ensures.size
     (λ u t read is ends. c.in-Ok.ensures.whole u t read is ends)

@@ -32,15 +32,15 @@ close_message-requires-clause-few c =
 
 pub close_entry-requires-clause-key : goal.close_entry-requires-clause-key
 close_entry-requires-clause-key c =
-    can_hold c.requires.rules (entry_part c.in-Entry.key_kind c.in-Entry.value_kind (option_map key_view c.in-Entry.key) (option_map value_view c.in-Entry.value))
-    (standing (state_view c.args.reader.now) c.requires.reading.0 (frames_view c.args.reader.now.frames.items) (entry_part c.in-Entry.key_kind c.in-Entry.value_kind (option_map key_view c.in-Entry.key) (option_map value_view c.in-Entry.value))
+    can_hold c.requires.rules (entry_part c.in-Entry.entry.key_kind c.in-Entry.entry.value_kind (option_map key_view c.in-Entry.entry.key) (option_map value_view c.in-Entry.entry.value))
+    (standing (state_view c.args.reader.now) c.requires.reading.0 (frames_view c.args.reader.now.frames.items) (entry_part c.in-Entry.entry.key_kind c.in-Entry.entry.value_kind (option_map key_view c.in-Entry.entry.key) (option_map value_view c.in-Entry.entry.value))
     c.requires.reading.1.reads c.requires.tag refl (ap part_view (sym c.replace-inner.ensures.value ∙ c.in-Entry.is)))
 
 pub close_entry-requires-clause-fits : goal.close_entry-requires-clause-fits
 close_entry-requires-clause-fits c =
-    entry_has_room c.requires.rules c.in-Entry.key_kind c.in-Entry.value_kind (option_map key_view c.in-Entry.key) (option_map value_view c.in-Entry.value)
+    entry_has_room c.requires.rules c.in-Entry.entry.key_kind c.in-Entry.entry.value_kind (option_map key_view c.in-Entry.entry.key) (option_map value_view c.in-Entry.entry.value)
     (standing (state_view c.args.reader.now) c.requires.reading.0 (frame_of (part_view c.replace-inner.new.dest) c.in-Some.frame.number c.in-Some.frame.slot false (scope_view c.in-Some.frame.scope) ∷ frames_view c.pop.new.self.items)
-    (entry_part c.in-Entry.key_kind c.in-Entry.value_kind (option_map key_view c.in-Entry.key) (option_map value_view c.in-Entry.value)) c.requires.reading.1.reads c.requires.tag
+    (entry_part c.in-Entry.entry.key_kind c.in-Entry.entry.value_kind (option_map key_view c.in-Entry.entry.key) (option_map value_view c.in-Entry.entry.value)) c.requires.reading.1.reads c.requires.tag
     (popped_open c.args.reader.now.frames.items c.pop.new.self.items c.in-Some.frame c.replace-inner.new.dest c.in-Some.ensures.items c.replace-inner.ensures.after c.requires.no_group) (ap part_view (sym c.replace-inner.ensures.value ∙ c.in-Entry.is)))
 
 pub close_entry-requires-clause-few : goal.close_entry-requires-clause-few
@@ -72,7 +72,7 @@ returns-in_ok-close_entry-in-Entry-clause-taken c =
     c.in_ok-close_entry-in-Entry.ensures.same_end
     (c.in_ok-close_entry-in-Entry.ensures.stands c.args.pool.now m depth levels base p0 (here (state_view c.args.reader.now) rest) (frames_view c.pop.new.self.items) (scope_view c.args.reader.now.scope)
     (standing (state_view c.args.reader.now) rest (frame_of (part_view c.replace-inner.new.dest) c.in-Some.frame.number c.in-Some.frame.slot false (scope_view c.in-Some.frame.scope) ∷ frames_view c.pop.new.self.items)
-    (entry_part c.in-Entry.key_kind c.in-Entry.value_kind (option_map key_view c.in-Entry.key) (option_map value_view c.in-Entry.value)) begun c.requires.tag
+    (entry_part c.in-Entry.entry.key_kind c.in-Entry.entry.value_kind (option_map key_view c.in-Entry.entry.key) (option_map value_view c.in-Entry.entry.value)) begun c.requires.tag
     (popped_open c.args.reader.now.frames.items c.pop.new.self.items c.in-Some.frame c.replace-inner.new.dest c.in-Some.ensures.items c.replace-inner.ensures.after c.requires.no_group) (ap part_view (sym c.replace-inner.ensures.value ∙ c.in-Entry.is))) c.requires.ends)
 
 pub unreachable-requires-in-Group : goal.unreachable-requires-in-Group

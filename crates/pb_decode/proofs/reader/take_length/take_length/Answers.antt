@@ -38,8 +38,8 @@ pub returns-in-Err-clause-refused : goal.returns-in-Err-clause-refused
 returns-in-Err-clause-refused c =
     λ m depth levels base p0 begun.
     fault_told c.fault_at.result (fault c.args.reader.now.at (path_here (state_view c.args.reader.now)) c.in-Err.cause) c.fault_at.ensures
-    (length_fault_told c.args.pool.now m depth p0 (state_view c.args.reader.now) c.args.number c.args.purpose c.in-Err.cause c.requires.step c.in-Err.ensures.settled
-    (c.in-Err.ensures.length c.args.pool.now m depth levels c.args.reader.now.at c.args.number base p0 (frames_view c.args.reader.now.frames.items) (scope_view c.args.reader.now.scope) (part_view c.args.reader.now.part) c.args.reader.now.step c.args.purpose
+    (length_fault_told c.args.pool.now m depth p0 (state_view c.args.reader.now) c.args.number c.args.target c.in-Err.cause c.requires.step c.in-Err.ensures.settled
+    (c.in-Err.ensures.length c.args.pool.now m depth levels c.args.reader.now.at c.args.number base p0 (frames_view c.args.reader.now.frames.items) (scope_view c.args.reader.now.scope) (part_view c.args.reader.now.part) c.args.reader.now.step c.args.target
     (subst (λ (z : Option ℕ). After c.args.pool.now m depth levels base p0 (frames_view c.args.reader.now.frames.items) c.args.reader.now.step (part_view c.args.reader.now.part) (scope_view c.args.reader.now.scope) (given_at c.args.reader.now.at z c.args.bytes.now)) (sym c.left.ensures) begun)
     (ap awaited c.requires.step)))
 
@@ -47,16 +47,16 @@ pub returns-in-Ok-None-clause-taken : goal.returns-in-Ok-None-clause-taken
 returns-in-Ok-None-clause-taken c =
     λ m depth levels base p0 begun.
     let told = number_cut (state_view c.args.reader.now) c.left.result c.args.bytes.now c.in-Ok-None.field-0 c.left.ensures c.in-Ok-None.field-0-is (c.in-Ok-None.ensures.short c.args.reader.now.at) in
-    (begun, length_short (state_view c.args.reader.now) c.args.bytes.now c.args.number c.args.purpose begun c.requires.step told)
+    (begun, length_short (state_view c.args.reader.now) c.args.bytes.now c.args.number c.args.target begun c.requires.step told)
 
 pub returns-in-Err-payload_size-clause-refused : goal.returns-in-Err-payload_size-clause-refused
 returns-in-Err-payload_size-clause-refused c =
     λ m depth levels base p0 begun.
     let there = number_there (state_view c.args.reader.now) c.left.result c.args.bytes.now c.in-Ok-Some.field-0 c.in-Ok-Some.length c.in-Ok-Some.used c.left.ensures c.in-Ok-Some.field-0-is (c.in-Ok-Some.ensures.whole c.args.reader.now.at) in
     fault_told c.fault_at-in-Err-payload_size.result (fault c.args.reader.now.at (path_here (state_view c.args.reader.now)) c.in-Err-payload_size.cause) c.fault_at-in-Err-payload_size.ensures
-    (length_fault_told c.args.pool.now m depth p0 (state_view c.args.reader.now) c.args.number c.args.purpose c.in-Err-payload_size.cause c.requires.step c.in-Err-payload_size.ensures.settled
+    (length_fault_told c.args.pool.now m depth p0 (state_view c.args.reader.now) c.args.number c.args.target c.in-Err-payload_size.cause c.requires.step c.in-Err-payload_size.ensures.settled
     (c.in-Err-payload_size.ensures.refused c.args.pool.now m depth levels c.args.number base p0 (here (state_view c.args.reader.now) c.args.bytes.now) (passed (here (state_view c.args.reader.now) c.args.bytes.now) c.in-Ok-Some.used)
-    (frames_view c.args.reader.now.frames.items) (scope_view c.args.reader.now.scope) (part_view c.args.reader.now.part) c.args.reader.now.step c.args.purpose begun (ap awaited c.requires.step) there.1 refl refl))
+    (frames_view c.args.reader.now.frames.items) (scope_view c.args.reader.now.scope) (part_view c.args.reader.now.part) c.args.reader.now.step c.args.target begun (ap awaited c.requires.step) there.1 refl refl))
 
 pub returns-in_ok-pass_length-in-Ok-clause-passes : goal.returns-in_ok-pass_length-in-Ok-clause-passes
 returns-in_ok-pass_length-in-Ok-clause-passes c =
@@ -73,10 +73,10 @@ returns-in_ok-pass_length-in-Ok-clause-taken c =
     c.in-Ok.ensures.whole (here (state_view c.args.reader.now) c.args.bytes.now) (passed (here (state_view c.args.reader.now) c.args.bytes.now) c.in-Ok-Some.used) there.1 refl
     (length_ends (state_view c.args.reader.now) c.args.bytes.now c.in-Ok-Some.length c.in-Ok-Some.used begun there.1) in
     c.in_ok-pass_length-in-Ok.ensures.reads c.args.pool.now m depth levels base p0 (here (state_view c.args.reader.now) c.args.bytes.now) (passed (here (state_view c.args.reader.now) c.args.bytes.now) c.in-Ok-Some.used) c.requires.rules
-    (awaited_can (tag c.args.number 2 c.args.purpose) c.requires.rules begun (ap awaited c.requires.step))
-    (at_length (state_view c.args.reader.now) c.args.bytes.now c.args.number c.args.purpose begun c.requires.step) has refl
+    (awaited_can (tag c.args.number 2 c.args.target) c.requires.rules begun (ap awaited c.requires.step))
+    (at_length (state_view c.args.reader.now) c.args.bytes.now c.args.number c.args.target begun c.requires.step) has refl
 
 pub returns-in-Ok-None-clause-waits : goal.returns-in-Ok-None-clause-waits
 returns-in-Ok-None-clause-waits c =
-    length_waits (state_view c.args.reader.now) c.args.bytes.now c.args.number c.args.purpose c.requires.step
+    length_waits (state_view c.args.reader.now) c.args.bytes.now c.args.number c.args.target c.requires.step
     (number_cut (state_view c.args.reader.now) c.left.result c.args.bytes.now c.in-Ok-None.field-0 c.left.ensures c.in-Ok-None.field-0-is (c.in-Ok-None.ensures.short c.args.reader.now.at))

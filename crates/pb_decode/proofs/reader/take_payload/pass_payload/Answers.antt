@@ -14,12 +14,12 @@ returns-in_ok-count_one-in-Ok-clause-stands c =
     λ m depth levels base p0 w rest begun moves.
     subst (λ (z : Scope). Stands c.args.pool.now m depth levels base p0 (frames_view c.args.reader.now.frames.items) (part_view c.put_payload.new.part) z w) (sym c.in_ok-count_one-in-Ok.ensures.more)
     (c.in-Ok.ensures.stands m depth levels (length c.args.bytes.now) base p0 (here (state_view c.args.reader.now) rest) w (frames_view c.args.reader.now.frames.items) (scope_view c.args.reader.now.scope)
-    (payload_next (state_view c.args.reader.now) rest c.args.number c.args.purpose (length c.args.bytes.now) begun c.requires.step) refl moves)
+    (payload_next (state_view c.args.reader.now) rest c.args.number c.args.target (length c.args.bytes.now) begun c.requires.step) refl moves)
 
 pub returns-in-Err-BadText-clause-refused : goal.returns-in-Err-BadText-clause-refused
 returns-in-Err-BadText-clause-refused c =
     λ m depth levels base p0 w rest begun moves.
     fault_told c.fault_at.result (fault (c.args.reader.now.at + c.in-Err-BadText.valid) (path_here (state_view c.args.reader.now)) BadText) c.fault_at.ensures
-    (payload_refused (state_view c.args.reader.now) rest c.args.number c.args.purpose (length c.args.bytes.now) begun c.requires.step c.in-Err-BadText.field-0 c.in-Err-BadText.valid c.in-Err-BadText.field-0-is
+    (payload_refused (state_view c.args.reader.now) rest c.args.number c.args.target (length c.args.bytes.now) begun c.requires.step c.in-Err-BadText.field-0 c.in-Err-BadText.valid c.in-Err-BadText.field-0-is
     (c.in-Err-BadText.ensures.refused m depth levels (length c.args.bytes.now) base p0 (here (state_view c.args.reader.now) rest) w (frames_view c.args.reader.now.frames.items) (scope_view c.args.reader.now.scope)
-    (payload_next (state_view c.args.reader.now) rest c.args.number c.args.purpose (length c.args.bytes.now) begun c.requires.step) refl moves))
+    (payload_next (state_view c.args.reader.now) rest c.args.number c.args.target (length c.args.bytes.now) begun c.requires.step) refl moves))

@@ -13,4 +13,4 @@ returns-clause-reads c =
     entered c.enter.new.reader c.open_group-frame.new.part c.open_group-frame.new.scope c.open_group-frame.result (frames_view c.args.reader.now.frames.items) (passed (here (state_view c.args.reader.now) rest) c.args.size)
     c.in_ok-enter.ensures.frames c.in_ok-enter.ensures.part c.in_ok-enter.ensures.scope c.in_ok-enter.ensures.step (sym c.in_ok-enter.ensures.at)
     (c.open_group-frame.ensures pool m depth levels base p0 (here (state_view c.args.reader.now) rest) (passed (here (state_view c.args.reader.now) rest) c.args.size) (frames_view c.args.reader.now.frames.items) ok can means
-    (standing (state_view c.args.reader.now) rest (frames_view c.args.reader.now.frames.items) (part_view c.args.reader.now.part) begun c.requires.step refl refl) c.requires.room has)
+    (standing (state_view c.args.reader.now) rest (frames_view c.args.reader.now.frames.items) (part_view c.args.reader.now.part) begun c.requires.step refl refl) c.requires.depth_left has)

@@ -72,6 +72,6 @@ pub unreachable-requires-in-Entry : goal.unreachable-requires-in-Entry
 unreachable-requires-in-Entry c =
     entry_no_group
     (standing (state_view c.args.reader.now) c.requires.reading.0 (frame_of (part_view c.replace-inner.new.dest) c.in-Some.frame.number c.in-Some.frame.slot true (scope_view c.in-Some.frame.scope) ∷ frames_view c.pop.new.self.items)
-    (entry_part c.in-Entry.key_kind c.in-Entry.value_kind (option_map key_view c.in-Entry.key) (option_map value_view c.in-Entry.value)) c.requires.reading.1.reads c.requires.step
+    (entry_part c.in-Entry.field-0.key_kind c.in-Entry.field-0.value_kind (option_map key_view c.in-Entry.field-0.key) (option_map value_view c.in-Entry.field-0.value)) c.requires.reading.1.reads c.requires.step
     (popped_group c.args.reader.now.frames.items c.pop.new.self.items c.in-Some.frame c.replace-inner.new.dest c.requires.group.0 c.in-Some.ensures.items c.replace-inner.ensures.after c.requires.group.1)
     (ap part_view (sym c.replace-inner.ensures.value ∙ c.in-Entry.is))) refl

@@ -4,7 +4,7 @@ use Rattle.std.proofs.lemmas.Result.{err_from_is_err_and}
 use Rattle.pb_wire.specs.Fault.{fault, HasTag}
 use Rattle.pb_wire.specs.Token.{passed}
 use Rattle.pb_parts.specs.Open.PartView.{part_view, scope_view}
-use Rattle.pb_parts.specs.Open.Purposes.{Means, part_context}
+use Rattle.pb_parts.specs.Open.Targets.{Means, part_context}
 use Rattle.pb_decode.specs.Reader.{state_view, frames_view, here, path_here}
 use Rattle.pb_parts.proofs.WellLemmas.{can_hold}
 use Rattle.pb_decode.proofs.ReaderLemmas.{fault_told}
@@ -39,8 +39,8 @@ returns-in_err-pass_group_end-clause-refused c =
     (c.in_err-pass_group_end.ensures.refused m depth levels base p0 rest begun
     (subst (λ (z : ℕ). HasTag q c.in-Ok.parts.0 z (passed q c.args.size)) c.if-wire_type-eq4.true (c.in-Ok.ensures.whole q (passed q c.args.size) has)))
 
-pub purpose_of-meant-requires : goal.purpose_of-meant-requires
-purpose_of-meant-requires c =
+pub target_of-meant-requires : goal.target_of-meant-requires
+target_of-meant-requires c =
     can_hold c.requires.rules (part_view c.args.reader.now.part)
     (standing (state_view c.args.reader.now) c.requires.reading.0 (frames_view c.args.reader.now.frames.items) (part_view c.args.reader.now.part) c.requires.reading.1.reads c.requires.step refl refl)
 
@@ -63,7 +63,7 @@ returns-in_ok-pass_group_start-clause-reads c =
     c.in_ok-pass_group_start.ensures.reads c.args.pool.now m depth levels base p0 rest c.requires.rules
     (can_hold c.requires.rules (part_view c.args.reader.now.part)
     (standing (state_view c.args.reader.now) rest (frames_view c.args.reader.now.frames.items) (part_view c.args.reader.now.part) begun c.requires.step refl refl))
-    (subst (λ (z : ℕ). Means c.args.pool.now (part_context (part_view c.args.reader.now.part)) c.in-Ok.parts.0 z c.purpose_of-meant.result) c.if-wire_type-eq3.true c.purpose_of-meant.ensures) begun
+    (subst (λ (z : ℕ). Means c.args.pool.now (part_context (part_view c.args.reader.now.part)) c.in-Ok.parts.0 z c.target_of-meant.result) c.if-wire_type-eq3.true c.target_of-meant.ensures) begun
     (subst (λ (z : ℕ). HasTag q c.in-Ok.parts.0 z (passed q c.args.size)) c.if-wire_type-eq3.true (c.in-Ok.ensures.whole q (passed q c.args.size) has))
 
 pub returns-in_ok-pass_group_end-clause-reads : goal.returns-in_ok-pass_group_end-clause-reads

@@ -33,8 +33,8 @@ close_entry-requires-clause-key c =
     let has = subst (λ (z : ℕ). HasTag (here s c.args.bytes.now) c.args.tag.number z (passed (here s c.args.bytes.now) c.args.tag.size)) c.requires.bytes c.requires.at_tag.there in
     let l = length_here s c.args.bytes.now c.args.tag.number c.args.tag.wire_type c.args.tag.size c.in-Some.start c.in-Some.size c.left.ensures c.in-Some.ensures.whole c.requires.at_tag.there in
     let level = c.if-reader-eq0.false in
-    let read = entry_inside s.at (left_of s) c.args.bytes.now c.args.tag.number c.args.tag.size c.in-Some.start c.in-Some.size s.scope.room c.args.key_kind c.args.value_kind c.requires.at_tag.rules (s.scope, tag_stands s c.args.bytes.now c.requires.at_tag.reading.reads c.requires.at_tag.step, refl) has l c.requires.means (omega (arith, level)) c.in-Ok.ensures (ap part_view c.in-Entry.is) in
-    can_hold c.requires.at_tag.rules (entry_part c.in-Entry.key_kind c.in-Entry.value_kind (option_map key_view c.in-Entry.key) (option_map value_view c.in-Entry.value)) read.1
+    let read = entry_inside s.at (left_of s) c.args.bytes.now c.args.tag.number c.args.tag.size c.in-Some.start c.in-Some.size s.scope.depth_left c.args.key_kind c.args.value_kind c.requires.at_tag.rules (s.scope, tag_stands s c.args.bytes.now c.requires.at_tag.reading.reads c.requires.at_tag.step, refl) has l c.requires.means (omega (arith, level)) c.in-Ok.ensures (ap part_view c.in-Entry.is) in
+    can_hold c.requires.at_tag.rules (entry_part c.in-Entry.entry.key_kind c.in-Entry.entry.value_kind (option_map key_view c.in-Entry.entry.key) (option_map value_view c.in-Entry.entry.value)) read.1
 
 pub close_entry-requires-clause-fits : goal.close_entry-requires-clause-fits
 close_entry-requires-clause-fits c =
@@ -42,8 +42,8 @@ close_entry-requires-clause-fits c =
     let has = subst (λ (z : ℕ). HasTag (here s c.args.bytes.now) c.args.tag.number z (passed (here s c.args.bytes.now) c.args.tag.size)) c.requires.bytes c.requires.at_tag.there in
     let l = length_here s c.args.bytes.now c.args.tag.number c.args.tag.wire_type c.args.tag.size c.in-Some.start c.in-Some.size c.left.ensures c.in-Some.ensures.whole c.requires.at_tag.there in
     let level = c.if-reader-eq0.false in
-    let read = entry_inside s.at (left_of s) c.args.bytes.now c.args.tag.number c.args.tag.size c.in-Some.start c.in-Some.size s.scope.room c.args.key_kind c.args.value_kind c.requires.at_tag.rules (s.scope, tag_stands s c.args.bytes.now c.requires.at_tag.reading.reads c.requires.at_tag.step, refl) has l c.requires.means (omega (arith, level)) c.in-Ok.ensures (ap part_view c.in-Entry.is) in
-    entry_has_room c.requires.at_tag.rules c.in-Entry.key_kind c.in-Entry.value_kind (option_map key_view c.in-Entry.key) (option_map value_view c.in-Entry.value) read.1
+    let read = entry_inside s.at (left_of s) c.args.bytes.now c.args.tag.number c.args.tag.size c.in-Some.start c.in-Some.size s.scope.depth_left c.args.key_kind c.args.value_kind c.requires.at_tag.rules (s.scope, tag_stands s c.args.bytes.now c.requires.at_tag.reading.reads c.requires.at_tag.step, refl) has l c.requires.means (omega (arith, level)) c.in-Ok.ensures (ap part_view c.in-Entry.is) in
+    entry_has_room c.requires.at_tag.rules c.in-Entry.entry.key_kind c.in-Entry.entry.value_kind (option_map key_view c.in-Entry.entry.key) (option_map value_view c.in-Entry.entry.value) read.1
 
 pub close_entry-requires-clause-few : goal.close_entry-requires-clause-few
 close_entry-requires-clause-few c =
@@ -58,7 +58,7 @@ returns-in_ok-close_entry-in-Entry-clause-taken c =
     let has = subst (λ (z : ℕ). HasTag (here s c.args.bytes.now) c.args.tag.number z (passed (here s c.args.bytes.now) c.args.tag.size)) c.requires.bytes c.requires.at_tag.there in
     let l = length_here s c.args.bytes.now c.args.tag.number c.args.tag.wire_type c.args.tag.size c.in-Some.start c.in-Some.size c.left.ensures c.in-Some.ensures.whole c.requires.at_tag.there in
     let level = c.if-reader-eq0.false in
-    let read = entry_inside s.at (left_of s) c.args.bytes.now c.args.tag.number c.args.tag.size c.in-Some.start c.in-Some.size s.scope.room c.args.key_kind c.args.value_kind c.requires.at_tag.rules (s.scope, tag_stands s c.args.bytes.now begun c.requires.at_tag.step, refl) has l c.requires.means (omega (arith, level)) c.in-Ok.ensures (ap part_view c.in-Entry.is) in
+    let read = entry_inside s.at (left_of s) c.args.bytes.now c.args.tag.number c.args.tag.size c.in-Some.start c.in-Some.size s.scope.depth_left c.args.key_kind c.args.value_kind c.requires.at_tag.rules (s.scope, tag_stands s c.args.bytes.now begun c.requires.at_tag.step, refl) has l c.requires.means (omega (arith, level)) c.in-Ok.ensures (ap part_view c.in-Entry.is) in
     let q = passed (given_at (c.args.reader.now.at + c.in-Some.start) (Some c.in-Some.size) (take (length c.args.bytes.now - c.in-Some.start) (drop c.in-Some.start c.args.bytes.now))) c.in-Some.size in
     inner_passed s
     (record { at = c.args.reader.now.at + (c.in-Some.start + c.in-Some.size); now = part_view c.close_entry.new.outer; scope = scope_view c.close_entry.new.scope; frames = frames_view c.args.reader.now.frames.items; next = c.args.reader.now.step })

@@ -20,7 +20,7 @@ read_records-requires-clause-can c =
     let free = c.if-not-is_free.ensures refl in
     record {
       rules = c.requires.at_tag.rules;
-      is_open = message_in_reader s c.args.bytes.now c.args.tag.number c.args.tag.size c.in-Some.start c.in-Some.size c.room_in.result c.args.message_type c.args.slot s.now (body_view c.empty_body.result) c.requires.at_tag.rules c.requires.at_tag.reading c.room_in.ensures c.requires.at_tag.step has l c.requires.means (c.if-not-has_room.ensures.room refl) (sym free.1) (c.empty_body.ensures ∙ sym free.0);
+      is_open = message_in_reader s c.args.bytes.now c.args.tag.number c.args.tag.size c.in-Some.start c.in-Some.size c.depth_left_in.result c.args.message_type c.args.slot s.now (body_view c.empty_body.result) c.requires.at_tag.rules c.requires.at_tag.reading c.depth_left_in.ensures c.requires.at_tag.step has l c.requires.means (c.if-not-has_level.ensures.depth_left refl) (sym free.1) (c.empty_body.ensures ∙ sym free.0);
       small = omega (arith, is, small);
     }
 
@@ -40,7 +40,7 @@ returns-in_ok-close_message-in-Message-clause-taken c =
     let has = subst (λ (z : ℕ). HasTag (here s c.args.bytes.now) c.args.tag.number z (passed (here s c.args.bytes.now) c.args.tag.size)) c.requires.bytes c.requires.at_tag.there in
     let l = length_here s c.args.bytes.now c.args.tag.number c.args.tag.wire_type c.args.tag.size c.in-Some.start c.in-Some.size c.left.ensures c.in-Some.ensures.whole c.requires.at_tag.there in
     let free = c.if-not-is_free.ensures refl in
-    let read = message_inside s.at (left_of s) c.args.bytes.now c.args.tag.number c.args.tag.size c.in-Some.start c.in-Some.size s.scope.room c.room_in.result c.args.message_type c.args.slot s.now (body_view c.empty_body.result) c.requires.at_tag.rules (s.scope, tag_stands s c.args.bytes.now begun c.requires.at_tag.step, refl) c.room_in.ensures has l c.requires.means (c.if-not-has_room.ensures.room refl) (sym free.1) (c.empty_body.ensures ∙ sym free.0) c.in-Ok.ensures (ap part_view c.in-Message.is) in
+    let read = message_inside s.at (left_of s) c.args.bytes.now c.args.tag.number c.args.tag.size c.in-Some.start c.in-Some.size s.scope.depth_left c.depth_left_in.result c.args.message_type c.args.slot s.now (body_view c.empty_body.result) c.requires.at_tag.rules (s.scope, tag_stands s c.args.bytes.now begun c.requires.at_tag.step, refl) c.depth_left_in.ensures has l c.requires.means (c.if-not-has_level.ensures.depth_left refl) (sym free.1) (c.empty_body.ensures ∙ sym free.0) c.in-Ok.ensures (ap part_view c.in-Message.is) in
     let q = passed (given_at (c.args.reader.now.at + c.in-Some.start) (Some c.in-Some.size) (take (length c.args.bytes.now - c.in-Some.start) (drop c.in-Some.start c.args.bytes.now))) c.in-Some.size in
     inner_passed s
     (record { at = c.args.reader.now.at + (c.in-Some.start + c.in-Some.size); now = part_view c.close_message.new.outer; scope = scope_view c.close_message.new.scope; frames = frames_view c.args.reader.now.frames.items; next = c.args.reader.now.step })

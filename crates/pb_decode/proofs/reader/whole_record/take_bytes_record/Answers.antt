@@ -28,7 +28,7 @@ returns-in_ok-count_one-in-Ok-clause-taken c =
     let l =
     length_here (state_view c.args.reader.now) c.args.bytes.now c.args.tag.number c.args.tag.wire_type c.args.tag.size c.in-Some.start c.in-Some.size c.left.ensures c.in-Some.ensures.whole c.requires.at_tag.there in
     let within = c.in-Some.ensures.within.1 in
-    let next = bytes_next c.args.tag.number c.in-Some.size c.args.purpose (tag_stands (state_view c.args.reader.now) c.args.bytes.now begun c.requires.at_tag.step) has c.requires.means c.requires.purpose l in
+    let next = bytes_next c.args.tag.number c.in-Some.size c.args.target (tag_stands (state_view c.args.reader.now) c.args.bytes.now begun c.requires.at_tag.step) has c.requires.means c.requires.target l in
     let size = slice_size c.in-Some.start c.in-Some.size c.args.bytes.now within in
     stands_reads (state_view c.args.reader.now)
     (record { at = c.args.reader.now.at + (c.in-Some.start + c.in-Some.size); now = part_view c.put_payload.new.part; scope = scope_view c.count_one.new.scope; frames = frames_view c.args.reader.now.frames.items; next = c.args.reader.now.step })

@@ -14,8 +14,8 @@ use Rattle.pb_whole.proofs.Tags.{there_behind, number_next}
 use Rattle.pb_decode.proofs.WholeRecords.{tag_stands, tag_can, tag_few}
 use Rattle.pb_decode.proofs.reader.whole_record.take_number_record.Goals as goal
 
-pub purpose_of-purpose-requires : goal.purpose_of-purpose-requires
-purpose_of-purpose-requires c = tag_can (state_view c.args.reader.now) c.args.bytes.now c.requires.at_tag.rules c.requires.at_tag.reading.reads c.requires.at_tag.step
+pub target_of-target-requires : goal.target_of-target-requires
+target_of-target-requires c = tag_can (state_view c.args.reader.now) c.args.bytes.now c.requires.at_tag.rules c.requires.at_tag.reading.reads c.requires.at_tag.step
 
 pub put_number-requires-clause-can : goal.put_number-requires-clause-can
 put_number-requires-clause-can c = tag_can (state_view c.args.reader.now) c.args.bytes.now c.requires.at_tag.rules c.requires.at_tag.reading.reads c.requires.at_tag.step
@@ -30,11 +30,11 @@ pub returns-in_ok-count_one-in-Whole-clause-taken : goal.returns-in_ok-count_one
 returns-in_ok-count_one-in-Whole-clause-taken c =
     λ m depth levels base p0 begun.
     let told = c.in-Whole.ensures (c.args.reader.now.at + c.args.tag.size) in
-    let behind = c.left_behind-after.ensures ∙ ap (λ (z : Option ℕ). option_map (λ (e : ℕ). e - c.args.tag.size) z) c.left.ensures in
+    let behind = c.left_after-after.ensures ∙ ap (λ (z : Option ℕ). option_map (λ (e : ℕ). e - c.args.tag.size) z) c.left.ensures in
     let follows =
-    there_behind (λ (p q : Place). Follows p (number_view c.in-Whole.value) q) c.args.reader.now.at (left_of (state_view c.args.reader.now)) c.left_behind-after.result c.args.bytes.now c.args.tag.size c.in-Whole.size behind told.2 in
+    there_behind (λ (p q : Place). Follows p (number_view c.in-Whole.value) q) c.args.reader.now.at (left_of (state_view c.args.reader.now)) c.left_after-after.result c.args.bytes.now c.args.tag.size c.in-Whole.size behind told.2 in
     let next =
-    number_next c.args.tag.number c.args.tag.wire_type c.purpose_of-purpose.result c.requires.number (tag_stands (state_view c.args.reader.now) c.args.bytes.now begun c.requires.at_tag.step) c.requires.at_tag.there c.purpose_of-purpose.ensures in
+    number_next c.args.tag.number c.args.tag.wire_type c.target_of-target.result c.requires.number (tag_stands (state_view c.args.reader.now) c.args.bytes.now begun c.requires.at_tag.step) c.requires.at_tag.there c.target_of-target.ensures in
     let u = passed (here (state_view c.args.reader.now) c.args.bytes.now) c.args.tag.size in
     let w = passed (here (state_view c.args.reader.now) c.args.bytes.now) (c.args.tag.size + c.in-Whole.size) in
     stands_reads (state_view c.args.reader.now)
@@ -42,7 +42,7 @@ returns-in_ok-count_one-in-Whole-clause-taken c =
     (c.args.tag.size + c.in-Whole.size) c.args.bytes.now refl c.in_ok-count_one-in-Whole.ensures.same_end c.requires.at_tag.step
     (subst (λ (z : Scope). Stands c.args.pool.now m depth levels base p0 (frames_view c.args.reader.now.frames.items) (part_view c.put_number.new.part) z w) (sym c.in_ok-count_one-in-Whole.ensures.more)
     (c.in_ok-put_number-in-Whole.ensures m depth levels base p0 u w (frames_view c.args.reader.now.frames.items) (scope_view c.args.reader.now.scope) next.0 next.2
-    (next.1 ∙ ap (λ (z : ℕ). Some (tag c.args.tag.number z c.purpose_of-purpose.result)) (sym told.0)) follows))
+    (next.1 ∙ ap (λ (z : ℕ). Some (tag c.args.tag.number z c.target_of-target.result)) (sym told.0)) follows))
 
 pub overflow_add-used : goal.overflow_add-used
 overflow_add-used c =

@@ -14,6 +14,6 @@ returns-clause-taken c =
     let has = subst (λ (z : ℕ). HasTag (here (state_view c.args.reader.now) c.args.bytes.now) c.args.tag.number z (passed (here (state_view c.args.reader.now) c.args.bytes.now) c.args.tag.size)) c.requires.bytes c.requires.at_tag.there in
     let l =
     length_here (state_view c.args.reader.now) c.args.bytes.now c.args.tag.number c.args.tag.wire_type c.args.tag.size c.in-Some.start c.in-Some.size c.left.ensures c.in-Some.ensures.whole c.requires.at_tag.there in
-    let next = opening_next c.args.tag.number c.args.purpose (tag_stands (state_view c.args.reader.now) c.args.bytes.now begun c.requires.at_tag.step) has c.requires.means (c.if-not-has_room.ensures.room refl) in
+    let next = opening_next c.args.tag.number c.args.target (tag_stands (state_view c.args.reader.now) c.args.bytes.now begun c.requires.at_tag.step) has c.requires.means (c.if-not-has_level.ensures.depth_left refl) in
     c.in_ok-pass_length.ensures.reads c.args.pool.now m depth levels base p0 (passed p c.args.tag.size) (passed p c.in-Some.start) c.requires.at_tag.rules
     (tag_can (state_view c.args.reader.now) c.args.bytes.now c.requires.at_tag.rules c.requires.at_tag.reading.reads c.requires.at_tag.step) next l refl

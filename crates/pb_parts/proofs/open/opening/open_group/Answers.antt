@@ -1,7 +1,7 @@
 -- A record that opens a message opens it, and another one an unknown group.
 use Rattle.std.proofs.Common.{subst}
 use Rattle.pb_parts.specs.Open.PartView.{part_view}
-use Rattle.pb_parts.specs.Open.Purposes.{Means, part_context}
+use Rattle.pb_parts.specs.Open.Targets.{Means, part_context}
 use Rattle.pb_parts.proofs.GroupSteps.{unknown_group_means}
 use Rattle.pb_parts.proofs.open.opening.open_group.Goals as goal
 

@@ -4,7 +4,7 @@ use Rattle.pb_schema.specs.Closed.{is_undeclared}
 use Rattle.pb_schema.specs.Kinds.{closed_enum}
 use Rattle.pb_wire.specs.Token.{given_at, passed}
 use Rattle.pb_value.specs.View.{value_view}
-use Rattle.pb_parts.specs.declared.open.purpose.Purpose.TheVariants.{Element}
+use Rattle.pb_parts.specs.declared.open.target.Target.TheVariants.{Element}
 use Rattle.pb_parts.specs.declared.tokens.step.Step.TheVariants.{Elements}
 use Rattle.pb_parts.specs.Open.Frames.{Part}
 use Rattle.pb_parts.specs.Tokens.After.{After}

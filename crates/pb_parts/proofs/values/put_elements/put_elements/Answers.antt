@@ -16,7 +16,7 @@ returns-in_ok-store_all-in-Message c =
 
 pub returns-in-Entry : goal.returns-in-Entry
 returns-in-Entry c =
-    ap part_view c.in-Entry.is ∙ sym (each_in_entry c.args.number (map value_view c.args.values.items) c.in-Entry.key_kind c.in-Entry.value_kind (option_map key_view c.in-Entry.key) (option_map value_view c.in-Entry.value))
+    ap part_view c.in-Entry.is ∙ sym (each_in_entry c.args.number (map value_view c.args.values.items) c.in-Entry.field-0.key_kind c.in-Entry.field-0.value_kind (option_map key_view c.in-Entry.field-0.key) (option_map value_view c.in-Entry.field-0.value))
     ∙ ap (λ (z : Part). put_each c.args.number (map value_view c.args.values.items) (part_view z)) (sym c.in-Entry.is)
 
 pub returns-in-Group : goal.returns-in-Group

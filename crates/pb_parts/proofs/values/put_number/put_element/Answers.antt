@@ -1,7 +1,7 @@
 -- The value goes to the end of the list, and the reader is after it.
 use Rattle.std.proofs.Common.{sym, ap, ◌∙◌}
 use Rattle.pb_parts.specs.Open.PartView.{part_view}
-use Rattle.pb_parts.specs.declared.open.purpose.Purpose.TheVariants.{Element}
+use Rattle.pb_parts.specs.declared.open.target.Target.TheVariants.{Element}
 use Rattle.pb_parts.specs.Values.Put.{put_datum}
 use Rattle.pb_parts.proofs.AnswerLemmas.{told_of}
 use Rattle.pb_parts.proofs.NumberSteps.{read_some}

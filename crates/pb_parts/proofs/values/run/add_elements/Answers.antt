@@ -21,7 +21,7 @@ loop-here-preserved c =
       within = omega (arith, size, within);
       put = λ m depth levels at outer base p0 frames scope now begun.
           let p : Place = given_at at c.args.left c.args.bytes.now in
-          let behind = place_behind at c.args.left c.left_behind.result c.args.bytes.now here c.left_behind.ensures in
+          let behind = place_behind at c.args.left c.left_after.result c.args.bytes.now here c.left_after.ensures in
           let was =
           subst (After c.args.pool.now m depth levels base p0 frames (Elements c.args.number c.args.kind outer) (put_run c.args.number c.loop-here.run now) scope) behind
           (c.loop-here.invariant.put m depth levels at outer base p0 frames scope now begun) in

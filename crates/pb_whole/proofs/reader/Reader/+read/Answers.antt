@@ -11,10 +11,10 @@ use Rattle.pb_value.specs.declared.body.Value.TheVariants as value
 use Rattle.pb_value.specs.View.{body_view, key_view, value_view}
 use Rattle.pb_parts.specs.declared.open.part.Part.TheVariants as part_kept
 use Rattle.pb_parts.specs.declared.open.part.Slot.TheVariants as slot
-use Rattle.pb_parts.specs.declared.open.purpose.Purpose.TheVariants.{Message}
+use Rattle.pb_parts.specs.declared.open.target.Target.TheVariants.{Message}
 use Rattle.pb_parts.specs.Open.Frames.{Part, entry_part, one_more_in, Stands}
 use Rattle.pb_parts.specs.Open.PartView.{part_view}
-use Rattle.pb_parts.specs.Open.Purposes.{Means, part_context}
+use Rattle.pb_parts.specs.Open.Targets.{Means, part_context}
 use Rattle.pb_parts.specs.Close.Mapped.{pairs_view, put_mapped, put_all_mapped}
 use Rattle.pb_parts.specs.Values.Run.{put_listed}
 use Rattle.pb_parts.proofs.PlaceLemmas.{slice_from, place_behind}
@@ -75,8 +75,8 @@ read_records-returns t c =
     let all : c.loop-here.here ≡ c.args.left.remaining = omega (arith, same) in
     subst (ReadsTo c.args.self.now.pool.now (part_view c.args.part.now) (part_view c.loop-here.part) c.args.bytes.now c.args.left.remaining c.args.left.depth_left) all c.loop-here.invariant.read
 
-pub read_length-purpose_of-purpose-requires : goal.read_length-purpose_of-purpose-requires
-read_length-purpose_of-purpose-requires t c = open_can c.requires.at_tag.can.rules c.requires.at_tag.can.is_open
+pub read_length-target_of-target-requires : goal.read_length-target_of-target-requires
+read_length-target_of-target-requires t c = open_can c.requires.at_tag.can.rules c.requires.at_tag.can.is_open
 
 -- THE MESSAGE
 pub read_message-read_records-requires : goal.read_message-read_records-requires
@@ -93,8 +93,8 @@ read_message-read_records-requires t c =
         record {
           rules = c.requires.at_tag.can.rules;
           is_open =
-              message_in_part c.args.bytes.now c.args.left.remaining c.args.tag.number c.args.tag.size c.in-Some.start c.in-Some.size c.args.left.depth_left c.room_in.result c.args.message_type c.args.slot (part_view c.take_message.new.outer) (body_view c.take_message.result) c.requires.at_tag.can.rules c.requires.at_tag.can.is_open c.room_in.ensures has
-              (λ at. c.in-Some.ensures.whole at c.args.tag.number c.args.tag.wire_type (c.requires.at_tag.there at)) c.requires.means (c.if-not-has_room.ensures.room refl) c.take_message.ensures.left c.take_message.ensures.taken;
+              message_in_part c.args.bytes.now c.args.left.remaining c.args.tag.number c.args.tag.size c.in-Some.start c.in-Some.size c.args.left.depth_left c.depth_left_in.result c.args.message_type c.args.slot (part_view c.take_message.new.outer) (body_view c.take_message.result) c.requires.at_tag.can.rules c.requires.at_tag.can.is_open c.depth_left_in.ensures has
+              (λ at. c.in-Some.ensures.whole at c.args.tag.number c.args.tag.wire_type (c.requires.at_tag.there at)) c.requires.means (c.if-not-has_level.ensures.depth_left refl) c.take_message.ensures.left c.take_message.ensures.taken;
           small = omega (arith, is, small);
         },
         search (rules, is),
@@ -105,15 +105,15 @@ pub read_message-put_message-requires : goal.read_message-put_message-requires
 read_message-put_message-requires t c =
     let from = c.requires.at_tag.can.is_open in
     let has = typed_tag c.args.bytes.now (Some c.args.left.remaining) c.args.tag.number c.args.tag.wire_type 2 c.args.tag.size c.requires.bytes c.requires.at_tag.there in
-    let read = message_inside from.at (Some c.args.left.remaining) c.args.bytes.now c.args.tag.number c.args.tag.size c.in-Some.start c.in-Some.size c.args.left.depth_left c.room_in.result c.args.message_type c.args.slot (part_view c.take_message.new.outer) (body_view c.take_message.result) c.requires.at_tag.can.rules from.stands c.room_in.ensures (has from.at) (c.in-Some.ensures.whole from.at c.args.tag.number c.args.tag.wire_type (c.requires.at_tag.there from.at)) c.requires.means (c.if-not-has_room.ensures.room refl) c.take_message.ensures.left c.take_message.ensures.taken c.in_ok-read_records.ensures (ap part_view c.in-Message.is) in
+    let read = message_inside from.at (Some c.args.left.remaining) c.args.bytes.now c.args.tag.number c.args.tag.size c.in-Some.start c.in-Some.size c.args.left.depth_left c.depth_left_in.result c.args.message_type c.args.slot (part_view c.take_message.new.outer) (body_view c.take_message.result) c.requires.at_tag.can.rules from.stands c.depth_left_in.ensures (has from.at) (c.in-Some.ensures.whole from.at c.args.tag.number c.args.tag.wire_type (c.requires.at_tag.there from.at)) c.requires.means (c.if-not-has_level.ensures.depth_left refl) c.take_message.ensures.left c.take_message.ensures.taken c.in_ok-read_records.ensures (ap part_view c.in-Message.is) in
     frame_can_hold read.1
 
 pub read_message-returns-in_ok-put_message-in-Message-clause-read : goal.read_message-returns-in_ok-put_message-in-Message-clause-read
 read_message-returns-in_ok-put_message-in-Message-clause-read t c =
     λ m depth levels at base p0 frames there.
     let has = typed_tag c.args.bytes.now (Some c.args.left.remaining) c.args.tag.number c.args.tag.wire_type 2 c.args.tag.size c.requires.bytes c.requires.at_tag.there in
-    let read = message_inside at (Some c.args.left.remaining) c.args.bytes.now c.args.tag.number c.args.tag.size c.in-Some.start c.in-Some.size c.args.left.depth_left c.room_in.result c.args.message_type c.args.slot (part_view c.take_message.new.outer) (body_view c.take_message.result) c.requires.at_tag.can.rules there c.room_in.ensures (has at) (c.in-Some.ensures.whole at c.args.tag.number c.args.tag.wire_type (c.requires.at_tag.there at)) c.requires.means (c.if-not-has_room.ensures.room refl) c.take_message.ensures.left c.take_message.ensures.taken c.in_ok-read_records.ensures (ap part_view c.in-Message.is) in
-    message_over at c.args.left.remaining c.args.bytes.now c.args.tag.number c.in-Some.start c.in-Some.size c.args.left.depth_left c.room_in.result c.in-Message._kind.0 c.args.slot (body_view c.in-Message.message) (part_view c.put_message.new.outer) there.1 there.2 read
+    let read = message_inside at (Some c.args.left.remaining) c.args.bytes.now c.args.tag.number c.args.tag.size c.in-Some.start c.in-Some.size c.args.left.depth_left c.depth_left_in.result c.args.message_type c.args.slot (part_view c.take_message.new.outer) (body_view c.take_message.result) c.requires.at_tag.can.rules there c.depth_left_in.ensures (has at) (c.in-Some.ensures.whole at c.args.tag.number c.args.tag.wire_type (c.requires.at_tag.there at)) c.requires.means (c.if-not-has_level.ensures.depth_left refl) c.take_message.ensures.left c.take_message.ensures.taken c.in_ok-read_records.ensures (ap part_view c.in-Message.is) in
+    message_over at c.args.left.remaining c.args.bytes.now c.args.tag.number c.in-Some.start c.in-Some.size c.args.left.depth_left c.depth_left_in.result c.in-Message._kind.0 c.args.slot (body_view c.in-Message.message) (part_view c.put_message.new.outer) there.1 there.2 read
     c.in_ok-put_message-in-Message.ensures
 
 -- A MESSAGE OF A LIST begins empty
@@ -292,8 +292,8 @@ read_entry-returns t c =
     let all : c.loop-here.here ≡ c.args.left.remaining = omega (arith, same) in
     subst (ReadsTo c.args.self.now.pool.now (part_view c.args.entry.now) (part_view c.loop-here.entry) c.args.bytes.now c.args.left.remaining c.args.left.depth_left) all c.loop-here.invariant.read
 
-pub read_in_entry-purpose_of-purpose-requires : goal.read_in_entry-purpose_of-purpose-requires
-read_in_entry-purpose_of-purpose-requires t c = open_can c.requires.at_tag.can.rules c.requires.at_tag.can.is_open
+pub read_in_entry-target_of-target-requires : goal.read_in_entry-target_of-target-requires
+read_in_entry-target_of-target-requires t c = open_can c.requires.at_tag.can.rules c.requires.at_tag.can.is_open
 
 -- AN ENTRY
 pub entry_after-read_entry-requires : goal.entry_after-read_entry-requires
@@ -323,7 +323,7 @@ entry_after-key_or_default-key-requires t c =
     let from = c.requires.open in
     let has = typed_tag c.args.bytes.now (Some c.args.left.remaining) c.args.tag.number c.args.tag.wire_type 2 c.args.tag.size c.requires.bytes c.requires.tag in
     let read = entry_inside from.at (Some c.args.left.remaining) c.args.bytes.now c.args.tag.number c.args.tag.size c.in-Some.start c.in-Some.size c.args.left.depth_left c.args.key_kind c.args.value_kind c.requires.rules (from.scope, from.stands, from.level) (has from.at) (c.in-Some.ensures.whole from.at c.args.tag.number c.args.tag.wire_type (c.requires.tag from.at)) from.means c.requires.level c.in_ok-read_entry.ensures (ap part_view c.in-Entry.is) in
-    can_hold c.requires.rules (entry_part c.in-Entry.key_kind c.in-Entry.value_kind (option_map key_view c.in-Entry.key) (option_map value_view c.in-Entry.value)) read.1
+    can_hold c.requires.rules (entry_part c.in-Entry.entry.key_kind c.in-Entry.entry.value_kind (option_map key_view c.in-Entry.entry.key) (option_map value_view c.in-Entry.entry.value)) read.1
 
 pub entry_after-returns-in_ok-push-in-Entry-clause-put : goal.entry_after-returns-in_ok-push-in-Entry-clause-put
 entry_after-returns-in_ok-push-in-Entry-clause-put t c = (
@@ -332,7 +332,7 @@ entry_after-returns-in_ok-push-in-Entry-clause-put t c = (
   λ m depth levels at base p0 frames scope now stands level means.
       let has = typed_tag c.args.bytes.now (Some c.args.left.remaining) c.args.tag.number c.args.tag.wire_type 2 c.args.tag.size c.requires.bytes c.requires.tag in
       let read = entry_inside at (Some c.args.left.remaining) c.args.bytes.now c.args.tag.number c.args.tag.size c.in-Some.start c.in-Some.size c.args.left.depth_left c.args.key_kind c.args.value_kind c.requires.rules (scope, stands, level) (has at) (c.in-Some.ensures.whole at c.args.tag.number c.args.tag.wire_type (c.requires.tag at)) means c.requires.level c.in_ok-read_entry.ensures (ap part_view c.in-Entry.is) in
-      entry_taken at (Some c.args.left.remaining) c.args.bytes.now c.args.tag.number c.in-Some.start c.in-Some.size (c.args.left.depth_left - 1) c.in-Entry.key_kind c.in-Entry.value_kind (option_map key_view c.in-Entry.key) (option_map value_view c.in-Entry.value) (key_view c.key_or_default-key.result) (value_view c.value_or_missing-value.result) c.requires.rules stands read c.key_or_default-key.ensures c.value_or_missing-value.ensures,
+      entry_taken at (Some c.args.left.remaining) c.args.bytes.now c.args.tag.number c.in-Some.start c.in-Some.size (c.args.left.depth_left - 1) c.in-Entry.entry.key_kind c.in-Entry.entry.value_kind (option_map key_view c.in-Entry.entry.key) (option_map value_view c.in-Entry.entry.value) (key_view c.key_or_default-key.result) (value_view c.value_or_missing-value.result) c.requires.rules stands read c.key_or_default-key.ensures c.value_or_missing-value.ensures,
 )
 
 -- ENTRY BY ENTRY
@@ -495,8 +495,8 @@ read_unknown_group-returns-in_ok-put_group-in-Group-clause-read t c =
     unknown_group_over (part_view c.put_group.new.outer) there.2 read.1 read.2 c.in_ok-put_group-in-Group.ensures
 
 -- ITS PURPOSE
-pub read_group-purpose_of-purpose-requires : goal.read_group-purpose_of-purpose-requires
-read_group-purpose_of-purpose-requires t c = open_can c.requires.at_tag.can.rules c.requires.at_tag.can.is_open
+pub read_group-target_of-target-requires : goal.read_group-target_of-target-requires
+read_group-target_of-target-requires t c = open_can c.requires.at_tag.can.rules c.requires.at_tag.can.is_open
 
 pub read_group-read_unknown_group-requires : goal.read_group-read_unknown_group-requires
 read_group-read_unknown_group-requires t c =
@@ -509,7 +509,7 @@ read_group-read_unknown_group-requires t c =
           c.requires.start,
           (
             omega (arith, level),
-            unknown_group_means c.args.self.now.pool.now (part_view c.args.part.now) c.args.tag.number c.purpose_of-purpose.result (open_can c.requires.at_tag.can.rules c.requires.at_tag.can.is_open) c.purpose_of-purpose.ensures c.in-None.ensures.none,
+            unknown_group_means c.args.self.now.pool.now (part_view c.args.part.now) c.args.tag.number c.target_of-target.result (open_can c.requires.at_tag.can.rules c.requires.at_tag.can.is_open) c.target_of-target.ensures c.in-None.ensures.none,
           ),
         ),
       ),

@@ -3,7 +3,7 @@ use Rattle.std.proofs.Common.{◌+◌, ◌*◌, ◌≤◌, ◌-◌, Some, map, l
 use Rattle.pb_parts.specs.Open.PartView.{part_view}
 use Rattle.pb_value.specs.View.{value_view}
 use Rattle.pb_parts.specs.declared.open.part.Slot.TheVariants.{List as ListSlot}
-use Rattle.pb_parts.specs.declared.open.purpose.Purpose.TheVariants.{Message}
+use Rattle.pb_parts.specs.declared.open.target.Target.TheVariants.{Message}
 use Rattle.pb_whole.specs.Entries.{AreEntries}
 use Rattle.pb_whole.specs.Listed.{ReadsRun}
 use Rattle.pb_whole.specs.Reads.{ReadsTo}

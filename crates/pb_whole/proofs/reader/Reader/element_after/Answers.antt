@@ -3,8 +3,8 @@ use Rattle.std.proofs.Common.{ℕ, ◌+◌, Some, refl, sym, ap, ◌∙◌, subs
 use Rattle.pb_wire.specs.Fault.{Place}
 use Rattle.pb_wire.specs.Token.{given_at, passed}
 use Rattle.pb_value.specs.View.{value_view}
-use Rattle.pb_parts.specs.declared.open.purpose.Purpose.TheVariants.{Element}
-use Rattle.pb_parts.specs.Open.Purposes.{Means, part_context}
+use Rattle.pb_parts.specs.declared.open.target.Target.TheVariants.{Element}
+use Rattle.pb_parts.specs.Open.Targets.{Means, part_context}
 use Rattle.pb_whole.specs.Reads.{StandsIn}
 use Rattle.pb_parts.proofs.RunLemmas.{listed_is}
 use Rattle.pb_parts.specs.Open.Frames.{Part, one_more_in}
@@ -36,7 +36,7 @@ returns-else-is_undeclared-clause-within c =
 
 pub returns-else-is_undeclared-clause-put : goal.returns-else-is_undeclared-clause-put
 returns-else-is_undeclared-clause-put c =
-    λ room now means m depth levels at base p0 frames there.
+    λ depth_left now means m depth levels at base p0 frames there.
     let pool = c.args.self.now.pool.now in
     let number = c.args.tag.number in
     let kind = c.args.kind in
@@ -44,11 +44,11 @@ returns-else-is_undeclared-clause-put c =
     let p : Place = given_at at (Some c.args.remaining) c.args.bytes.now in
     let told = c.in-Whole.ensures (at + c.args.tag.size) in
     let follows =
-    there_behind (λ (q r : Place). Follows q (number_view c.in-Whole.number) r) at (Some c.args.remaining) c.left_behind-after.result c.args.bytes.now c.args.tag.size c.in-Whole.size c.left_behind-after.ensures told.2 in
+    there_behind (λ (q r : Place). Follows q (number_view c.in-Whole.number) r) at (Some c.args.remaining) c.left_after-after.result c.args.bytes.now c.args.tag.size c.in-Whole.size c.left_after-after.ensures told.2 in
     let meant = subst (λ (z : ℕ). Means pool (part_context now) number z (Element kind)) (sym c.requires.own) means in
     let next = number_next number c.args.tag.wire_type (Element kind) c.requires.number there.1 (c.requires.tag at) meant in
     let given = read_some kind c.in-Whole.number (told.0 ∙ c.requires.own) in
-    subst (λ (z : Part). StandsIn pool m depth levels base p0 frames room z (passed p (c.args.tag.size + c.in-Whole.size))) (sym (listed_is pool number kind now v)) (
+    subst (λ (z : Part). StandsIn pool m depth levels base p0 frames depth_left z (passed p (c.args.tag.size + c.in-Whole.size))) (sym (listed_is pool number kind now v)) (
       one_more_in number there.0,
       number_put number c.in-Whole.number (Element kind) kind next.2 (next.1 ∙ ap (λ (z : ℕ). Some (tag number z (Element kind))) (sym told.0)) refl given.0 (put_datum pool number (Element kind) now v) c.requires.rules (can_hold c.requires.rules now there.1) given.1
           (sym c.is_undeclared.ensures ∙ c.if-is_undeclared.false) follows (ap (put_datum pool number (Element kind) now) (told_of _ _ given.0 given.1 c.number_value.ensures)),

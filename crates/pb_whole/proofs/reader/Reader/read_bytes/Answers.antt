@@ -18,7 +18,7 @@ returns-in-Ok-clause-read c =
     let has = subst (λ (z : ℕ). HasTag p c.args.tag.number z (passed p c.args.tag.size)) c.requires.bytes (c.requires.at_tag.there at) in
     let l = c.in-Some.ensures.whole at c.args.tag.number c.args.tag.wire_type (c.requires.at_tag.there at) in
     let within = c.in-Some.ensures.within.1 in
-    let next = bytes_next c.args.tag.number c.in-Some.size c.args.purpose there.1 has c.requires.means c.requires.purpose l in
+    let next = bytes_next c.args.tag.number c.in-Some.size c.args.target there.1 has c.requires.means c.requires.target l in
     let size = slice_size c.in-Some.start c.in-Some.size c.args.bytes.now within in (
       one_more_in c.args.tag.number there.0,
       c.in-Ok.ensures.stands m depth levels c.in-Some.size base p0 (passed p c.in-Some.start) (passed p (c.in-Some.start + c.in-Some.size)) frames there.0 next size

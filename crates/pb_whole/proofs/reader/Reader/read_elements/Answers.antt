@@ -1,10 +1,10 @@
 -- The element, or the run that it begins, goes to the end of the list.
 use Rattle.std.proofs.Common.{ℕ, sym, ◌∙◌, refl, subst}
 use Rattle.pb_value.specs.View.{value_view}
-use Rattle.pb_parts.specs.declared.open.purpose.Purpose.TheVariants.{Element}
+use Rattle.pb_parts.specs.declared.open.target.Target.TheVariants.{Element}
 use Rattle.pb_parts.specs.Open.Frames.{Part}
 use Rattle.pb_parts.specs.Open.PartView.{part_view}
-use Rattle.pb_parts.specs.Open.Purposes.{Means, part_context}
+use Rattle.pb_parts.specs.Open.Targets.{Means, part_context}
 use Rattle.pb_parts.specs.Tokens.Number.{IsNumberType}
 use Rattle.pb_parts.proofs.NumberSteps.{meant_type}
 use Rattle.pb_parts.proofs.RunLemmas.{listed_is}

@@ -2,5 +2,5 @@
 use Rattle.pb_whole.proofs.Payloads.{open_can}
 use Rattle.pb_whole.proofs.reader.Reader.read_number.Goals as goal
 
-pub purpose_of-purpose-requires : goal.purpose_of-purpose-requires
-purpose_of-purpose-requires c = open_can c.requires.at_tag.can.rules c.requires.at_tag.can.is_open
+pub target_of-target-requires : goal.target_of-target-requires
+target_of-target-requires c = open_can c.requires.at_tag.can.rules c.requires.at_tag.can.is_open

@@ -20,11 +20,11 @@ returns-in_ok-put_number-in-Whole-clause-read c =
     let p = given_at at (Some c.args.left.remaining) c.args.bytes.now in
     let told = c.in-Whole.ensures (at + c.args.tag.size) in
     let follows =
-    there_behind (λ (q r : Place). Follows q (number_view c.in-Whole.value) r) at (Some c.args.left.remaining) c.left_behind-after.result c.args.bytes.now c.args.tag.size c.in-Whole.size c.left_behind-after.ensures told.2 in
-    let next = number_next c.args.tag.number c.args.tag.wire_type c.args.purpose c.requires.number there.1 (c.requires.at_tag.there at) c.requires.means in (
+    there_behind (λ (q r : Place). Follows q (number_view c.in-Whole.value) r) at (Some c.args.left.remaining) c.left_after-after.result c.args.bytes.now c.args.tag.size c.in-Whole.size c.left_after-after.ensures told.2 in
+    let next = number_next c.args.tag.number c.args.tag.wire_type c.args.target c.requires.number there.1 (c.requires.at_tag.there at) c.requires.means in (
       one_more_in c.args.tag.number there.0,
       c.in_ok-put_number-in-Whole.ensures m depth levels base p0 (passed p c.args.tag.size) (passed p (c.args.tag.size + c.in-Whole.size)) frames there.0 next.0 next.2
-          (next.1 ∙ ap (λ (z : ℕ). Some (tag c.args.tag.number z c.args.purpose)) (sym told.0)) follows,
+          (next.1 ∙ ap (λ (z : ℕ). Some (tag c.args.tag.number z c.args.target)) (sym told.0)) follows,
       there.2,
     )
 

@@ -1,11 +1,11 @@
--- Its purpose is that of a payload where its wire type says so.
+-- Its target is that of a payload where its wire type says so.
 use Rattle.std.proofs.Common.{◌≡◌, ℕ, subst, arith}
 use Rattle.pb_parts.specs.Open.PartView.{part_view}
-use Rattle.pb_parts.specs.Open.Purposes.{Means, part_context}
+use Rattle.pb_parts.specs.Open.Targets.{Means, part_context}
 use Rattle.pb_whole.proofs.reader.Reader.read_scalar.Goals as goal
 
 pub read_bytes-requires-clause-means : goal.read_bytes-requires-clause-means
 read_bytes-requires-clause-means c =
     let two = c.if-tag-eq2.true in
     let is : c.args.tag.wire_type ≡ 2 = omega (arith, two) in
-    subst (λ (z : ℕ). Means c.args.self.now.pool.now (part_context (part_view c.args.entry.now)) c.args.tag.number z c.args.purpose) is c.requires.means
+    subst (λ (z : ℕ). Means c.args.self.now.pool.now (part_context (part_view c.args.entry.now)) c.args.tag.number z c.args.target) is c.requires.means

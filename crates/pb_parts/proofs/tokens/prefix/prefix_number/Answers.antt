@@ -4,7 +4,7 @@ use Rattle.pb_wire.specs.Fault.{fault, LengthFault}
 use Rattle.pb_wire.specs.Token.{given_at, TellsVarint}
 use Rattle.pb_wire.specs.declared.token.Token.{Token}
 use Rattle.pb_parts.proofs.TokenTold.{tag_number_told, length_refused}
-use Rattle.pb_parts.proofs.tokens.front.front_number.Goals as goal
+use Rattle.pb_parts.proofs.tokens.prefix.prefix_number.Goals as goal
 
 pub returns-in-Fault-clause-settled : goal.returns-in-Fault-clause-settled
 returns-in-Fault-clause-settled c = (subst (λ (z : Token). TellsVarint (given_at 0 c.args.left c.args.bytes.now) z) c.in-Fault.is (c.varint_token.ensures 0)).0

@@ -12,7 +12,7 @@ use pb_wire::token::{Token, varint_token};
 /// The number at the start of some bytes, with this many bytes before the known end, and how many bytes it takes. There is none
 /// where the bytes end before more of them settle it.
 #[inline(always)]
-pub fn front_number(bytes: &[u8], left: Option<u32>) -> Result<Option<(u64, usize)>, Cause>
+pub fn prefix_number(bytes: &[u8], left: Option<u32>) -> Result<Option<(u64, usize)>, Cause>
     ensures whole { (at : ℕ) → IfOk result (λ o. IfSome o (IsNumberAt (given_at at left bytes.now))) }
     ensures short { (at : ℕ) → IfOk result (λ o. IfNone o (IsCutVarint (given_at at left bytes.now))) }
     ensures settled { IfErr result (λ c. c ≢ Truncated) }

@@ -5,14 +5,14 @@ ghost use Rattle.pb_schema.specs.Fits.{fits_type};
 ghost use Rattle.pb_schema.specs.View.{field_view};
 ghost use Rattle.pb_parts.specs.Open.Frames.{CanHold};
 ghost use Rattle.pb_parts.specs.Open.PartView.{part_view};
-ghost use Rattle.pb_parts.specs.Open.Purposes.{OfSingle, OfField, OfEntry, Means, part_context};
+ghost use Rattle.pb_parts.specs.Open.Targets.{OfSingle, OfField, OfEntry, Means, part_context};
 
 use crate::open::part::{Part, Slot};
 use pb_schema::{Field, Kind, MessageId, Pool, Shape, fits};
 
 /// What becomes of a record's value.
 #[derive(Clone, Copy)]
-pub enum Purpose {
+pub enum Target {
     /// The value of a field of one value.
     One(Kind, Shape),
     /// An element of a list.
@@ -33,19 +33,19 @@ pub enum Purpose {
 
 /// What a record is for that fits a field.
 #[inline(always)]
-fn of_field(field: &Field, number: u32, wire_type: u8) -> Purpose
+fn of_field(field: &Field, number: u32, wire_type: u8) -> Target
     requires { fits_type (field_view field.now) wire_type ≡ true }
     ensures { OfField (field_view field.now) number wire_type result }
 {
     match field.shape {
-        Shape::Map { key } => Purpose::Entry(key, field.kind),
+        Shape::Map { key } => Target::Entry(key, field.kind),
         Shape::List { packed: _ } => match field.kind.message() {
-            Some(message) => Purpose::Message(message, Slot::List(number)),
+            Some(message) => Target::Message(message, Slot::List(number)),
             None => {
                 if field.kind.wire_type() == wire_type {
-                    Purpose::Element(field.kind)
+                    Target::Element(field.kind)
                 } else {
-                    Purpose::Packed(field.kind)
+                    Target::Packed(field.kind)
                 }
             }
         },
@@ -57,35 +57,35 @@ fn of_field(field: &Field, number: u32, wire_type: u8) -> Purpose
 
 /// What a record is for that fits a field of one value.
 #[inline(always)]
-fn of_single(kind: Kind, shape: Shape, number: u32) -> Purpose
+fn of_single(kind: Kind, shape: Shape, number: u32) -> Target
     ensures { OfSingle kind shape number result }
 {
     match kind.message() {
-        Some(message) => Purpose::Message(message, Slot::One(shape, number)),
-        None => Purpose::One(kind, shape),
+        Some(message) => Target::Message(message, Slot::One(shape, number)),
+        None => Target::One(kind, shape),
     }
 }
 
 /// What a record of an entry is for.
 #[inline(always)]
-fn of_entry(key_kind: Kind, value_kind: Kind, number: u32, wire_type: u8) -> Purpose
+fn of_entry(key_kind: Kind, value_kind: Kind, number: u32, wire_type: u8) -> Target
     ensures { OfEntry key_kind value_kind number wire_type result }
 {
     if number == 1 && key_kind.wire_type() == wire_type {
-        Purpose::Key(key_kind)
+        Target::Key(key_kind)
     } else if number == 2 && value_kind.wire_type() == wire_type {
         match value_kind.message() {
-            Some(message) => Purpose::Message(message, Slot::Entry),
-            None => Purpose::EntryValue(value_kind),
+            Some(message) => Target::Message(message, Slot::Entry),
+            None => Target::EntryValue(value_kind),
         }
     } else {
-        Purpose::Unknown
+        Target::Unknown
     }
 }
 
 /// What a record of a number and a wire type is for.
 #[inline(always)]
-pub fn purpose_of(pool: &Pool, part: &Part, number: u32, wire_type: u8) -> Purpose
+pub fn target_of(pool: &Pool, part: &Part, number: u32, wire_type: u8) -> Target
     requires { CanHold pool.now (part_view part.now) }
     ensures { Means pool.now (part_context (part_view part.now)) number wire_type result }
 {
@@ -95,17 +95,12 @@ pub fn purpose_of(pool: &Pool, part: &Part, number: u32, wire_type: u8) -> Purpo
                 if fits(field, wire_type) {
                     of_field(field, number, wire_type)
                 } else {
-                    Purpose::Unknown
+                    Target::Unknown
                 }
             }
-            None => Purpose::Unknown,
+            None => Target::Unknown,
         },
-        Part::Entry {
-            key_kind,
-            value_kind,
-            key: _,
-            value: _,
-        } => of_entry(*key_kind, *value_kind, number, wire_type),
-        Part::Group(_) => Purpose::Unknown,
+        Part::Entry(entry) => of_entry(entry.key_kind, entry.value_kind, number, wire_type),
+        Part::Group(_) => Target::Unknown,
     }
 }
