@@ -39,7 +39,8 @@ pub use pb_value::{
 
 // Bytes to messages and back, alone and in streams.
 pub use pb_decode::{
-    DecodeError, PushDecoder, decode, decode_frame, decode_from, decode_onto, validate,
+    DecodeError, DecoderParts, PushDecoder, decode, decode_frame, decode_from, decode_onto,
+    validate,
 };
 pub use pb_encode::planning::plan;
 pub use pb_encode::{EncodeError, Plan, encode, encode_to, encoded_len};

@@ -1,11 +1,12 @@
 -- What a push decoder that goes on has taken.
-use Rattle.std.proofs.Common.{◌≡◌, ℕ, ◌+◌, ◌*◌, ◌≤◌, suc, List, map, reverse, length, vec_len, max, Option, Some, option_map, refl, sym, ap, subst, arith}
+use Rattle.std.proofs.Common.{◌≡◌, ℕ, ◌+◌, ◌*◌, ◌≤◌, suc, List, map, reverse, length, vec_len, max, Option, Some, None, option_map, refl, sym, ap, subst, arith}
 use Rattle.std.proofs.lemmas.List.{length-map, length-reverse}
 use Rattle.std.specs.Prelude.{Result, Ok, Err, IfOk, IfSome, IsSomeAnd}
 use Rattle.std.proofs.lemmas.Simd.{map-map}
 use Rattle.pb_wire.specs.Limits.{Bounds}
 use Rattle.pb_wire.specs.Schema.{Schema}
 use Rattle.pb_schema.specs.Types.{Types}
+use Rattle.pb_schema.specs.Rules.{IsPool}
 use Rattle.pb_schema.specs.Context.{a_message, schema_of}
 use Rattle.pb_value.specs.Dynamic.{Dynamic}
 use Rattle.pb_decode.specs.declared.error.DecodeError.{DecodeError}
@@ -17,6 +18,7 @@ use Rattle.pb_decode.specs.Reader.Waiting.{Waits, lists_in}
 use Rattle.pb_decode.specs.Pending.{EndsInside, IsPending, HasOpen, IsDeclared}
 use Rattle.pb_parts.specs.Open.PartView.{frame_view}
 use Rattle.pb_decode.specs.Decoder as decoder
+use Rattle.pb_decode.specs.Parts.{IsOfPool}
 use Rattle.pb_decode.specs.ReadingView.{open_frame, reading_view, IsSound}
 use Rattle.pb_decode.proofs.OneEnd.{one_ending}
 use Rattle.pb_decode.proofs.PendingLemmas.{ends_inside, few_held, few_open, declared_in}
@@ -48,6 +50,24 @@ both_ok (Err e) pool kind P type value = tt
 
 pub waits_by : (o : Option Reading) (r : Reading) → Some r ≡ o → IfSome o (λ x. Waits (state_view x.reader) x.held.items) → Waits (state_view r.reader) r.held.items
 waits_by o r is h = subst (λ (z : Option Reading). IfSome z (λ x. Waits (state_view x.reader) x.held.items)) (sym is) h
+
+-- THE PARTS OF A DECODER
+pub parts_of_pool : (pool : Types) (m : ℕ) (limits : Bounds) (o : Option Reading) → IsSound pool m limits o → IsOfPool pool (record { message_type = m; limits = limits; reading = option_map reading_view o })
+parts_of_pool pool m limits None sound = record { within = sound.within; took = tt; waits = tt }
+parts_of_pool pool m limits (Some r) sound = record {
+  within = sound.within;
+  took = subst (λ (z : State). TookSome pool m limits z r.held.items) (sym (same_state r)) sound.took;
+  waits = subst (λ (z : State). Waits z r.held.items) (sym (same_state r)) sound.waits;
+}
+
+pub sound_parts : (pool : Types) (m : ℕ) (limits : Bounds) (o : Option Reading) → IsPool pool → IsOfPool pool (record { message_type = m; limits = limits; reading = option_map reading_view o }) → IsSound pool m limits o
+sound_parts pool m limits None rules of_pool = record { rules = rules; within = of_pool.within; took = tt; waits = tt }
+sound_parts pool m limits (Some r) rules of_pool = record {
+  rules = rules;
+  within = of_pool.within;
+  took = subst (λ (z : State). TookSome pool m limits z r.held.items) (same_state r) of_pool.took;
+  waits = subst (λ (z : State). Waits z r.held.items) (same_state r) of_pool.waits;
+}
 
 -- HOW MUCH IS HELD AND OPEN
 -- of any bytes at most one length is declared

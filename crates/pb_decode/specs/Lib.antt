@@ -1,6 +1,7 @@
 pub mod Reader
 pub mod Push
 pub mod Received
+pub mod Parts
 pub mod Pending
 pub mod Decoder
 pub mod ReadingView

@@ -18,6 +18,7 @@
 //! ```
 #![tactic(auto)]
 
+mod decoder_parts;
 mod error;
 mod frame;
 mod from_device;
@@ -28,6 +29,7 @@ mod push_decoder;
 mod reader;
 mod validating;
 
+pub use decoder_parts::DecoderParts;
 pub use error::DecodeError;
 pub use frame::decode_frame;
 pub use from_device::decode_from;

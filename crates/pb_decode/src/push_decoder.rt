@@ -2,6 +2,7 @@
 
 ghost use Rattle.std.specs.Prelude.{◌≡◌, None};
 
+use crate::decoder_parts::DecoderParts;
 use crate::error::DecodeError;
 use crate::push::{Reading, end, open_contexts, start, take_text};
 use pb_schema::{MessageId, Pool};
@@ -53,6 +54,7 @@ impl<'p> PushDecoder<'p> {
     ghost use Rattle.pb_value.specs.Data.{Message};
     ghost use Rattle.pb_decode.specs.declared.error.DecodeError.TheVariants.{Memory, Finished};
     ghost use Rattle.pb_decode.specs.Reader.{IfFault};
+    ghost use Rattle.pb_decode.specs.Parts.{IsOfPool, decoder_of};
     ghost use Rattle.pb_decode.specs.Received.{After, IsTextFor, IsFaultFor, IsSettledFor, IsGoingFor, IsPendingFor, IsOpenFor, IsDeclaredFor};
     ghost use Rattle.pb_decode.specs.Push.{Gives, Tells};
 
@@ -77,6 +79,34 @@ impl<'p> PushDecoder<'p> {
             limits,
             reading: Some(reading),
         })
+    }
+
+    /// The decoder of these parts, which are those of a decoder of this pool or of one that holds the same. It goes on where that one was:
+    /// nothing is read again.
+    pub fn from_parts(alloc: Global, pool: &'p Pool, parts: DecoderParts) -> PushDecoder<'p>
+        requires { IsOfPool pool.now parts }
+        ensures { result ≡ decoder_of pool.now parts }
+    {
+        let _types = pool.messages();
+        PushDecoder {
+            alloc,
+            pool,
+            kind: parts.message_type,
+            limits: parts.limits,
+            reading: parts.reading,
+        }
+    }
+
+    /// What the decoder holds apart from its pool.
+    pub fn into_parts(self) -> DecoderParts
+        ensures same { decoder_of self.entry.pool result ≡ self.entry }
+        ensures of_pool { IsOfPool self.entry.pool result }
+    {
+        DecoderParts {
+            message_type: self.kind,
+            limits: self.limits,
+            reading: self.reading,
+        }
     }
 
     /// Receives the next piece. Bytes that no encoding begins with are refused in the first piece that settles it, and every later
