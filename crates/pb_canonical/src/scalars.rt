@@ -28,7 +28,7 @@ fn is_string(bytes: &[u8]) -> bool
             return true;
         }
     }
-    simdutf8::compat::from_utf8(bytes).is_ok()
+    simdutf8::basic::from_utf8(bytes).is_ok()
 }
 
 /// The payload of a wire type at the start. A group has none.

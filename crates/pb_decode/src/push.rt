@@ -18,6 +18,7 @@ use crate::onto::read_onto;
 use crate::reader::fault::{fault_at, too_large};
 use crate::reader::origin::{begin_empty, finish_message};
 use crate::reader::state::{Reader, take_all};
+use crate::validating::refuse;
 use pb_parts::error::NoMemory;
 use pb_parts::tokens::step::Step;
 use pb_schema::{MessageId, Pool};
@@ -228,8 +229,27 @@ pub(crate) fn end<'p>(
     finish_message(alloc, pool, message_type, reading)
 }
 
-/// The message that an input encodes, or its fault. If `build` gives none the decoder of pieces finds the fault, which reads a byte
-/// at most twice: so hostile bytes are read three times.
+/// The message that an input encodes, which `build` did not make, or its fault. It is read in pieces only where it has no fault, so that
+/// hostile bytes are read three times: by `build`, for the fault, and for its path.
+fn read_refused<'p>(
+    alloc: Global,
+    pool: &'p Pool,
+    message_type: MessageId,
+    bytes: &[u8],
+    limits: Limits,
+) -> Result<DynamicMessage<'p>, DecodeError>
+    requires rules { IsPool pool.now }
+    requires within { message_type.0 < length pool.now.messages }
+    ensures of_type { IfOk result (λ m. (m.pool ≡ pool.now) × (m.kind ≡ message_type.0)) }
+    ensures value { IfOk result (λ m. Text pool.now message_type.0 limits bytes.now m.body) }
+    ensures fault { IfErr result (λ e. IfFault e (IsFaultOf pool.now message_type.0 limits bytes.now)) }
+{
+    refuse(alloc, pool, message_type, bytes, limits)?;
+    let none = empty_body(alloc);
+    read_onto(alloc, pool, message_type, none, bytes, limits)
+}
+
+/// The message that an input encodes, or its fault.
 fn read_whole<'p>(
     alloc: Global,
     pool: &'p Pool,
@@ -245,10 +265,7 @@ fn read_whole<'p>(
 {
     match build(alloc, pool, message_type, bytes, limits) {
         Ok(message) => Ok(message),
-        Err(NoMemory) => {
-            let none = empty_body(alloc);
-            read_onto(alloc, pool, message_type, none, bytes, limits)
-        }
+        Err(NoMemory) => read_refused(alloc, pool, message_type, bytes, limits),
     }
 }
 

@@ -9,7 +9,7 @@ ghost use Rattle.pb_decode.specs.Push.{IsFaultOf, Tells};
 
 use crate::error::DecodeError;
 use pb_schema::{MessageId, Pool};
-use pb_validate::judge;
+use pb_validate::{find_fault, judge};
 use pb_wire::{Limits, RawError};
 use std::alloc::Global;
 
@@ -32,6 +32,24 @@ pub fn validate(
     ensures refused { (f : Fault) → IsFaultOf pool.now message_type.0 limits bytes.now f → Tells result f }
 {
     match judge(alloc, pool, message_type, bytes, limits) {
+        Ok(()) => Ok(()),
+        Err(RawError::Fault { byte, path, cause }) => Err(DecodeError::Fault { byte, path, cause }),
+        Err(RawError::Memory) => Err(DecodeError::Memory),
+    }
+}
+
+/// As `validate`, of bytes that `build` refused: what has a fault is read once less.
+pub(crate) fn refuse(
+    alloc: Global,
+    pool: &Pool,
+    message_type: MessageId,
+    bytes: &[u8],
+    limits: Limits,
+) -> Result<(), DecodeError>
+    requires { message_type.0 < length pool.now.messages }
+    ensures { IfErr result (λ e. IfFault e (IsFaultOf pool.now message_type.0 limits bytes.now)) }
+{
+    match find_fault(alloc, pool, message_type, bytes, limits) {
         Ok(()) => Ok(()),
         Err(RawError::Fault { byte, path, cause }) => Err(DecodeError::Fault { byte, path, cause }),
         Err(RawError::Memory) => Err(DecodeError::Memory),

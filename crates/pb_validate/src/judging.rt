@@ -286,11 +286,27 @@ fn judge_within(
             return Ok(());
         }
     }
-    find_fault(alloc, pool, message_type, bytes, limits)
+    fault_within(alloc, pool, message_type, bytes, limits)
+}
+
+/// As `judge`, for bytes that something refused: a message takes longer, and what is refused is read once less.
+pub fn find_fault(
+    alloc: Global,
+    pool: &Pool,
+    message_type: MessageId,
+    bytes: &[u8],
+    limits: Limits,
+) -> Result<(), RawError>
+    requires { message_type.0 < length pool.now.messages }
+    ensures text { IfOk result (λ _. IsSomeText (schema_of pool.now) (a_message message_type.0) limits bytes.now) }
+    ensures fault { IfErr result (λ e. IfRawFault e (HasFault (schema_of pool.now) (a_message message_type.0) limits bytes.now)) }
+{
+    let _rules = pool.messages();
+    fault_within(alloc, pool, message_type, bytes, limits)
 }
 
 /// As `judge_within`, by a pass that finds the fault and its path.
-fn find_fault(
+fn fault_within(
     alloc: Global,
     pool: &Pool,
     message_type: MessageId,

@@ -17,7 +17,7 @@ mod tokens;
 mod varints;
 mod whole;
 
-pub use judging::judge;
+pub use judging::{find_fault, judge};
 pub use payload::payload_at;
 pub use record::record_end;
 pub use tokens::{RecordTag, tag_at};

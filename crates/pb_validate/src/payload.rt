@@ -41,7 +41,7 @@ pub(crate) fn unread_end(bytes: &[u8], at: usize, to: Option<u32>) -> Result<usi
     Ok(end)
 }
 
-/// The end of a payload that is a string.
+/// The end of a payload that is a string. What is none is read once, as it is not by `simdutf8`.
 #[inline(always)]
 pub(crate) fn text_end(bytes: &[u8], at: usize, to: Option<u32>) -> Result<usize, WireFault>
     requires { at ≤ length bytes.now }
@@ -51,7 +51,7 @@ pub(crate) fn text_end(bytes: &[u8], at: usize, to: Option<u32>) -> Result<usize
     ensures fault { IfErr result (λ e. TextFault (here bytes.now at to) (fault e.byte [] e.cause)) }
 {
     let (start, end) = payload_at(bytes, at, to)?;
-    match simdutf8::compat::from_utf8(&bytes[start..end]) {
+    match std::str::from_utf8(&bytes[start..end]) {
         Ok(_) => Ok(end),
         Err(error) => Err(refused(start + error.valid_up_to(), Cause::BadText)),
     }

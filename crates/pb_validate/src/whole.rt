@@ -31,7 +31,7 @@ fn is_text(bytes: &[u8]) -> bool
             return true;
         }
     }
-    simdutf8::compat::from_utf8(bytes).is_ok()
+    simdutf8::basic::from_utf8(bytes).is_ok()
 }
 
 /// Says that bytes are whole elements of a packed list.

@@ -5,7 +5,7 @@ use Rattle.pb_wire.specs.declared.fault.WireFault.{WireFault}
 use Rattle.pb_schema.specs.Context.{a_message, schema_of}
 use Rattle.pb_validate.specs.Judging.{IsFault}
 use Rattle.pb_validate.proofs.JudgeLemmas.{some_front, from_front}
-use Rattle.pb_validate.proofs.judging.find_fault.Goals as goal
+use Rattle.pb_validate.proofs.judging.fault_within.Goals as goal
 
 pub returns-in-Err-Memory-records_end-clause-fault : goal.returns-in-Err-Memory-records_end-clause-fault
 returns-in-Err-Memory-records_end-clause-fault c =
