@@ -1,11 +1,11 @@
 -- How deep a message nests once it is changed: no deeper than it did, or than what the change brings.
-use Rattle.std.proofs.Common.{◌≡◌, ◌≤◌, ℕ, suc, max, List, [], Option, Some, None, Ordering, Less, Equal, Greater, nat_cmp, arith, refl, sym, ap, ◌∙◌, subst}
+use Rattle.std.proofs.Common.{◌≡◌, ◌≤◌, ℕ, suc, max, List, [], Option, Some, None, Ordering, Less, Equal, Greater, arith, refl, subst}
 use Rattle.std.specs.Ordering.{match_ordering}
 use Rattle.std.specs.Prelude.{Bool, true, false, if◌then◌else◌}
 use Rattle.pb_schema.specs.declared.types.Shape.{Shape}
 use Rattle.pb_schema.specs.Types.{FieldView, Types, message_fields, field_numbered}
 use Rattle.pb_schema.specs.Scalar.{Scalar, key_cmp}
-use Rattle.pb_value.specs.Data.{Datum, Datums, no_datums, datum, Entries, no_entries, entry, put_entry, levels_of, levels_in_entry, datums_depth, entries_depth}
+use Rattle.pb_value.specs.Data.{Datum, no_datums, datum, Entries, no_entries, entry, put_entry, levels_of, levels_in_entry, datums_depth, entries_depth}
 use Rattle.pb_value.specs.Data.{Holding, one, list, map, Fields, no_fields, field, Message, body, fields_of, unknown_of, get_field, put_field, drop_field, holding_depth, fields_depth, message_depth}
 use Rattle.pb_value.specs.Judge.{is_absence}
 use Rattle.pb_value.specs.Change.{gives_way, drop_some, stored_at, set_at, elements_of, pushed, entries_of, inserted}

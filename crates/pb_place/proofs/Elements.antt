@@ -1,5 +1,5 @@
 -- Another element in a list, or one less: what is left, and that a message stays well formed.
-use Rattle.std.proofs.Common.{◌≡◌, ◌<◌, ◌≤◌, ℕ, zero, suc, max, length, List, [], ◌∷◌, ◌++◌, Option, Some, None, IsSomeAnd, option_map, Ordering, Less, Equal, Greater, nat_cmp, rules, arith, refl, sym, ap, ◌∙◌, subst}
+use Rattle.std.proofs.Common.{◌≡◌, ◌≤◌, ℕ, zero, suc, max, length, List, [], ◌∷◌, Option, Some, None, IsSomeAnd, option_map, Ordering, Less, Equal, Greater, nat_cmp, rules, arith, refl, sym, ap, ◌∙◌, subst}
 use Rattle.std.specs.Prelude.{Bool, true, false, ◌==◌, ◌&&◌, if◌then◌else◌}
 use Rattle.std.specs.List.{remove}
 use Rattle.std.proofs.lemmas.Bool.Decides.{nat_tests}
@@ -12,7 +12,7 @@ use Rattle.pb_value.specs.Change.{with_fields}
 use Rattle.pb_value.specs.Data.{Datum, Datums, no_datums, datum, levels_of, datums_depth}
 use Rattle.pb_value.specs.Data.{Holding, one, list, map, Fields, no_fields, field, Message, body, fields_of, get_field, drop_field, holding_depth, fields_depth}
 use Rattle.pb_value.specs.View.{value_view, values_view, content_view}
-use Rattle.pb_value.specs.WellFormed.{CanStand, IsOfShape, IsHeld, IsDatum, AreDatums, IsWellFormed, datum_declared, datums_declared, holds_declared}
+use Rattle.pb_value.specs.WellFormed.{CanStand, IsOfShape, IsHeld, AreDatums, IsWellFormed, datum_declared, datums_declared, holds_declared}
 use Rattle.pb_value.specs.declared.body.Content.{Content, the_lemmas as content_lemmas}
 use Rattle.pb_value.specs.declared.body.Content.TheVariants as content
 use Rattle.pb_value.specs.declared.body.Value.{Value}

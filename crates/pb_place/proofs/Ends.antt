@@ -1,5 +1,5 @@
 -- Places that end at a field or an index, and places that do not.
-use Rattle.std.proofs.Common.{◌≡◌, ℕ, List, [], ◌∷◌, ◌++◌, Option, Some, None, option_map, refl, ap, ◌∙◌}
+use Rattle.std.proofs.Common.{◌≡◌, ℕ, List, [], ◌∷◌, ◌++◌, Option, Some, None, option_map, refl, ap}
 use Rattle.std.specs.Prelude.{true, false, is_some}
 use Rattle.pb_place.specs.At.{Seen}
 use Rattle.pb_place.specs.declared.step.PlaceStep.{PlaceStep}

@@ -1,5 +1,5 @@
 -- A message stays well formed where the message at a place in it is replaced by another one of its type.
-use Rattle.std.proofs.Common.{◌≡◌, ◌<◌, ◌≤◌, ◌+◌, ℕ, zero, suc, max, List, [], ◌∷◌, Option, Some, None, IfSome, IsSomeAnd, option_map, option_and_then, Ordering, Less, Equal, Greater, nat_cmp, rules, arith, refl, sym, ap, ◌∙◌, subst}
+use Rattle.std.proofs.Common.{◌≡◌, ◌<◌, ◌≤◌, ◌+◌, ℕ, zero, suc, max, List, [], ◌∷◌, Option, Some, None, IsSomeAnd, option_map, option_and_then, Ordering, Less, Equal, Greater, nat_cmp, rules, arith, refl, sym, ap, ◌∙◌, subst}
 use Rattle.std.specs.Prelude.{Bool, true, false, ◌&&◌, if◌then◌else◌, pred, ◌-◌}
 use Rattle.std.specs.Ordering.{match_ordering, MatchOrdering}
 use Rattle.std.specs.Cmp.{ranks}

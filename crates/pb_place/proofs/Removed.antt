@@ -1,17 +1,16 @@
 -- An entry less of a map: what is left, and that a message stays well formed.
-use Rattle.std.proofs.Common.{◌≡◌, ◌≤◌, ◌↔◌, ℕ, suc, length, List, [], ◌∷◌, cond, Option, Some, None, IsSomeAnd, option_map, Ordering, Less, Equal, Greater, nat_cmp, is_eq, rules, arith, refl, sym, ap, ◌∙◌, subst, BTreeMap}
+use Rattle.std.proofs.Common.{◌≡◌, ◌≤◌, ◌↔◌, ℕ, length, List, [], ◌∷◌, cond, Option, Some, None, IsSomeAnd, option_map, Ordering, Less, Equal, Greater, nat_cmp, is_eq, rules, arith, refl, sym, ap, ◌∙◌, subst, BTreeMap}
 use Rattle.std.specs.Prelude.{Bool, true, false, IsTrue, if◌then◌else◌}
-use Rattle.std.specs.Cmp.{ranks}
 use Rattle.std.specs.Map.{remove_entry}
 use Rattle.std.specs.BTreeMap.{is_at}
-use Rattle.std.specs.Ordering.{match_ordering, MatchOrdering}
+use Rattle.std.specs.Ordering.{match_ordering}
 use Rattle.pb_schema.specs.declared.types.Kind.{Kind}
 use Rattle.pb_schema.specs.declared.types.Shape.{Shape}
 use Rattle.pb_schema.specs.declared.types.Shape.TheVariants as shape
 use Rattle.pb_schema.specs.Types.{FieldView, Types, message_fields, field_numbered}
 use Rattle.pb_schema.specs.Scalar.{Scalar, key_cmp}
 use Rattle.pb_value.specs.Change.{with_fields}
-use Rattle.pb_value.specs.Data.{Datum, Entries, no_entries, entry, is_same_key, levels_in_entry, entries_depth}
+use Rattle.pb_value.specs.Data.{Entries, no_entries, entry, is_same_key, entries_depth}
 use Rattle.pb_value.specs.Data.{Holding, one, list, map, Fields, no_fields, field, Message, body, fields_of, get_field, drop_field, holding_depth, fields_depth}
 use Rattle.pb_value.specs.KeyOrder.{map_key_cmp}
 use Rattle.pb_value.specs.View.{key_view, value_view, content_view, entries_view}

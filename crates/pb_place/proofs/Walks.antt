@@ -1,14 +1,14 @@
 -- From what a step of a place leads to, back to what it starts from.
-use Rattle.std.proofs.Common.{◌≡◌, ◌<◌, ◌≤◌, ℕ, zero, suc, List, [], ◌∷◌, length, slice_set, get_or, cond, Option, Some, None, option_map, option_and_then, Ordering, Less, Equal, Greater, nat_cmp, is_eq, arith, refl, sym, ap, ◌∙◌, subst, inr, Result, Err, IfOk, OnErr, BTreeMap}
+use Rattle.std.proofs.Common.{◌≡◌, ◌<◌, ◌≤◌, ℕ, zero, suc, List, [], ◌∷◌, length, slice_set, get_or, cond, Option, Some, None, option_map, option_and_then, Ordering, Less, Equal, Greater, nat_cmp, is_eq, arith, refl, sym, ap, ◌∙◌, subst, inr, Result, Err, BTreeMap}
 use Rattle.std.proofs.lemmas.Result.{IfOk-weaker, on_err_weaker}
 use Rattle.std.specs.Prelude.{Bool, true, false, if◌then◌else◌}
 use Rattle.std.specs.Map.{lookup, set_value}
 use Rattle.std.specs.BTreeMap.{is_at}
 use Rattle.std.specs.Ordering.{match_ordering}
 use Rattle.pb_schema.specs.Types.{Types}
-use Rattle.pb_value.specs.Data.{Datum, message, Datums, datum, Entries, entry, is_same_key, Holding, one, list, map, Fields, field, Message, body, fields_of, get_field, get_entry}
+use Rattle.pb_value.specs.Data.{Datum, message, Datums, datum, Entries, entry, is_same_key, Holding, one, list, map, field, Message, fields_of, get_field, get_entry}
 use Rattle.pb_value.specs.Dynamic.{Dynamic}
-use Rattle.pb_value.specs.Inner.{nth_datum, only_datum, datum_at, datum_under, type_named, IsPart}
+use Rattle.pb_value.specs.Inner.{nth_datum, type_named}
 use Rattle.pb_value.specs.KeyOrder.{map_key_cmp}
 use Rattle.pb_value.specs.View.{key_view, value_view, values_view, entries_view, content_view, fields_view}
 use Rattle.pb_value.specs.WellFormed.{IsWellFormed}
@@ -22,31 +22,31 @@ use Rattle.pb_place.specs.declared.error.ChangeError.{ChangeError}
 use Rattle.pb_place.specs.declared.error.ChangeError.TheVariants.{Absent}
 use Rattle.pb_place.specs.declared.step.PlaceStep.{PlaceStep}
 use Rattle.pb_place.specs.declared.step.PlaceStep.TheVariants.{Field, Index, Key}
-use Rattle.pb_place.specs.At.{content_part, value_part, list_part, map_part, message_part, part_at, seen}
+use Rattle.pb_place.specs.At.{content_part, value_part, list_part, map_part, part_at, seen}
 use Rattle.pb_place.specs.Ask.{message_in}
 use Rattle.pb_place.specs.Changed.{Edit, edited, target, refusal, IsRefused}
 use Rattle.pb_place.specs.Edits.{IsDone, HoldsParts, IsWalked}
-use Rattle.pb_place.specs.Replaced.{in_nth, in_entry, in_field, in_datum, replaced}
+use Rattle.pb_place.specs.Replaced.{in_nth, in_entry, in_field, replaced}
 
 -- ANSWERS
 
 pub not_there :
     (pool : Types) (most : ℕ) (t : Option ℕ) (p : List PlaceStep) (e : Edit) (old new : Holding) → target p (content_part pool t old) ≡ None → new ≡ old
-    → IsWalked pool most t p e old new (Err Absent)
-not_there pool most t p e old new gone same = record { ok = tt; err = same; judged = inr (ap (refusal most e) gone) }
+    → (out : Option Value) → IsWalked pool most t p e old new (Err Absent) out
+not_there pool most t p e old new gone same out = record { ok = tt; err = same; judged = inr (ap (refusal most e) gone) }
 
 done_on : (e : Edit) (o : Option Dynamic) (P Q : Message → Type 0) (out : Option Datum) → ((b : Message) → P b → Q b) → IsDone e o P out → IsDone e o Q out
 done_on e None P Q out put d = d
 done_on e (Some w) P Q out put d = (put (edited e w).body d.0, d.1, d.2)
 
 pub walked_on :
-    (pool : Types) (most : ℕ) (t u : Option ℕ) (p q : List PlaceStep) (e : Edit) (old new inner changed : Holding) (r : Result (Option Value) ChangeError)
-    → IsWalked pool most u q e inner changed r → target p (content_part pool t old) ≡ target q (content_part pool u inner)
-    → ((b : Message) → changed ≡ replaced q b inner → new ≡ replaced p b old) → (changed ≡ inner → new ≡ old) → IsWalked pool most t p e old new r
-walked_on pool most t u p q e old new inner changed r w same put kept = record {
+    (pool : Types) (most : ℕ) (t u : Option ℕ) (p q : List PlaceStep) (e : Edit) (old new inner changed : Holding) (r : Result Unit ChangeError) (out : Option Value)
+    → IsWalked pool most u q e inner changed r out → target p (content_part pool t old) ≡ target q (content_part pool u inner)
+    → ((b : Message) → changed ≡ replaced q b inner → new ≡ replaced p b old) → (changed ≡ inner → new ≡ old) → IsWalked pool most t p e old new r out
+walked_on pool most t u p q e old new inner changed r out w same put kept = record {
   ok = IfOk-weaker r _ _
-      (λ v d. subst (λ (o : Option Dynamic). IsDone e o (λ b. new ≡ replaced p b old) (option_map value_view v)) (sym same)
-      (done_on e (target q (content_part pool u inner)) (λ b. changed ≡ replaced q b inner) (λ b. new ≡ replaced p b old) (option_map value_view v) put d)) w.ok;
+      (λ v d. subst (λ (o : Option Dynamic). IsDone e o (λ b. new ≡ replaced p b old) (option_map value_view out)) (sym same)
+      (done_on e (target q (content_part pool u inner)) (λ b. changed ≡ replaced q b inner) (λ b. new ≡ replaced p b old) (option_map value_view out) put d)) w.ok;
   err = on_err_weaker r kept w.err;
   judged = subst (λ (o : Option Dynamic). IsRefused r (refusal most e o)) (sym same) w.judged;
 }
@@ -159,9 +159,9 @@ entries_view-same k x w (e ∷ es) found wrote = told (is_eq (map_key_cmp k e.0)
 
 -- a content that is a map, and one that it became
 pub map_walked :
-    (pool : Types) (most : ℕ) (u : Option ℕ) (p : List PlaceStep) (e : Edit) (old new : Content) (es changed : BTreeMap MapKey Value) (r : Result (Option Value) ChangeError)
+    (pool : Types) (most : ℕ) (u : Option ℕ) (p : List PlaceStep) (e : Edit) (old new : Content) (es changed : BTreeMap MapKey Value) (r : Result Unit ChangeError) (out : Option Value)
     → content_view old ≡ map (entries_view es.entries) → new ≡ content.Map changed
-    → IsWalked pool most u p e (map (entries_view es.entries)) (map (entries_view changed.entries)) r → IsWalked pool most u p e (content_view old) (content_view new) r
-map_walked pool most u p e old new es changed r was is w =
-    subst (λ (h : Holding). IsWalked pool most u p e h (content_view new) r) (sym was)
-    (subst (λ (h : Holding). IsWalked pool most u p e (map (entries_view es.entries)) h r) (sym (ap content_view is ∙ content_view-Map changed)) w)
+    → IsWalked pool most u p e (map (entries_view es.entries)) (map (entries_view changed.entries)) r out → IsWalked pool most u p e (content_view old) (content_view new) r out
+map_walked pool most u p e old new es changed r out was is w =
+    subst (λ (h : Holding). IsWalked pool most u p e h (content_view new) r out) (sym was)
+    (subst (λ (h : Holding). IsWalked pool most u p e (map (entries_view es.entries)) h r out) (sym (ap content_view is ∙ content_view-Map changed)) w)

@@ -1,12 +1,13 @@
 -- From the way to a message, back to the whole message.
-use Rattle.std.proofs.Common.{◌≡◌, ◌≤◌, ◌-◌, ℕ, List, Option, Some, None, option_map, IsSomeAnd, arith, refl, sym, ap, ◌∙◌, subst, Result, Ok, Err, IfOk, OnErr}
+use Rattle.std.proofs.Common.{◌≡◌, ◌≤◌, ◌-◌, ℕ, List, [], Option, Some, None, option_map, IsSomeAnd, arith, refl, sym, ap, ◌∙◌, subst, Result, Ok, Err, IfOk, OnErr}
 use Rattle.std.specs.Prelude.{Bool, true, false, nat_le}
 use Rattle.std.proofs.lemmas.Bool.Decides.{nat_tests}
 use Rattle.std.proofs.lemmas.Result.{on_err_weaker}
-use Rattle.pb_schema.specs.Types.{Types}
-use Rattle.pb_value.specs.Data.{message, Holding, one, Message}
+use Rattle.pb_schema.specs.Types.{Types, FieldView, message_fields, field_numbered}
+use Rattle.pb_value.specs.Data.{message, Holding, one, Message, holding_depth}
 use Rattle.pb_value.specs.Dynamic.{Dynamic}
-use Rattle.pb_value.specs.Cause.{or_else, unless}
+use Rattle.pb_value.specs.Cause.{or_else, unless, at_field, content_cause, held_cause}
+use Rattle.pb_value.specs.Change.{set_cause}
 use Rattle.pb_value.specs.View.{value_view}
 use Rattle.pb_value.specs.WellFormed.{IsWellFormed}
 use Rattle.pb_value.specs.declared.body.Value.{Value}
@@ -16,7 +17,7 @@ use Rattle.pb_place.specs.declared.error.ChangeError.{ChangeError}
 use Rattle.pb_place.specs.declared.error.ChangeError.TheVariants.{Refused}
 use Rattle.pb_place.specs.declared.step.PlaceStep.{PlaceStep}
 use Rattle.pb_place.specs.At.{message_part}
-use Rattle.pb_place.specs.Changed.{Edit, edited, edit_cause, brings, taken_out, target, levels_above, refusal, IsRefused, IsChangedAt}
+use Rattle.pb_place.specs.Changed.{Edit, set, clear, push, insert, remove, set_element, remove_element, drop_unknown, edited, edit_cause, brings, taken_out, target, levels_above, refusal, IsRefused, IsChangedAt}
 use Rattle.pb_place.specs.Edits.{dynamic, IsDone, IsWalked}
 use Rattle.pb_place.specs.Replaced.{message_or, replaced, with_at}
 use Rattle.pb_place.proofs.Deeper.{edited_depth}
@@ -36,57 +37,91 @@ few_levels most e w h = told (edit_cause e w.pool w.kind) (nat_le (brings e) mos
 
 -- the whole message is well formed after a change, and after a refusal
 pub well_after :
-    (pool : Types) (most m : ℕ) (p : List PlaceStep) (e : Edit) (old new : Message) (r : Result (Option Value) ChangeError) → most ≡ 100 - levels_above p
-    → IsWellFormed pool m old → IsWalked pool most (Some m) p e (one (message old)) (one (message new)) r → IsWellFormed pool m new
-well_after pool most m p e old new (Err x) limit good w = subst (IsWellFormed pool m) (sym (ap (message_or old) w.err)) good
-well_after pool most m p e old new (Ok x) limit good w = told (target p (message_part (dynamic pool m old))) refl w.ok w.judged
+    (pool : Types) (most m : ℕ) (p : List PlaceStep) (e : Edit) (old new : Message) (r : Result Unit ChangeError) (out : Option Value) → most ≡ 100 - levels_above p
+    → IsWellFormed pool m old → IsWalked pool most (Some m) p e (one (message old)) (one (message new)) r out → IsWellFormed pool m new
+well_after pool most m p e old new (Err x) out limit good w = subst (IsWellFormed pool m) (sym (ap (message_or old) w.err)) good
+well_after pool most m p e old new (Ok x) out limit good w = told (target p (message_part (dynamic pool m old))) refl w.ok w.judged
   where
     told :
         (o : Option Dynamic) → target p (message_part (dynamic pool m old)) ≡ o
-        → IsDone e o (λ b. one (message new) ≡ replaced p b (one (message old))) (option_map value_view x) → refusal most e o ≡ None → IsWellFormed pool m new
+        → IsDone e o (λ b. one (message new) ≡ replaced p b (one (message old))) (option_map value_view out) → refusal most e o ≡ None → IsWellFormed pool m new
     told None q d j = absurd d
     told (Some v) q d j =
         let few : brings e ≤ 100 - levels_above p = subst (λ (n : ℕ). brings e ≤ n) limit (few_levels most e v j) in
         subst (IsWellFormed pool m) (sym (ap (message_or old) d.0)) (stays_well_formed p pool m old v (edited e v).body (brings e) good q d.1 (edited_depth e v) few)
 
 pub changed_after :
-    (pool : Types) (most m : ℕ) (p : List PlaceStep) (e : Edit) (old new : Message) (v w : Dynamic) (r : Result (Option Value) ChangeError)
-    → v ≡ dynamic pool m old → w ≡ dynamic pool m new → IsWalked pool most (Some m) p e (one (message old)) (one (message new)) r → IfOk r (λ _. IsChangedAt p e v w)
-changed_after pool most m p e old new v w (Err x) was is h = tt
-changed_after pool most m p e old new v w (Ok x) was is h = subst (λ (u : Dynamic). IsChangedAt p e u w) (sym was) (told (target p (message_part (dynamic pool m old))) h.ok)
+    (pool : Types) (most m : ℕ) (p : List PlaceStep) (e : Edit) (old new : Message) (v w : Dynamic) (r : Result Unit ChangeError) (out : Option Value)
+    → v ≡ dynamic pool m old → w ≡ dynamic pool m new → IsWalked pool most (Some m) p e (one (message old)) (one (message new)) r out → IfOk r (λ _. IsChangedAt p e v w)
+changed_after pool most m p e old new v w (Err x) out was is h = tt
+changed_after pool most m p e old new v w (Ok x) out was is h = subst (λ (u : Dynamic). IsChangedAt p e u w) (sym was) (told (target p (message_part (dynamic pool m old))) h.ok)
   where
     told :
-        (o : Option Dynamic) → IsDone e o (λ b. one (message new) ≡ replaced p b (one (message old))) (option_map value_view x)
+        (o : Option Dynamic) → IsDone e o (λ b. one (message new) ≡ replaced p b (one (message old))) (option_map value_view out)
         → IsSomeAnd o (λ u. w ≡ dynamic pool m (with_at p (edited e u).body old))
     told None d = absurd d
     told (Some u) d = is ∙ ap (dynamic pool m) (ap (message_or old) d.0)
 
 pub out_after :
-    (pool : Types) (most m : ℕ) (p : List PlaceStep) (e : Edit) (old new : Message) (v : Dynamic) (r : Result (Option Value) ChangeError) → v ≡ dynamic pool m old
-    → IsWalked pool most (Some m) p e (one (message old)) (one (message new)) r
-    → IfOk r (λ x. Some (option_map value_view x) ≡ option_map (taken_out e) (target p (message_part v)))
-out_after pool most m p e old new v (Err x) was h = tt
-out_after pool most m p e old new v (Ok x) was h =
-    subst (λ (u : Dynamic). Some (option_map value_view x) ≡ option_map (taken_out e) (target p (message_part u))) (sym was) (told (target p (message_part (dynamic pool m old))) h.ok)
+    (pool : Types) (most m : ℕ) (p : List PlaceStep) (e : Edit) (old new : Message) (v : Dynamic) (r : Result Unit ChangeError) (out : Option Value) → v ≡ dynamic pool m old
+    → IsWalked pool most (Some m) p e (one (message old)) (one (message new)) r out
+    → IfOk r (λ _. Some (option_map value_view out) ≡ option_map (taken_out e) (target p (message_part v)))
+out_after pool most m p e old new v (Err x) out was h = tt
+out_after pool most m p e old new v (Ok x) out was h =
+    subst (λ (u : Dynamic). Some (option_map value_view out) ≡ option_map (taken_out e) (target p (message_part u))) (sym was) (told (target p (message_part (dynamic pool m old))) h.ok)
   where
     told :
-        (o : Option Dynamic) → IsDone e o (λ b. one (message new) ≡ replaced p b (one (message old))) (option_map value_view x)
-        → Some (option_map value_view x) ≡ option_map (taken_out e) o
+        (o : Option Dynamic) → IsDone e o (λ b. one (message new) ≡ replaced p b (one (message old))) (option_map value_view out)
+        → Some (option_map value_view out) ≡ option_map (taken_out e) o
     told None d = absurd d
     told (Some u) d = ap Some d.2
 
 pub same_after :
-    (pool : Types) (most m : ℕ) (p : List PlaceStep) (e : Edit) (old new : Message) (v w : Dynamic) (r : Result (Option Value) ChangeError)
-    → v ≡ dynamic pool m old → w ≡ dynamic pool m new → IsWalked pool most (Some m) p e (one (message old)) (one (message new)) r → OnErr r (w ≡ v)
-same_after pool most m p e old new v w r was is h = on_err_weaker r (λ q. is ∙ ap (dynamic pool m) (ap (message_or old) q) ∙ sym was) h.err
+    (pool : Types) (most m : ℕ) (p : List PlaceStep) (e : Edit) (old new : Message) (v w : Dynamic) (r : Result Unit ChangeError) (out : Option Value)
+    → v ≡ dynamic pool m old → w ≡ dynamic pool m new → IsWalked pool most (Some m) p e (one (message old)) (one (message new)) r out → OnErr r (w ≡ v)
+same_after pool most m p e old new v w r out was is h = on_err_weaker r (λ q. is ∙ ap (dynamic pool m) (ap (message_or old) q) ∙ sym was) h.err
 
 pub judged_after :
-    (pool : Types) (most m : ℕ) (p : List PlaceStep) (e : Edit) (old new : Message) (v : Dynamic) (r : Result (Option Value) ChangeError) → v ≡ dynamic pool m old
-    → IsWalked pool most (Some m) p e (one (message old)) (one (message new)) r → IsRefused r (refusal most e (target p (message_part v)))
-judged_after pool most m p e old new v r was h = subst (λ (u : Dynamic). IsRefused r (refusal most e (target p (message_part u)))) (sym was) h.judged
+    (pool : Types) (most m : ℕ) (p : List PlaceStep) (e : Edit) (old new : Message) (v : Dynamic) (r : Result Unit ChangeError) (out : Option Value) → v ≡ dynamic pool m old
+    → IsWalked pool most (Some m) p e (one (message old)) (one (message new)) r out → IsRefused r (refusal most e (target p (message_part v)))
+judged_after pool most m p e old new v r out was h = subst (λ (u : Dynamic). IsRefused r (refusal most e (target p (message_part u)))) (sym was) h.judged
 
 -- a body that was taken out of a message is of its type
 pub of_whole : (v w : Dynamic) (pool : Types) (m : ℕ) (b : Message) → w ≡ v → pool ≡ v.pool → m ≡ v.kind → IsWellFormed w.pool w.kind b → IsWellFormed pool m b
 of_whole v w pool m b same in_pool of_kind good =
     subst (λ (i : ℕ). IsWellFormed pool i b) (sym of_kind)
     (subst (λ (q : Types). IsWellFormed q v.kind b) (sym in_pool) (subst (λ (u : Dynamic). IsWellFormed u.pool u.kind b) same good))
+
+-- THE MESSAGE ITSELF
+
+whole_is : (e : Edit) (v : Dynamic) → edited e v ≡ record v { body = with_at [] (edited e v).body v.body }
+whole_is (set h n) v = refl
+whole_is (clear n) v = refl
+whole_is (push d n) v = refl
+whole_is (insert x d n) v = refl
+whole_is (remove x n) v = refl
+whole_is (set_element i d n) v = refl
+whole_is (remove_element i n) v = refl
+whole_is drop_unknown v = refl
+
+-- a change of the message itself is one at the place of no steps
+pub changed_whole : (e : Edit) (p : List PlaceStep) (v new : Dynamic) → p ≡ [] → new ≡ edited e v → IsChangedAt p e v new
+changed_whole e p v new is made = subst (λ (q : List PlaceStep). IsChangedAt q e v new) (sym is) (made ∙ whole_is e v)
+
+-- that a content nests too deep is among the causes why it cannot be set
+absorbed : (a b u : Option ValueError) → or_else (or_else a (or_else b u)) u ≡ or_else a (or_else b u)
+absorbed (Some x) b u = refl
+absorbed None (Some x) u = refl
+absorbed None None (Some x) = refl
+absorbed None None None = refl
+
+pub set_alone : (pool : Types) (m n : ℕ) (h : Holding) → or_else (set_cause pool m n h) (unless (nat_le (holding_depth h) 100) TooDeep) ≡ set_cause pool m n h
+set_alone pool m n h = told (field_numbered n (message_fields pool m))
+  where
+    told :
+        (o : Option FieldView)
+        → or_else (at_field o (λ f. or_else (content_cause f.shape f.kind h) (or_else (held_cause pool f.shape f.kind h) (unless (nat_le (holding_depth h) 100) TooDeep))))
+        (unless (nat_le (holding_depth h) 100) TooDeep)
+        ≡ at_field o (λ f. or_else (content_cause f.shape f.kind h) (or_else (held_cause pool f.shape f.kind h) (unless (nat_le (holding_depth h) 100) TooDeep)))
+    told None = refl
+    told (Some f) = absorbed (content_cause f.shape f.kind h) (held_cause pool f.shape f.kind h) (unless (nat_le (holding_depth h) 100) TooDeep)

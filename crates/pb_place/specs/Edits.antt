@@ -42,8 +42,8 @@ HoldsParts pool t (list ds) = (i : ℕ) (d : Datum) → nth_datum ds i ≡ Some 
 HoldsParts pool t (map es) = (x : Scalar) (d : Datum) → get_entry x es ≡ Some d → IsPart pool t d
 
 module _ (pool : Types) (most : ℕ) where
-  -- what an answer tells of a change at a place in what a field holds, whose messages are of a type
-  pub record IsWalked (t : Option ℕ) (p : List PlaceStep) (e : Edit) (old new : Holding) (r : Result (Option Value) ChangeError) : Type 0 where
-    pub ok : IfOk r (λ v. IsDone e (target p (content_part pool t old)) (λ b. new ≡ replaced p b old) (option_map value_view v))
+  -- what an answer tells of a change at a place in what a field holds, whose messages are of a type, and of what was taken out
+  pub record IsWalked (t : Option ℕ) (p : List PlaceStep) (e : Edit) (old new : Holding) (r : Result Unit ChangeError) (out : Option Value) : Type 0 where
+    pub ok : IfOk r (λ _. IsDone e (target p (content_part pool t old)) (λ b. new ≡ replaced p b old) (option_map value_view out))
     pub err : OnErr r (new ≡ old)
     pub judged : IsRefused r (refusal most e (target p (content_part pool t old)))

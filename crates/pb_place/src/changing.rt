@@ -6,14 +6,14 @@ ghost use Rattle.pb_place.specs.At.{message_part};
 ghost use Rattle.pb_place.specs.Changed.{set, clear, push, insert, remove, set_element, remove_element, drop_unknown};
 ghost use Rattle.pb_place.specs.Changed.{element_place, element_refusal, index_place, taken_element};
 ghost use Rattle.pb_place.specs.Changed.{field_place, most_at, refusal, refusal_at, target, taken_at, taken_out};
-ghost use Rattle.pb_place.specs.Changed.{IsChangedAt, IsElementChanged, IsFieldChanged, IsRefused};
+ghost use Rattle.pb_place.specs.Changed.{IsChangedAt, IsElementChanged, IsFieldChanged, IsRefused, edited};
 ghost use Rattle.pb_place.specs.Edits.{edit_of};
 
 use crate::asking::is_set;
 use crate::change::Change;
 use crate::error::ChangeError;
 use crate::step::PlaceStep;
-use crate::walk::{Walk, into_well_formed};
+use crate::walk::{Pending, Walk, into_well_formed};
 use pb_value::parts::{MAX_LEVELS, from_well_formed};
 use pb_value::{Content, DynamicMessage, MapKey, Value};
 use std::mem;
@@ -31,6 +31,35 @@ fn most_at(place: &[PlaceStep]) -> u8
     left
 }
 
+/// Makes a change in the message at a place, below which at most so many levels may be added. The answer is what was taken out of it.
+fn change_inside(
+    message: &mut DynamicMessage<'_>,
+    place: &[PlaceStep],
+    most: u8,
+    change: Change,
+) -> Result<Option<Value>, ChangeError>
+    requires { most ≡ most_at place.now }
+    ensures ok { IfOk result (λ _. IsChangedAt place.now (edit_of change) message.old message.new) }
+    ensures out { IfOk result (λ v. Some (option_map value_view v) ≡ option_map (taken_out (edit_of change)) (target place.now (message_part message.old))) }
+    ensures err { OnErr result (message.new ≡ message.old) }
+    ensures judged { IsRefused result (refusal most (edit_of change) (target place.now (message_part message.old))) }
+{
+    let alloc = message.alloc();
+    let pool = message.pool();
+    let message_type = message.message_type();
+    let walk = Walk { alloc, pool, most };
+    let mut pending = Pending {
+        change,
+        taken: None,
+    };
+    let whole = mem::replace(message, DynamicMessage::new(alloc, pool, message_type));
+    let mut body = into_well_formed(whole);
+    let answer = walk.change_in(message_type, &mut body, place, &mut pending);
+    *message = from_well_formed(alloc, pool, message_type, body);
+    answer?;
+    Ok(pending.taken)
+}
+
 /// Makes a change in the message at a place. The answer is what was taken out of it.
 pub(crate) fn change_at(
     message: &mut DynamicMessage<'_>,
@@ -42,19 +71,11 @@ pub(crate) fn change_at(
     ensures err { OnErr result (message.new ≡ message.old) }
     ensures judged { IsRefused result (refusal (most_at place.now) (edit_of change) (target place.now (message_part message.old))) }
 {
-    let alloc = message.alloc();
-    let pool = message.pool();
-    let message_type = message.message_type();
-    let walk = Walk {
-        alloc,
-        pool,
-        most: most_at(place),
-    };
-    let whole = mem::replace(message, DynamicMessage::new(alloc, pool, message_type));
-    let mut body = into_well_formed(whole);
-    let answer = walk.change_in(message_type, &mut body, place, change);
-    *message = from_well_formed(alloc, pool, message_type, body);
-    answer
+    let most = most_at(place);
+    if place.is_empty() {
+        return change.make_within(message, most);
+    }
+    change_inside(message, place, most, change)
 }
 
 /// The place of the message and the number of the field that a place ends at.
@@ -94,6 +115,19 @@ fn element_at_end<'a>(
     Some((field, index))
 }
 
+/// Sets the field of a number of a message to a content.
+fn set_field(
+    message: &mut DynamicMessage<'_>,
+    number: u32,
+    content: Content,
+) -> Result<(), ChangeError>
+    ensures ok { OnOk result (message.new ≡ edited (set (content_view content) number) message.old) }
+    ensures err { OnErr result (message.new ≡ message.old) }
+    ensures judged { IsRefused result (refusal 100 (set (content_view content) number) (Some message.old)) }
+{
+    Ok(message.set(number, content)?)
+}
+
 /// Sets the field that a place ends at to a content, in the message that the steps before it lead to.
 ///
 /// That message is changed as by [`DynamicMessage::set`], and nothing else. The call is refused where the message is not there, or else
@@ -111,6 +145,9 @@ pub fn set_at(
     let Some((parent, number)) = field_at_end(place) else {
         return Err(ChangeError::Absent);
     };
+    if parent.is_empty() {
+        return set_field(message, number, content);
+    }
     drop(change_at(message, parent, Change::Set(number, content))?);
     Ok(())
 }

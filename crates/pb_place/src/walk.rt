@@ -1,13 +1,10 @@
 //! The way to the message at a place, and its change there.
 
 ghost use Rattle.std.specs.Prelude.{◌≡◌, ◌<◌, [], length, Some, IfSome, option_map};
-ghost use Rattle.pb_value.specs.Cause.{or_else, FailsWith};
 ghost use Rattle.pb_value.specs.Data.{list, map, message, one};
 ghost use Rattle.pb_value.specs.Inner.{type_named, IsPart};
 ghost use Rattle.pb_value.specs.View.{body_view, content_view, entries_view, value_view, values_view};
 ghost use Rattle.pb_value.specs.WellFormed.{IsWellFormed};
-ghost use Rattle.pb_value.specs.declared.error.ValueError.TheVariants.{TooDeep};
-ghost use Rattle.pb_place.specs.Changed.{edit_cause};
 ghost use Rattle.pb_place.specs.Edits.{edit_of, HoldsParts, IsWalked};
 
 use crate::change::Change;
@@ -15,7 +12,7 @@ use crate::error::ChangeError;
 use crate::step::PlaceStep;
 use pb_schema::{MessageId, Pool};
 use pb_value::parts::{empty_body, from_well_formed};
-use pb_value::{Body, Content, DynamicMessage, MapKey, Value, ValueError};
+use pb_value::{Body, Content, DynamicMessage, MapKey, Value};
 use std::alloc::Global;
 use std::collections::BTreeMap;
 use std::mem;
@@ -27,6 +24,22 @@ pub(crate) struct Walk<'p> {
     pub(crate) pool: &'p Pool,
     /// The most levels that may be added below the message.
     pub(crate) most: u8,
+}
+
+/// A change on the way to its message, and then what it took out there.
+#[derive(Drop)]
+pub(crate) struct Pending {
+    pub(crate) change: Change,
+    pub(crate) taken: Option<Value>,
+}
+
+impl Pending {
+    /// Takes the change out, to be made.
+    fn take_change(&mut self) -> Change
+        ensures { result ≡ self.old.change }
+    {
+        mem::replace(&mut self.change, Change::DropUnknown)
+    }
 }
 
 /// The message type that the kind of the field of a number names.
@@ -48,38 +61,25 @@ pub(crate) fn into_well_formed(message: DynamicMessage<'_>) -> Body
 }
 
 impl Walk<'_> {
-    /// Why a change is refused that brings more levels than may be added: for what the message refuses anyway, or else the depth.
-    fn too_deep(&self, message_type: MessageId, change: Change) -> ValueError
-        requires within { message_type.0 < length self.now.pool.now.messages }
-        ensures { FailsWith (or_else (edit_cause (edit_of change) self.now.pool.now message_type.0) (Some TooDeep)) result }
-    {
-        let mut message = DynamicMessage::new(self.alloc, self.pool, message_type);
-        match change.make(&mut message) {
-            Ok(_) => ValueError::TooDeep,
-            Err(cause) => cause,
-        }
-    }
-
     /// Makes a change in a message itself.
     fn change_here(
         &self,
         message_type: MessageId,
         body: &mut Body,
-        change: Change,
-    ) -> Result<Option<Value>, ChangeError>
+        pending: &mut Pending,
+    ) -> Result<(), ChangeError>
         requires within { message_type.0 < length self.now.pool.now.messages }
         requires well_formed { IsWellFormed self.now.pool.now message_type.0 (body_view body.old) }
-        ensures { IsWalked self.now.pool.now self.now.most (Some message_type.0) [] (edit_of change)
-            (one (message (body_view body.old))) (one (message (body_view body.new))) result }
+        ensures { IsWalked self.now.pool.now self.now.most (Some message_type.0) [] (edit_of pending.old.change)
+            (one (message (body_view body.old))) (one (message (body_view body.new))) result pending.new.taken }
     {
-        if !change.brings_at_most(self.most) {
-            return Err(ChangeError::Refused(self.too_deep(message_type, change)));
-        }
+        let change = pending.take_change();
         let held = mem::replace(body, empty_body(self.alloc));
         let mut message = from_well_formed(self.alloc, self.pool, message_type, held);
-        let answer = change.make(&mut message);
+        let answer = change.make_within(&mut message, self.most);
         *body = into_well_formed(message);
-        Ok(answer?)
+        pending.taken = answer?;
+        Ok(())
     }
 
     /// Makes a change in the message at a place in a message.
@@ -89,22 +89,22 @@ impl Walk<'_> {
         message_type: MessageId,
         body: &mut Body,
         place: &[PlaceStep],
-        change: Change,
-    ) -> Result<Option<Value>, ChangeError>
+        pending: &mut Pending,
+    ) -> Result<(), ChangeError>
         requires within { message_type.0 < length self.now.pool.now.messages }
         requires well_formed { IsWellFormed self.now.pool.now message_type.0 (body_view body.old) }
-        ensures { IsWalked self.now.pool.now self.now.most (Some message_type.0) place.now (edit_of change)
-            (one (message (body_view body.old))) (one (message (body_view body.new))) result }
+        ensures { IsWalked self.now.pool.now self.now.most (Some message_type.0) place.now (edit_of pending.old.change)
+            (one (message (body_view body.old))) (one (message (body_view body.new))) result pending.new.taken }
     {
         let Some((step, rest)) = place.split_first() else {
-            return self.change_here(message_type, body, change);
+            return self.change_here(message_type, body, pending);
         };
         let PlaceStep::Field(number) = step else {
             return Err(ChangeError::Absent);
         };
         let inner = type_named(self.pool, message_type, *number);
         match body.fields.get_mut(number) {
-            Some(content) => self.change_content(inner, content, rest, change),
+            Some(content) => self.change_content(inner, content, rest, pending),
             None => Err(ChangeError::Absent),
         }
     }
@@ -116,17 +116,17 @@ impl Walk<'_> {
         inner: Option<MessageId>,
         content: &mut Content,
         place: &[PlaceStep],
-        change: Change,
-    ) -> Result<Option<Value>, ChangeError>
+        pending: &mut Pending,
+    ) -> Result<(), ChangeError>
         requires inner { IfSome inner (λ m. m.0 < length self.now.pool.now.messages) }
         requires parts { HoldsParts self.now.pool.now (option_map (λ m. m.0) inner) (content_view content.old) }
-        ensures { IsWalked self.now.pool.now self.now.most (option_map (λ m. m.0) inner) place.now (edit_of change)
-            (content_view content.old) (content_view content.new) result }
+        ensures { IsWalked self.now.pool.now self.now.most (option_map (λ m. m.0) inner) place.now (edit_of pending.old.change)
+            (content_view content.old) (content_view content.new) result pending.new.taken }
     {
         match content {
-            Content::One(value) => self.change_value(inner, value, place, change),
-            Content::List(values) => self.change_list(inner, values, place, change),
-            Content::Map(entries) => self.change_map(inner, entries, place, change),
+            Content::One(value) => self.change_value(inner, value, place, pending),
+            Content::List(values) => self.change_list(inner, values, place, pending),
+            Content::Map(entries) => self.change_map(inner, entries, place, pending),
         }
     }
 
@@ -137,12 +137,12 @@ impl Walk<'_> {
         inner: Option<MessageId>,
         values: &mut Vec<Value>,
         place: &[PlaceStep],
-        change: Change,
-    ) -> Result<Option<Value>, ChangeError>
+        pending: &mut Pending,
+    ) -> Result<(), ChangeError>
         requires inner { IfSome inner (λ m. m.0 < length self.now.pool.now.messages) }
         requires parts { HoldsParts self.now.pool.now (option_map (λ m. m.0) inner) (list (values_view values.old.items)) }
-        ensures { IsWalked self.now.pool.now self.now.most (option_map (λ m. m.0) inner) place.now (edit_of change)
-            (list (values_view values.old.items)) (list (values_view values.new.items)) result }
+        ensures { IsWalked self.now.pool.now self.now.most (option_map (λ m. m.0) inner) place.now (edit_of pending.old.change)
+            (list (values_view values.old.items)) (list (values_view values.new.items)) result pending.new.taken }
     {
         let Some((step, rest)) = place.split_first() else {
             return Err(ChangeError::Absent);
@@ -151,7 +151,7 @@ impl Walk<'_> {
             return Err(ChangeError::Absent);
         };
         match values.get_mut(*index) {
-            Some(value) => self.change_value(inner, value, rest, change),
+            Some(value) => self.change_value(inner, value, rest, pending),
             None => Err(ChangeError::Absent),
         }
     }
@@ -163,12 +163,12 @@ impl Walk<'_> {
         inner: Option<MessageId>,
         entries: &mut BTreeMap<MapKey, Value>,
         place: &[PlaceStep],
-        change: Change,
-    ) -> Result<Option<Value>, ChangeError>
+        pending: &mut Pending,
+    ) -> Result<(), ChangeError>
         requires inner { IfSome inner (λ m. m.0 < length self.now.pool.now.messages) }
         requires parts { HoldsParts self.now.pool.now (option_map (λ m. m.0) inner) (map (entries_view entries.old.entries)) }
-        ensures { IsWalked self.now.pool.now self.now.most (option_map (λ m. m.0) inner) place.now (edit_of change)
-            (map (entries_view entries.old.entries)) (map (entries_view entries.new.entries)) result }
+        ensures { IsWalked self.now.pool.now self.now.most (option_map (λ m. m.0) inner) place.now (edit_of pending.old.change)
+            (map (entries_view entries.old.entries)) (map (entries_view entries.new.entries)) result pending.new.taken }
     {
         let Some((step, rest)) = place.split_first() else {
             return Err(ChangeError::Absent);
@@ -177,7 +177,7 @@ impl Walk<'_> {
             return Err(ChangeError::Absent);
         };
         match entries.get_mut(key) {
-            Some(value) => self.change_value(inner, value, rest, change),
+            Some(value) => self.change_value(inner, value, rest, pending),
             None => Err(ChangeError::Absent),
         }
     }
@@ -189,18 +189,18 @@ impl Walk<'_> {
         inner: Option<MessageId>,
         value: &mut Value,
         place: &[PlaceStep],
-        change: Change,
-    ) -> Result<Option<Value>, ChangeError>
+        pending: &mut Pending,
+    ) -> Result<(), ChangeError>
         requires inner { IfSome inner (λ m. m.0 < length self.now.pool.now.messages) }
         requires part { IsPart self.now.pool.now (option_map (λ m. m.0) inner) (value_view value.old) }
-        ensures { IsWalked self.now.pool.now self.now.most (option_map (λ m. m.0) inner) place.now (edit_of change)
-            (one (value_view value.old)) (one (value_view value.new)) result }
+        ensures { IsWalked self.now.pool.now self.now.most (option_map (λ m. m.0) inner) place.now (edit_of pending.old.change)
+            (one (value_view value.old)) (one (value_view value.new)) result pending.new.taken }
     {
         let Some(inner) = inner else {
             return Err(ChangeError::Absent);
         };
         match value {
-            Value::Message(body) => self.change_in(inner, body, place, change),
+            Value::Message(body) => self.change_in(inner, body, place, pending),
             _ => Err(ChangeError::Absent),
         }
     }

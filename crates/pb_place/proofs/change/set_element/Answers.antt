@@ -1,4 +1,4 @@
-use Rattle.std.proofs.Common.{◌≡◌, sym, subst}
+use Rattle.std.proofs.Common.{sym, subst}
 use Rattle.pb_value.specs.Data.{Datum}
 use Rattle.pb_value.specs.View.{body_view, value_view}
 use Rattle.pb_value.specs.WellFormed.{IsWellFormed}

@@ -1,4 +1,4 @@
-use Rattle.std.proofs.Common.{◌≡◌, ◌<◌, ◌≤◌, length, Some, rules, sym, ap, ◌∙◌}
+use Rattle.std.proofs.Common.{◌<◌, ◌≤◌, length, Some, rules, sym, ap, ◌∙◌}
 use Rattle.pb_value.specs.View.{value_view}
 use Rattle.pb_place.proofs.Elements.{in_nth-past}
 use Rattle.pb_place.proofs.Walks.{nth_past, nth_there, values_view-in_nth}

@@ -1,4 +1,4 @@
-use Rattle.std.proofs.Common.{◌≡◌, ◌<◌, ◌≤◌, length, rules, sym, ap, ◌∙◌}
+use Rattle.std.proofs.Common.{◌<◌, ◌≤◌, length, rules, sym, ap, ◌∙◌}
 use Rattle.pb_value.specs.View.{values_view}
 use Rattle.pb_place.proofs.Elements.{drop_nth-past, values_view-remove}
 use Rattle.pb_place.proofs.Walks.{nth_past, nth_there}

@@ -1,4 +1,4 @@
-use Rattle.std.proofs.Common.{rules, sym, ap, ◌∙◌}
+use Rattle.std.proofs.Common.{rules, sym}
 use Rattle.pb_value.specs.declared.body.Content.{the_lemmas}
 use Rattle.pb_value.proofs.Views.{content_view-Map}
 use Rattle.pb_value.proofs.InnerLemmas.{get_entry-entries}
