@@ -11,3 +11,17 @@ pub mod MaskLaws
 pub mod BytesLaws
 -- values of each kind, and keys
 pub mod ScalarLaws
+pub mod EnumLaws
+-- the texts of values
+pub mod CharacterLaws
+pub mod NumberTexts
+pub mod TextLaws
+pub mod PlainLaws
+-- messages
+pub mod EntryLaws
+pub mod NameLaws
+pub mod NanLaws
+pub mod MessageLaws
+pub mod ValueLaws
+pub mod WellLaws
+pub mod MessageTexts

@@ -1,5 +1,5 @@
 -- Single values of each kind but enums, and keys, as they are written.
-use Rattle.std.proofs.Common.{◌≡◌, ℕ, ◌^◌, ◌<◌, zero, suc, Bool, true, false, List, [], ◌∷◌, Some, refl, arith, ℤ, pos, FitsSigned, w32, w64, to_bits}
+use Rattle.std.proofs.Common.{◌≡◌, ℕ, zero, suc, Bool, true, false, List, [], ◌∷◌, Some, refl, arith, ℤ, pos, FitsSigned, w32, w64, to_bits}
 use Rattle.std.proofs.lemmas.Int.{ints}
 use Rattle.std.specs.Float.{Float, Format, binary32, binary64, nan, inf, fin, float_is_finite}
 use Rattle.std.specs.Prelude.{from_bits}
@@ -9,7 +9,7 @@ use Rattle.pb_wire.specs.Ranges.{IsByte}
 use Rattle.pb_schema.specs.declared.types.Kind.{Kind}
 use Rattle.pb_schema.specs.declared.types.Kind.TheVariants as kind
 use Rattle.pb_schema.specs.Kinds.{IsOfKind}
-use Rattle.pb_schema.specs.Scalar.{Scalar, int32, int64, uint32, uint64, boolean, float, double, enum, text, bytes}
+use Rattle.pb_schema.specs.Scalar.{Scalar, int32, int64, uint32, uint64, boolean, float, double, text, bytes}
 use Rattle.pb_schema.specs.Types.{Types}
 use Rattle.pb_value.specs.Data.{scalar}
 use Rattle.pb_json.specs.Mapping.{float_json, key_name, scalar_json}
@@ -19,13 +19,14 @@ use Rattle.pb_json_read.specs.Scalars.{IsFloat}
 use Rattle.pb_json_read.specs.Values.{IsScalar}
 use Rattle.pb_json_scalars.specs.Keys.{bool_key}
 use Rattle.pb_json_text.specs.Json as read
-use Rattle.pb_json_laws.specs.Means.{IsKeyKind, IsNoEnum, Means, with_one_nan}
+use Rattle.pb_json_laws.specs.Texts.{Means}
+use Rattle.pb_json_laws.specs.Scalars.{IsKeyKind, IsNoEnum, with_one_nan}
 use Rattle.pb_json_laws.proofs.BytesLaws.{standard_read}
 use Rattle.pb_json_laws.proofs.FloatLaws.{float_read}
 use Rattle.pb_json_laws.proofs.IntegerLaws.{key_is_integer, natural_key, signed_key}
 
 -- 32 bits are 64 too
-wider : (z : ℤ) → FitsSigned w32 z → FitsSigned w64 z
+pub wider : (z : ℤ) → FitsSigned w32 z → FitsSigned w64 z
 wider z fits = omega (arith, ints, fits)
 
 float_is : (f : Format) (x : Float) (j : read.Json) → Means (float_json f x) j → IsFloat f j (to_bits f x)
@@ -35,7 +36,7 @@ float_is f (inf false) j is = rw is refl
 float_is f (inf true) j is = rw is refl
 float_is f (fin negative m e) j (s, is, plain, parses) = rw is (float_read f (fin negative m e) s plain parses refl)
 
-bytes_are : (s : List ℕ) → AllByRecursion IsByte s → IsBytes s
+pub bytes_are : (s : List ℕ) → AllByRecursion IsByte s → IsBytes s
 bytes_are [] h i = omega arith
 bytes_are (b ∷ bs) h zero = h.0
 bytes_are (b ∷ bs) h (suc i) = bytes_are bs h.1 i

@@ -1,1 +1,3 @@
-pub mod Means
+pub mod Texts
+pub mod Scalars
+pub mod Messages

@@ -1,7 +1,7 @@
 //! Laws of JSON: what is written of a value is read back as the same value.
 #![tactic(auto)]
 
-ghost use Rattle.std.specs.Prelude.{◌≡◌, ◌<◌, ◌^◌, ℕ, ℤ, List, Some, pos, true, decimal, to_bits, FitsSigned};
+ghost use Rattle.std.specs.Prelude.{◌≡◌, ◌<◌, ◌≤◌, ◌^◌, ℕ, ℤ, List, Some, Ok, pos, true, decimal, to_bits, FitsSigned};
 ghost use Rattle.std.specs.Float.{Float, Format, float_is_finite};
 ghost use Rattle.std.specs.Fmt.{signed_decimal};
 ghost use Rattle.std.specs.Int.{w64};
@@ -19,15 +19,31 @@ ghost use Rattle.pb_json_scalars.specs.Keys.{IsKeyText};
 ghost use Rattle.pb_json_scalars.specs.Numbers.{IsFloatText, IsIntegerText};
 ghost use Rattle.pb_json_scalars.specs.Paths.{mask_paths};
 ghost use Rattle.pb_schema.specs.declared.types.Kind.{Kind as AnyKind};
+ghost use Rattle.pb_schema.specs.Closed.{is_declared};
 ghost use Rattle.pb_schema.specs.Kinds.{IsOfKind};
-ghost use Rattle.pb_schema.specs.Scalar.{Scalar};
+ghost use Rattle.pb_schema.specs.Rules.{IsPool};
+ghost use Rattle.pb_schema.specs.Scalar.{Scalar, enum};
 ghost use Rattle.pb_schema.specs.Types.{Types};
-ghost use Rattle.pb_value.specs.Data.{scalar};
-ghost use Rattle.pb_json.specs.Mapping.{key_name, scalar_json};
+ghost use Rattle.pb_value.specs.Data.{message_depth, scalar, Message};
+ghost use Rattle.pb_value.specs.WellFormed.{IsBody, IsWellFormed};
+ghost use Rattle.pb_json.specs.declared.form.JsonForm.{JsonForm as AnyForm};
+ghost use Rattle.pb_json.specs.declared.form.Layout.{Layout as AnyLayout};
+ghost use Rattle.pb_json.specs.declared.form.Names.{Names as AnyNames};
+ghost use Rattle.pb_json.specs.declared.form.Names.TheVariants.{Declared, LowerCamel};
+ghost use Rattle.pb_json.specs.Json as written;
+ghost use Rattle.pb_json.specs.JsonText.{IsJsonText};
+ghost use Rattle.pb_json.specs.Mapping.{key_name, message_json, scalar_json};
+ghost use Rattle.pb_json.specs.WellKnown.{is_null_enum};
+ghost use Rattle.pb_json_read.specs.declared.rules.JsonRules.{JsonRules as AnyRules};
+ghost use Rattle.pb_json_read.specs.Answers.{IsReadAs};
 ghost use Rattle.pb_json_read.specs.Keys.{IsKey};
+ghost use Rattle.pb_json_read.specs.Reads.{ReadsMessage};
 ghost use Rattle.pb_json_read.specs.Values.{IsScalar};
-ghost use Rattle.pb_json_text.specs.Json.{Json};
-ghost use Rattle.pb_json_laws.specs.Means.{IsKeyKind, IsNoEnum, Means, with_one_nan};
+ghost use Rattle.pb_json_text.specs.Json.{Json, Placed};
+ghost use Rattle.pb_json_text.specs.Texts.{IsJson};
+ghost use Rattle.pb_json_laws.specs.Messages.{CamelNamesDiffer, IsCovered, NamesAreRead, message_with_one_nan};
+ghost use Rattle.pb_json_laws.specs.Texts.{IsJsonValue, Means, json_depth};
+ghost use Rattle.pb_json_laws.specs.Scalars.{IsKeyKind, IsNoEnum, with_one_nan};
 
 /// An integer, as its decimal digits with a minus below 0, and as a key.
 pub fn written_integers()
@@ -72,7 +88,40 @@ pub fn written_scalars()
         → IsScalar pool k j (scalar (with_one_nan x)) }
 {}
 
+/// A value of a kind that is no message, as its JSON value; a NaN is read as one NaN, and a value of `google.protobuf.NullValue` that is not 0 is
+/// not read back.
+pub fn written_values()
+    ensures { (pool : Types) → IsPool pool → (k : AnyKind) (x : Scalar) (j : Json) → IsOfKind k x → is_declared pool k x ≡ true
+        → (is_null_enum pool k ≡ true → x ≡ enum (pos 0)) → Means (scalar_json pool k x) j → IsScalar pool k j (scalar (with_one_nan x)) }
+{}
+
 /// A key of a map, as the name of a member.
 pub fn written_keys()
     ensures { (k : AnyKind) (x : Scalar) → IsKeyKind k → IsOfKind k x → IsKey k (key_name x) x }
+{}
+
+/// A JSON value, as its text in either layout.
+pub fn written_texts()
+    ensures { (layout : AnyLayout) (j : written.Json) (text : List ℕ) → IsJsonValue j → json_depth j ≤ 100 → IsJsonText layout 0 j text
+        → (v : Placed) × IsJson v text × Means j v.1 }
+{}
+
+/// The name of each field, as it is declared in each pool, and in lowerCamelCase in a pool where no two fields of a message have one.
+pub fn written_names()
+    ensures declared { (pool : Types) → IsPool pool → NamesAreRead Declared pool }
+    ensures lower_camel { (pool : Types) → CamelNamesDiffer pool → NamesAreRead LowerCamel pool }
+{}
+
+/// A message that is covered, as its JSON value; each NaN is read as one NaN.
+pub fn read_messages()
+    ensures { (pool : Types) (names : AnyNames) (rules : AnyRules) → IsPool pool → NamesAreRead names pool → (levels m : ℕ) (b : Message) → IsBody pool m b
+        → IsCovered pool m b → message_depth b < levels → (at : ℕ) (j : Json) → Means (message_json pool names levels m b) j
+        → ReadsMessage pool rules m at j (Ok (message_with_one_nan b)) }
+{}
+
+/// A message that is covered, as its text in each form. It nests at most 100 arrays and objects, and each NaN is read as one NaN.
+pub fn written_messages()
+    ensures { (pool : Types) (form : AnyForm) (rules : AnyRules) → IsPool pool → NamesAreRead form.names pool → (m : ℕ) (b : Message) → IsWellFormed pool m b
+        → IsCovered pool m b → json_depth (message_json pool form.names 101 m b) ≤ 100
+        → (text : List ℕ) → IsJsonText form.layout 0 (message_json pool form.names 101 m b) text → IsReadAs pool rules m text (message_with_one_nan b) }
 {}

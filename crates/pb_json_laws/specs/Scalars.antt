@@ -1,26 +1,9 @@
--- JSON values that are written, and what the texts of them are when they are read.
-use Rattle.std.specs.Prelude.{◌≡◌, ℕ, List, Some, from_bits, to_bits, unsigned_abs}
+-- Single values and keys as they are read back.
+use Rattle.std.specs.Prelude.{from_bits, to_bits}
 use Rattle.std.specs.Float.{binary32, binary64}
-use Rattle.fast_float.specs.Parse.{parse_float}
-use Rattle.ryu.specs.Plain.{IsPlainNumber}
 use Rattle.pb_schema.specs.declared.types.Kind.{Kind}
 use Rattle.pb_schema.specs.declared.types.Kind.TheVariants as kind
 use Rattle.pb_schema.specs.Scalar.{Scalar, int32, int64, uint32, uint64, boolean, float, double, enum, text, bytes}
-use Rattle.pb_json.specs.Json as written
-use Rattle.pb_json.specs.Times.{IsInstantText}
-use Rattle.pb_json_text.specs.Json as read
-
--- a text that is written of this value, which is no array or object, is a text of this one
-abbrev pub Means : written.Json → read.Json → Type 0
-Means written.null j = j ≡ read.null
-Means (written.truth b) j = j ≡ read.boolean b
-Means (written.number s) j = j ≡ read.number s
-Means (written.real f x) j = (s : List ℕ) × (j ≡ read.number s) × IsPlainNumber s × (parse_float f s ≡ Some x)
-Means (written.plain s) j = j ≡ read.string s
-Means (written.string s) j = j ≡ read.string s
-Means (written.instant z n) j = (t : List ℕ) × (j ≡ read.string t) × IsInstantText z (unsigned_abs n) t
-Means (written.array js) j = ⊥
-Means (written.object ms) j = ⊥
 
 -- the values of a kind are no numbers of an enum
 abbrev pub IsNoEnum : Kind → Type 0

@@ -1,0 +1,6 @@
+use Rattle.pb_json_laws.proofs.MessageLaws.{messages_read}
+use Rattle.pb_json_laws.proofs.read_messages.Goals as goal
+
+pub returns : goal.returns
+returns c pool names rules is_pool named levels m b is covered deep at j means =
+    (messages_read pool names rules is_pool named levels m b is covered deep at j means).0
