@@ -9,10 +9,13 @@ pub mod UniqueReads
 -- for what reads: what is read step by step, and the keys of entries
 pub mod ReadLemmas
 pub mod EntryLemmas
+-- for what an Any holds
+pub mod AnyLemmas
 -- for the paths of field masks
 pub mod TextsLemmas
 -- small cases, worked out by the definitions
 mod Rows
 mod FormRows
+mod AnyRows
 -- for the whole call
 pub mod TextLemmas

@@ -23,10 +23,11 @@ use Rattle.pb_json_read.specs.Answers.{Answers, Changes, named}
 use Rattle.pb_json_read.specs.Faults.{fault, out_of_memory}
 use Rattle.pb_json_read.specs.Forms.{ReadsForm}
 use Rattle.pb_json_read.specs.Names.{field_meant}
-use Rattle.pb_json_read.specs.Steps.{Read, After, Made, NoValue, Parts, with_datum}
+use Rattle.pb_json_read.specs.Steps.{Read, After, Then, Made, NoValue, Parts, with_datum}
 use Rattle.pb_json_read.specs.Steps.{ReadsSingle, ReadsOf, ReadsShape, ReadsScalar}
-use Rattle.pb_json_read.specs.Reads.{ReadsMember, ReadsMemberEntry}
-use Rattle.pb_json_read.specs.Reads.{ReadsMembers, ReadsEntries, ReadsElements, ReadsValue, ReadsContent, ReadsMessage, ReadsObject, ReadsList, ReadsMap}
+use Rattle.pb_json_read.specs.Reads.{ReadsMember, ReadsMemberBeside, ReadsMemberEntry}
+use Rattle.pb_json_read.specs.Reads.{ReadsMembers, ReadsBeside, ReadsEntries, ReadsElements, ReadsValue, ReadsContent, ReadsMessage, ReadsObject, ReadsList, ReadsMap}
+use Rattle.pb_json_read.specs.Reads.{ReadsAnyObject}
 
 -- ONE THING AFTER ANOTHER
 
@@ -43,6 +44,17 @@ after_ok r x Next o e n = subst (λ t. After t Next o) e n
 pub after_err : {A B : Type 0} (r : Read A) (Next : A → Read B → Type 0) (e : JsonReadError) → Err e ≡ r → After r Next (Err e)
 after_err r Next e h = subst (λ t. After t Next (Err e)) h refl
 
+-- first this, and what comes next, unless out of memory
+pub then_answers : {X A B : Type 0} (view : X → B) (First : Read A → Type 0) (Next : A → Read B → Type 0) (x : A) (r : Result X JsonReadError) → First (Ok x)
+    → Answers view (Next x) r → Answers view (Then First Next) r
+then_answers view First Next x (Ok y) first next = (Ok x, first, next)
+then_answers view First Next x (Err e) first (inl none) = inl none
+then_answers view First Next x (Err e) first (inr next) = inr (Ok x, first, next)
+
+pub then_stops : {A B C : Type 0} (First : Read A → Type 0) (Next : A → Read B → Type 0) (e : JsonReadError) → C ⊎ First (Err e) → C ⊎ Then First Next (Err e)
+then_stops First Next e (inl c) = inl c
+then_stops First Next e (inr first) = inr (Err e, first, refl)
+
 -- a fact of a fault, where memory may have run out
 pub or_weaker : {C P Q : Type 0} → (P → Q) → C ⊎ P → C ⊎ Q
 or_weaker f (inl c) = inl c
@@ -53,7 +65,7 @@ or_weaker f (inr p) = inr (f p)
 pub from_item : {X : Type 0} (xs : List X) (i : ℕ) (x : X) → i < length xs → x ≡ get_or xs i x → drop i xs ≡ x ∷ drop (i + 1) xs
 from_item {X} xs i x below is = drop_more xs i x below ∙ ap (λ (y : X). y ∷ drop (i + 1) xs) (sym is)
 
-members_next : (ms : List JsonMember) (i : ℕ) (m : JsonMember) → i < length ms → m ≡ get_or ms i m
+pub members_next : (ms : List JsonMember) (i : ℕ) (m : JsonMember) → i < length ms → m ≡ get_or ms i m
     → members_view (drop i ms) ≡ member (named m).0 (named m).1 (named m).2.0 (named m).2.1 (members_view (drop (i + 1) ms))
 members_next ms i m below is =
     ap members_view (from_item ms i m below is)
@@ -76,6 +88,17 @@ module _ (pool : Types) (rules : JsonRules) where
       → ReadsMember pool rules (field_meant (named m).1 all) (named m) p (Err e) → ReadsMembers pool rules all p (members_view (drop i ms)) (Err e)
   members_stop all p ms i m below is e first =
       subst (λ (l : Members). ReadsMembers pool rules all p l (Err e)) (sym (members_next ms i m below is)) (Err e, first, refl)
+
+  pub beside_step : (meant : List ℕ → Option FieldView) (p q : Parts) (ms : List JsonMember) (i : ℕ) (m : JsonMember) → i < length ms → m ≡ get_or ms i m
+      → ReadsMemberBeside pool rules meant (named m) p (Ok q) → (o : Read Parts) → ReadsBeside pool rules meant q (members_view (drop (i + 1) ms)) o
+      → ReadsBeside pool rules meant p (members_view (drop i ms)) o
+  beside_step meant p q ms i m below is first o rest =
+      subst (λ (l : Members). ReadsBeside pool rules meant p l o) (sym (members_next ms i m below is)) (Ok q, first, rest)
+
+  pub beside_stop : (meant : List ℕ → Option FieldView) (p : Parts) (ms : List JsonMember) (i : ℕ) (m : JsonMember) → i < length ms → m ≡ get_or ms i m → (e : JsonReadError)
+      → ReadsMemberBeside pool rules meant (named m) p (Err e) → ReadsBeside pool rules meant p (members_view (drop i ms)) (Err e)
+  beside_stop meant p ms i m below is e first =
+      subst (λ (l : Members). ReadsBeside pool rules meant p l (Err e)) (sym (members_next ms i m below is)) (Err e, first, refl)
 
   pub entries_step : (key k : Kind) (es fs : Entries) (ms : List JsonMember) (i : ℕ) (m : JsonMember) → i < length ms → m ≡ get_or ms i m
       → ReadsMemberEntry pool rules key k (named m) es (Ok fs) → (o : Read Entries) → ReadsEntries pool rules key k fs (members_view (drop (i + 1) ms)) o
@@ -132,10 +155,10 @@ module _ (pool : Types) (rules : JsonRules) where
   -- A MESSAGE, BY THE FORM OF ITS TYPE
 
   pub form_answers : (m at : ℕ) (j : Json) (w : WellKnown) → well_known pool m ≡ w → (r : Result Body JsonReadError)
-      → Answers body_view (λ o. ReadsForm pool rules at j (λ key e q. ReadsMap pool rules key e at j q) (λ e q. ReadsList pool rules e at j q) w (λ q. ReadsObject pool rules m at j q) m o) r
+      → Answers body_view (λ o. ReadsForm pool rules at j (λ key e q. ReadsMap pool rules key e at j q) (λ e q. ReadsList pool rules e at j q) w (λ q. ReadsObject pool rules m at j q) (λ q. ReadsAnyObject pool rules m at j q) m o) r
       → Answers body_view (ReadsMessage pool rules m at j) r
   form_answers m at j w is r h =
-      subst (λ (v : WellKnown). Answers body_view (λ o. ReadsForm pool rules at j (λ key e q. ReadsMap pool rules key e at j q) (λ e q. ReadsList pool rules e at j q) v (λ q. ReadsObject pool rules m at j q) m o) r)
+      subst (λ (v : WellKnown). Answers body_view (λ o. ReadsForm pool rules at j (λ key e q. ReadsMap pool rules key e at j q) (λ e q. ReadsList pool rules e at j q) v (λ q. ReadsObject pool rules m at j q) (λ q. ReadsAnyObject pool rules m at j q) m o) r)
       (sym is) h
 
 -- ANSWERS

@@ -1,5 +1,5 @@
 -- A JSON value is read as one thing at most, or has one first fault.
-use Rattle.std.proofs.Common.{◌≡◌, ℕ, List, Bool, true, false, Option, Some, None, Ok, Err, inl, inr, refl, sym, ap, ◌∙◌, subst}
+use Rattle.std.proofs.Common.{◌≡◌, ℕ, ◌<◌, ◌≤◌, ◌^◌, List, length, Bool, true, false, Option, Some, None, Ok, Err, inl, inr, refl, sym, ap, ◌∙◌, subst, arith}
 use Rattle.std.proofs.lemmas.Bool.{false≢true}
 use Rattle.pb_schema.specs.declared.types.Kind.{Kind}
 use Rattle.pb_schema.specs.declared.types.Shape.{Shape}
@@ -11,12 +11,13 @@ use Rattle.pb_value.specs.Data.{Datum, Datums, no_datums, Entries, no_entries, H
 use Rattle.pb_json.specs.declared.well_known.WellKnown.{WellKnown}
 use Rattle.pb_json.specs.declared.well_known.WellKnown.TheVariants as form
 use Rattle.pb_json.specs.WellKnown.{well_known}
-use Rattle.pb_json_text.specs.Json.{Json, null, boolean, number, string, array, object, Elements, no_elements, element, Members, no_members, member}
+use Rattle.pb_json_text.specs.Json.{Json, null, boolean, number, string, array, object, Elements, no_elements, element, Members, no_members, member, Placed}
 use Rattle.pb_json_read.specs.declared.rules.JsonRules.{JsonRules}
 use Rattle.pb_json_read.specs.Names.{field_meant}
-use Rattle.pb_json_read.specs.Steps.{Read, After, Then, Made, NoValue, Parts, nothing, with_number, with_oneof, with_held, with_entry, with_datum, is_absent}
+use Rattle.pb_json_read.specs.Steps.{Read, After, Then, Made, NoValue, Parts, nothing, with_number, with_oneof, with_held, with_entry, with_datum, is_absent, Unless}
 use Rattle.pb_json_read.specs.Steps.{ReadsScalar, ReadsOf, ReadsSingle, ReadsShape, ReadsHeld, ReadsField, ReadsUnder, ReadsEntry}
-use Rattle.pb_json_read.specs.Reads.{ReadsMembers, ReadsEntries, ReadsElements, ReadsValue, ReadsContent, ReadsMessage}
+use Rattle.pb_json_read.specs.Reads.{ReadsMembers, ReadsBeside, ReadsEntries, ReadsElements, ReadsValue, ReadsContent, ReadsMessage}
+use Rattle.pb_json_read.specs.Anys.{any_fields, is_tag, Encodes, ReadsAny, ReadsAnyOf, ReadsEncoded, ReadsInAny, ReadsNamed, ReadsTagged}
 use Rattle.pb_json_read.specs.Forms.{ReadsAlone, Where, ReadsFlat, ReadsSole, ReadsNested, ReadsDeep, ReadsDynamic, ReadsForm}
 use Rattle.pb_json_read.specs.Reads.{OfObject, OfArray, OfLeaf}
 use Rattle.pb_json_read.specs.WellKnown.{is_sole, field_for}
@@ -125,36 +126,86 @@ module _ (pool : Types) (rules : JsonRules) where
     dynamic_one : (m : ℕ) → IsOne (ReadsDynamic pool rules at j Mapped Listed m)
     dynamic_one m = alone_one (field_numbered (field_for j) (message_fields pool m)) at _ deep_one
 
-    form_one : (w : WellKnown) (Plain : Read Message → Type 0) (m : ℕ) → IsOne Plain → IsOne (ReadsForm pool rules at j Mapped Listed w Plain m)
-    form_one form.Other Plain m one = one
-    form_one form.Wrapper Plain m one = sole_one m
-    form_one form.Struct Plain m one = sole_one m
-    form_one form.ListValue Plain m one = sole_one m
-    form_one form.Value Plain m one = dynamic_one m
-    form_one form.Timestamp Plain m one = given_one _
-    form_one form.Duration Plain m one = given_one _
-    form_one form.FieldMask Plain m one = given_one _
-    form_one form.Any Plain m one = none_one at
+    form_one : (w : WellKnown) (Plain Tagged : Read Message → Type 0) (m : ℕ) → IsOne Plain → IsOne Tagged
+        → IsOne (ReadsForm pool rules at j Mapped Listed w Plain Tagged m)
+    form_one form.Other Plain Tagged m one any = one
+    form_one form.Wrapper Plain Tagged m one any = sole_one m
+    form_one form.Struct Plain Tagged m one any = sole_one m
+    form_one form.ListValue Plain Tagged m one any = sole_one m
+    form_one form.Value Plain Tagged m one any = dynamic_one m
+    form_one form.Timestamp Plain Tagged m one any = given_one _
+    form_one form.Duration Plain Tagged m one any = given_one _
+    form_one form.FieldMask Plain Tagged m one any = given_one _
+    form_one form.Any Plain Tagged m one any = any
 
-  object_one : (at : ℕ) (ms : Members) (Fields : List FieldView → Read Parts → Type 0) (Mapped : Kind → Kind → Read Entries → Type 0)
-      → ((all : List FieldView) → IsOne (Fields all)) → ((key k : Kind) → IsOne (Mapped key k)) → (m : ℕ) → IsOne (OfObject pool rules at ms Fields Mapped m)
-  object_one at ms Fields Mapped fields mapped m =
-      form_one at (object ms) Mapped (λ e r. NoValue at r) mapped (λ e. none_one at) (well_known pool m) _ m
-      (made_one (Fields (message_fields pool m)) (λ p. p.message) (fields (message_fields pool m)))
+  unless_one : (b : Bool) (p : Parts) (First : Read Parts → Type 0) → IsOne First → IsOne (Unless b p First)
+  unless_one true p First one o q a b = a ∙ sym b
+  unless_one false p First one o q a b = one o q a b
+
+  too_long : (bs : List ℕ) (n : ℕ) → length bs < 2 ^ 31 → length bs ≡ n → 2 ^ 31 ≤ n → ⊥
+  too_long bs n below is above = omega (arith, below, is, above)
+
+  encodes_one : (t at : ℕ) (b : Message) → IsOne (Encodes pool t at b)
+  encodes_one t at b (Ok x) (Ok y) p q = ap Ok (p.2 ∙ sym q.2)
+  encodes_one t at b (Ok x) (Err e) p (inl q) = absurd (q.0 p.0)
+  encodes_one t at b (Ok x) (Err e) p (inr q) = absurd (too_long x _ p.1 (ap (λ (s : List ℕ). length s) p.2) q.1)
+  encodes_one t at b (Err e) (Ok y) (inl p) q = absurd (p.0 q.0)
+  encodes_one t at b (Err e) (Ok y) (inr p) q = absurd (too_long y _ q.1 (ap (λ (s : List ℕ). length s) q.2) p.1)
+  encodes_one t at b (Err e) (Err f) (inl p) (inl q) = ap Err (p.1 ∙ sym q.1)
+  encodes_one t at b (Err e) (Err f) (inl p) (inr q) = absurd (p.0 q.0)
+  encodes_one t at b (Err e) (Err f) (inr p) (inl q) = absurd (q.0 p.0)
+  encodes_one t at b (Err e) (Err f) (inr p) (inr q) = ap Err (p.2 ∙ sym q.2)
+
+  module _ (at : ℕ) (Beside : (List ℕ → Option FieldView) → Read Parts → Type 0) (beside : (meant : List ℕ → Option FieldView) → IsOne (Beside meant)) where
+    in_any_one : (t : ℕ) → IsOne (ReadsInAny pool at Beside t)
+    in_any_one t = then_one _ _ (beside _) (λ p. given_one _)
+
+    encoded_one : (t : ℕ) → IsOne (ReadsEncoded pool at Beside t)
+    encoded_one t = then_one _ _ (in_any_one t) (λ b. encodes_one t at b)
+
+    named_one : (fs : FieldView × FieldView) (url_at : ℕ) (url : Option (List ℕ × ℕ)) → IsOne (ReadsNamed pool at Beside fs url_at url)
+    named_one fs url_at None = none_one url_at
+    named_one fs url_at (Some url) = made_one _ _ (encoded_one url.1)
+
+    tagged_one : (fs : FieldView × FieldView) (ms : Members) (v : Option Placed) → IsOne (ReadsTagged pool at Beside fs ms v)
+    tagged_one fs ms None = given_one _
+    tagged_one fs ms (Some v) = named_one fs v.0 _
+
+    any_of_one : (fs : Option (FieldView × FieldView)) (ms : Members) → IsOne (ReadsAnyOf pool at Beside fs ms)
+    any_of_one None ms = none_one at
+    any_of_one (Some fs) ms = after_one _ _ (λ v. tagged_one fs ms v)
+
+    any_one : (m : ℕ) (ms : Members) → IsOne (ReadsAny pool at Beside m ms)
+    any_one m ms = any_of_one (any_fields (message_fields pool m)) ms
+
+  object_one : (at : ℕ) (ms : Members) (Fields : List FieldView → Read Parts → Type 0) (Beside : (List ℕ → Option FieldView) → Read Parts → Type 0)
+      (Mapped : Kind → Kind → Read Entries → Type 0)
+      → ((all : List FieldView) → IsOne (Fields all)) → ((meant : List ℕ → Option FieldView) → IsOne (Beside meant)) → ((key k : Kind) → IsOne (Mapped key k))
+      → (m : ℕ) → IsOne (OfObject pool rules at ms Fields Beside Mapped m)
+  object_one at ms Fields Beside Mapped fields beside mapped m =
+      form_one at (object ms) Mapped (λ e r. NoValue at r) mapped (λ e. none_one at) (well_known pool m) _ _ m
+      (made_one (Fields (message_fields pool m)) (λ p. p.message) (fields (message_fields pool m))) (any_one at Beside beside m ms)
 
   array_one : (at : ℕ) (js : Elements) (Listed : Kind → Read Datums → Type 0) → ((k : Kind) → IsOne (Listed k)) → (m : ℕ) → IsOne (OfArray pool rules at js Listed m)
   array_one at js Listed listed m =
-      form_one at (array js) (λ key e r. NoValue at r) Listed (λ key e. none_one at) listed (well_known pool m) (λ r. NoValue at r) m (none_one at)
+      form_one at (array js) (λ key e r. NoValue at r) Listed (λ key e. none_one at) listed (well_known pool m) (λ r. NoValue at r) (λ r. NoValue at r) m (none_one at)
+      (none_one at)
 
   leaf_one : (at : ℕ) (j : Json) (m : ℕ) → IsOne (OfLeaf pool rules at j m)
   leaf_one at j m =
-      form_one at j (λ key e r. NoValue at r) (λ e r. NoValue at r) (λ key e. none_one at) (λ e. none_one at) (well_known pool m) (λ r. NoValue at r) m (none_one at)
+      form_one at j (λ key e r. NoValue at r) (λ e r. NoValue at r) (λ key e. none_one at) (λ e. none_one at) (well_known pool m) (λ r. NoValue at r)
+      (λ r. NoValue at r) m (none_one at) (none_one at)
 
   mutual
     pub members_one : (all : List FieldView) (p : Parts) (ms : Members) → IsOne (ReadsMembers pool rules all p ms)
     members_one all p no_members o q a b = a ∙ sym b
     members_one all p (member at name value_at j ms) o q a b =
         then_one _ _ (field_one (field_meant name all) at j _ p (λ s k. content_one s k value_at j)) (λ x. members_one all x ms) o q a b
+
+    pub beside_one : (meant : List ℕ → Option FieldView) (p : Parts) (ms : Members) → IsOne (ReadsBeside pool rules meant p ms)
+    beside_one meant p no_members o q a b = a ∙ sym b
+    beside_one meant p (member at name value_at j ms) o q a b =
+        then_one _ _ (unless_one (is_tag name) p _ (field_one (meant name) at j _ p (λ s k. content_one s k value_at j))) (λ x. beside_one meant x ms) o q a b
 
     pub entries_one : (key k : Kind) (es : Entries) (ms : Members) → IsOne (ReadsEntries pool rules key k es ms)
     entries_one key k es no_members o q a b = a ∙ sym b
@@ -167,7 +218,7 @@ module _ (pool : Types) (rules : JsonRules) where
 
     pub value_one : (k : Kind) (at : ℕ) (j : Json) → IsOne (ReadsValue pool rules k at j)
     value_one k at (object ms) o q a b =
-        single_one k at (object ms) _ (object_one at ms _ _ (λ all. members_one all nothing ms) (λ key e. entries_one key e no_entries ms)) o q a b
+        single_one k at (object ms) _ (object_one at ms _ _ _ (λ all. members_one all nothing ms) (λ meant. beside_one meant nothing ms) (λ key e. entries_one key e no_entries ms)) o q a b
     value_one k at (array js) o q a b = single_one k at (array js) _ (array_one at js _ (λ e. elements_one e no_datums js)) o q a b
     value_one k at null o q a b = single_one k at null _ (leaf_one at null) o q a b
     value_one k at (boolean c) o q a b = single_one k at (boolean c) _ (leaf_one at (boolean c)) o q a b
@@ -176,7 +227,7 @@ module _ (pool : Types) (rules : JsonRules) where
 
     pub content_one : (s : Shape) (k : Kind) (at : ℕ) (j : Json) → IsOne (ReadsContent pool rules s k at j)
     content_one s k at (object ms) o q a b =
-        shape_one s _ _ _ (single_one k at (object ms) _ (object_one at ms _ _ (λ all. members_one all nothing ms) (λ key e. entries_one key e no_entries ms)))
+        shape_one s _ _ _ (single_one k at (object ms) _ (object_one at ms _ _ _ (λ all. members_one all nothing ms) (λ meant. beside_one meant nothing ms) (λ key e. entries_one key e no_entries ms)))
         (none_one at) (λ key. entries_one key k no_entries ms) o q a b
     content_one s k at (array js) o q a b =
         shape_one s _ _ _ (single_one k at (array js) _ (array_one at js _ (λ e. elements_one e no_datums js))) (elements_one k no_datums js) (λ key. none_one at)
@@ -187,7 +238,8 @@ module _ (pool : Types) (rules : JsonRules) where
     content_one s k at (string t) o q a b = shape_one s _ _ _ (single_one k at (string t) _ (leaf_one at (string t))) (none_one at) (λ key. none_one at) o q a b
 
   pub message_one : (m at : ℕ) (j : Json) → IsOne (ReadsMessage pool rules m at j)
-  message_one m at (object ms) = object_one at ms _ _ (λ all. members_one all nothing ms) (λ key e. entries_one key e no_entries ms) m
+  message_one m at (object ms) =
+      object_one at ms _ _ _ (λ all. members_one all nothing ms) (λ meant. beside_one meant nothing ms) (λ key e. entries_one key e no_entries ms) m
   message_one m at (array js) = array_one at js _ (λ e. elements_one e no_datums js) m
   message_one m at null = leaf_one at null m
   message_one m at (boolean b) = leaf_one at (boolean b) m

@@ -1,5 +1,5 @@
 -- Messages of the types that have a form of their own, by how the parts of the JSON value are read (ProtoJSON format, "JSON representation").
-use Rattle.std.specs.Prelude.{◌≡◌, ℕ, List, Bool, true, false, Option, Some, None, Ok, Err}
+use Rattle.std.specs.Prelude.{◌≡◌, ℕ, List, Bool, true, false, Option, Some, None}
 use Rattle.pb_schema.specs.declared.types.Kind.{Kind}
 use Rattle.pb_schema.specs.declared.types.Shape.{Shape}
 use Rattle.pb_schema.specs.Types.{FieldView, Types, field_numbered, message_fields}
@@ -13,15 +13,8 @@ use Rattle.pb_json_scalars.specs.Clock.{timestamp, duration}
 use Rattle.pb_json_scalars.specs.Paths.{mask_paths}
 use Rattle.pb_json_text.specs.Json.{Json}
 use Rattle.pb_json_read.specs.declared.rules.JsonRules.{JsonRules}
-use Rattle.pb_json_read.specs.declared.error.JsonReadCause.TheVariants.{BadValue}
-use Rattle.pb_json_read.specs.Faults.{fault}
 use Rattle.pb_json_read.specs.WellKnown.{is_sole, field_for, string_meant, time_fields, paths_field, texts}
-use Rattle.pb_json_read.specs.Steps.{Read, Made, NoValue, Parts, nothing, with_held, ReadsScalar, ReadsSingle, ReadsShape}
-
--- what is given, or no value of the field
-abbrev pub given : {A : Type 0} → ℕ → Option A → Read A
-given at None = Err (fault at BadValue)
-given at (Some x) = Ok x
+use Rattle.pb_json_read.specs.Steps.{Read, Made, NoValue, given, Parts, nothing, with_held, ReadsScalar, ReadsSingle, ReadsShape}
 
 -- TIMES AND FIELD MASKS
 
@@ -69,14 +62,14 @@ module _ (pool : Types) (rules : JsonRules) (at : ℕ) (j : Json) (Mapped : Kind
   abbrev pub ReadsDynamic : ℕ → Read Message → Type 0
   ReadsDynamic m o = ReadsAlone (field_numbered (field_for j) (message_fields pool m)) at ReadsDeep o
 
-  -- a message of a form
-  abbrev pub ReadsForm : WellKnown → (Read Message → Type 0) → ℕ → Read Message → Type 0
-  ReadsForm Other Plain m o = Plain o
-  ReadsForm Wrapper Plain m o = ReadsSole m o
-  ReadsForm Struct Plain m o = ReadsSole m o
-  ReadsForm ListValue Plain m o = ReadsSole m o
-  ReadsForm Value Plain m o = ReadsDynamic m o
-  ReadsForm Timestamp Plain m o = o ≡ given at (time_message (time_fields (message_fields pool m)) (string_meant timestamp j))
-  ReadsForm Duration Plain m o = o ≡ given at (time_message (time_fields (message_fields pool m)) (string_meant duration j))
-  ReadsForm FieldMask Plain m o = o ≡ given at (mask_message (paths_field (message_fields pool m)) (string_meant mask_paths j))
-  ReadsForm Any Plain m o = NoValue at o
+  -- a message of a form, where one of no form and an Any are read so
+  abbrev pub ReadsForm : WellKnown → (Read Message → Type 0) → (Read Message → Type 0) → ℕ → Read Message → Type 0
+  ReadsForm Other Plain Tagged m o = Plain o
+  ReadsForm Wrapper Plain Tagged m o = ReadsSole m o
+  ReadsForm Struct Plain Tagged m o = ReadsSole m o
+  ReadsForm ListValue Plain Tagged m o = ReadsSole m o
+  ReadsForm Value Plain Tagged m o = ReadsDynamic m o
+  ReadsForm Timestamp Plain Tagged m o = o ≡ given at (time_message (time_fields (message_fields pool m)) (string_meant timestamp j))
+  ReadsForm Duration Plain Tagged m o = o ≡ given at (time_message (time_fields (message_fields pool m)) (string_meant duration j))
+  ReadsForm FieldMask Plain Tagged m o = o ≡ given at (mask_message (paths_field (message_fields pool m)) (string_meant mask_paths j))
+  ReadsForm Any Plain Tagged m o = Tagged o

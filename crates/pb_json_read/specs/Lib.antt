@@ -8,6 +8,7 @@ pub mod Values
 pub mod Keys
 -- ---- messages
 pub mod Steps
+pub mod Anys
 pub mod Forms
 pub mod Reads
 pub mod Answers

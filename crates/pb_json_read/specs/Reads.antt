@@ -10,20 +10,25 @@ use Rattle.pb_json_text.specs.Json.{Json, null, boolean, number, string, array, 
 use Rattle.pb_json_text.specs.View.{Named}
 use Rattle.pb_json_read.specs.declared.rules.JsonRules.{JsonRules}
 use Rattle.pb_json_read.specs.Names.{field_meant}
-use Rattle.pb_json_read.specs.Steps.{Read, Then, Made, NoValue, Parts, nothing, with_datum, ReadsSingle, ReadsShape, ReadsHeld, ReadsField, ReadsUnder, ReadsEntry}
+use Rattle.pb_json_read.specs.Anys.{is_tag, ReadsAny, ReadsEncoded, ReadsInAny}
+use Rattle.pb_json_read.specs.Steps.{Read, Then, Made, NoValue, Parts, nothing, with_datum, Unless}
+use Rattle.pb_json_read.specs.Steps.{ReadsSingle, ReadsShape, ReadsHeld, ReadsField, ReadsUnder, ReadsEntry}
 use Rattle.pb_json_read.specs.Forms.{ReadsForm, ReadsFlat, ReadsSole, ReadsNested, ReadsDeep, ReadsDynamic}
 
 -- an object, an array and another value as a message of a type, by how their parts are read
-abbrev pub OfObject : Types → JsonRules → ℕ → Members → (List FieldView → Read Parts → Type 0) → (Kind → Kind → Read Entries → Type 0) → ℕ → Read Message → Type 0
-OfObject pool rules at ms Fields Mapped m o =
-    ReadsForm pool rules at (object ms) Mapped (λ e r. NoValue at r) (well_known pool m) (λ r. Made (Fields (message_fields pool m)) (λ p. p.message) r) m o
+abbrev pub OfObject : Types → JsonRules → ℕ → Members → (List FieldView → Read Parts → Type 0) → ((List ℕ → Option FieldView) → Read Parts → Type 0)
+    → (Kind → Kind → Read Entries → Type 0) → ℕ → Read Message → Type 0
+OfObject pool rules at ms Fields Beside Mapped m o =
+    ReadsForm pool rules at (object ms) Mapped (λ e r. NoValue at r) (well_known pool m) (λ r. Made (Fields (message_fields pool m)) (λ p. p.message) r)
+    (λ r. ReadsAny pool at Beside m ms r) m o
 
 abbrev pub OfArray : Types → JsonRules → ℕ → Elements → (Kind → Read Datums → Type 0) → ℕ → Read Message → Type 0
 OfArray pool rules at js Listed m o =
-    ReadsForm pool rules at (array js) (λ key e r. NoValue at r) Listed (well_known pool m) (λ r. NoValue at r) m o
+    ReadsForm pool rules at (array js) (λ key e r. NoValue at r) Listed (well_known pool m) (λ r. NoValue at r) (λ r. NoValue at r) m o
 
 abbrev pub OfLeaf : Types → JsonRules → ℕ → Json → ℕ → Read Message → Type 0
-OfLeaf pool rules at j m o = ReadsForm pool rules at j (λ key e r. NoValue at r) (λ e r. NoValue at r) (well_known pool m) (λ r. NoValue at r) m o
+OfLeaf pool rules at j m o =
+    ReadsForm pool rules at j (λ key e r. NoValue at r) (λ e r. NoValue at r) (well_known pool m) (λ r. NoValue at r) (λ r. NoValue at r) m o
 
 -- VALUES
 
@@ -34,6 +39,13 @@ module _ (pool : Types) (rules : JsonRules) where
     ReadsMembers all p no_members o = o ≡ Ok p
     ReadsMembers all p (member at name value_at j ms) o =
         Then (ReadsField pool rules (field_meant name all) at j (λ s k r. ReadsContent s k value_at j r) p) (λ q r. ReadsMembers all q ms r) o
+
+    -- the members beside `@type`, by which fields their names mean
+    pub ReadsBeside : (List ℕ → Option FieldView) → Parts → Members → Read Parts → Type 0
+    ReadsBeside meant p no_members o = o ≡ Ok p
+    ReadsBeside meant p (member at name value_at j ms) o =
+        Then (Unless (is_tag name) p (λ r. ReadsField pool rules (meant name) at j (λ s k q. ReadsContent s k value_at j q) p r))
+        (λ q r. ReadsBeside meant q ms r) o
 
     -- the entries of a map
     pub ReadsEntries : Kind → Kind → Entries → Members → Read Entries → Type 0
@@ -50,7 +62,8 @@ module _ (pool : Types) (rules : JsonRules) where
     pub ReadsValue : Kind → ℕ → Json → Read (Option Datum) → Type 0
     ReadsValue k at (object ms) o =
         ReadsSingle pool rules k at (object ms)
-        (OfObject pool rules at ms (λ all r. ReadsMembers all nothing ms r) (λ key e r. ReadsEntries key e no_entries ms r)) o
+        (OfObject pool rules at ms (λ all r. ReadsMembers all nothing ms r) (λ meant r. ReadsBeside meant nothing ms r)
+        (λ key e r. ReadsEntries key e no_entries ms r)) o
     ReadsValue k at (array js) o = ReadsSingle pool rules k at (array js) (OfArray pool rules at js (λ e r. ReadsElements e no_datums js r)) o
     ReadsValue k at null o = ReadsSingle pool rules k at null (OfLeaf pool rules at null) o
     ReadsValue k at (boolean b) o = ReadsSingle pool rules k at (boolean b) (OfLeaf pool rules at (boolean b)) o
@@ -61,7 +74,8 @@ module _ (pool : Types) (rules : JsonRules) where
     pub ReadsContent : Shape → Kind → ℕ → Json → Read (Option Holding) → Type 0
     ReadsContent s k at (object ms) o =
         ReadsShape s (ReadsSingle pool rules k at (object ms)
-        (OfObject pool rules at ms (λ all r. ReadsMembers all nothing ms r) (λ key e r. ReadsEntries key e no_entries ms r)))
+        (OfObject pool rules at ms (λ all r. ReadsMembers all nothing ms r) (λ meant r. ReadsBeside meant nothing ms r)
+        (λ key e r. ReadsEntries key e no_entries ms r)))
         (NoValue at) (λ key r. ReadsEntries key k no_entries ms r) o
     ReadsContent s k at (array js) o =
         ReadsShape s (ReadsSingle pool rules k at (array js) (OfArray pool rules at js (λ e r. ReadsElements e no_datums js r)))
@@ -100,6 +114,25 @@ module _ (pool : Types) (rules : JsonRules) where
   ReadsObject m at (string s) o = NoValue at o
   ReadsObject m at (array js) o = NoValue at o
 
+  -- what these members of an object, which begins at the byte, are as the message in an Any of a type, as its bytes, and as an Any
+  abbrev pub InAnyOf : ℕ → Members → ℕ → Read Message → Type 0
+  InAnyOf at ms = ReadsInAny pool at (λ meant r. ReadsBeside meant nothing ms r)
+
+  abbrev pub BytesOf : ℕ → Members → ℕ → Read (List ℕ) → Type 0
+  BytesOf at ms = ReadsEncoded pool at (λ meant r. ReadsBeside meant nothing ms r)
+
+  abbrev pub AnyOf : ℕ → Members → ℕ → Read Message → Type 0
+  AnyOf at ms m o = ReadsAny pool at (λ meant r. ReadsBeside meant nothing ms r) m ms o
+
+  -- a message of type `google.protobuf.Any`
+  abbrev pub ReadsAnyObject : ℕ → ℕ → Json → Read Message → Type 0
+  ReadsAnyObject m at (object ms) o = AnyOf at ms m o
+  ReadsAnyObject m at null o = NoValue at o
+  ReadsAnyObject m at (boolean b) o = NoValue at o
+  ReadsAnyObject m at (number s) o = NoValue at o
+  ReadsAnyObject m at (string s) o = NoValue at o
+  ReadsAnyObject m at (array js) o = NoValue at o
+
   -- what the parts of a form are at a value
   abbrev pub FlatOf : ℕ → Json → Shape → Kind → Read (Option Holding) → Type 0
   FlatOf at j = ReadsFlat pool rules at j (λ key e r. ReadsMap key e at j r) (λ e r. ReadsList e at j r)
@@ -119,11 +152,16 @@ module _ (pool : Types) (rules : JsonRules) where
   -- a message of a type
   abbrev pub ReadsMessage : ℕ → ℕ → Json → Read Message → Type 0
   ReadsMessage m at j o =
-      ReadsForm pool rules at j (λ key e r. ReadsMap key e at j r) (λ e r. ReadsList e at j r) (well_known pool m) (λ r. ReadsObject m at j r) m o
+      ReadsForm pool rules at j (λ key e r. ReadsMap key e at j r) (λ e r. ReadsList e at j r) (well_known pool m) (λ r. ReadsObject m at j r)
+      (λ r. ReadsAnyObject m at j r) m o
 
   -- one member of each: where its name begins, the name, and its value
   abbrev pub ReadsMember : Option FieldView → Named → Parts → Read Parts → Type 0
   ReadsMember f m p o = ReadsField pool rules f m.0 m.2.1 (λ s k r. ReadsContent s k m.2.0 m.2.1 r) p o
+
+  -- the same beside `@type`
+  abbrev pub ReadsMemberBeside : (List ℕ → Option FieldView) → Named → Parts → Read Parts → Type 0
+  ReadsMemberBeside meant m p o = Unless (is_tag m.1) p (λ r. ReadsMember (meant m.1) m p r) o
 
   abbrev pub ReadsMemberHeld : FieldView → Named → Parts → Read Parts → Type 0
   ReadsMemberHeld f m p o = ReadsHeld f m.0 (λ s k r. ReadsContent s k m.2.0 m.2.1 r) false p o

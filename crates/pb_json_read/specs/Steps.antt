@@ -48,6 +48,11 @@ Made First f o = Then First (λ x r. r ≡ Ok (f x)) o
 abbrev pub NoValue : {A : Type 0} → ℕ → Read A → Type 0
 NoValue at o = o ≡ Err (fault at BadValue)
 
+-- what is given, or no value of the field
+abbrev pub given : {A : Type 0} → ℕ → Option A → Read A
+given at None = Err (fault at BadValue)
+given at (Some x) = Ok x
+
 -- SINGLE VALUES
 
 abbrev pub is_string : Json → Bool
@@ -142,6 +147,11 @@ with_oneof (shape.Map _) at p = Ok p
 abbrev pub with_held : Shape → ℕ → Option Holding → Parts → Parts
 with_held s n None p = p
 with_held s n (Some h) p = if is_absence s h then p else record p { message = with_fields p.message (put_field n h (fields_of p.message)) }
+
+-- the members so far, where one is passed over
+abbrev pub Unless : Bool → Parts → (Read Parts → Type 0) → Read Parts → Type 0
+Unless true p First o = o ≡ Ok p
+Unless false p First o = First o
 
 -- a value of a field, read so
 abbrev pub ReadsHeld : FieldView → ℕ → (Shape → Kind → Read (Option Holding) → Type 0) → Bool → Parts → Read Parts → Type 0

@@ -19,17 +19,17 @@ pub enum JsonReadCause {
     UnexpectedEnd,
     /// From this byte on the bytes are not UTF-8.
     BadUtf8,
-    /// An array or object begins here, and nests too deep; or the whole message does.
+    /// An array or object begins here, and nests too deep; or the message does that it is, the whole one or that in a `google.protobuf.Any`.
     TooDeep,
     /// A member has a name that no field has.
     UnknownName,
-    /// A second member names the same field, or the same key of a map.
+    /// A second member names the same field, the same key of a map, or the type of a `google.protobuf.Any`.
     RepeatedName,
     /// A second member sets a field of the same oneof.
     SecondMember,
     /// A name is not a key of the map.
     BadKey,
-    /// A value is not one of the field.
+    /// A value is not one of the field, or names no type of the pool where it is the type of a `google.protobuf.Any`.
     BadValue,
     OutOfMemory,
 }
@@ -60,6 +60,13 @@ impl JsonReadError {
             cause: JsonReadCause::BadValue,
         }
     }
+}
+
+/// What is refused at this byte.
+pub(crate) fn refused(byte: usize, cause: JsonReadCause) -> JsonReadError
+    ensures { result ≡ fault byte cause }
+{
+    JsonReadError { byte, cause }
 }
 
 impl JsonReadCause {

@@ -1,6 +1,7 @@
 //! Types with a form of their own that is a string: times and field masks.
 
 ghost use Rattle.std.specs.Prelude.{◌≡◌, ◌<◌, ◌&&◌, [], length, map, option_map, pos, string_bytes, Some, IfErr, IfOk, OnOk};
+ghost use Rattle.pb_json.specs.WellKnown.{is_plain};
 ghost use Rattle.pb_json_scalars.specs.Clock.{duration, timestamp};
 ghost use Rattle.pb_json_scalars.specs.Paths.{mask_paths};
 ghost use Rattle.pb_json_text.specs.View.{form_view};
@@ -12,8 +13,8 @@ ghost use Rattle.pb_value.specs.Judge.{has_shape, is_scalar_of};
 ghost use Rattle.pb_value.specs.View.{body_view, values_view};
 ghost use Rattle.pb_json_read.specs.Answers.{Answers};
 ghost use Rattle.pb_json_read.specs.Faults.{out_of_memory};
-ghost use Rattle.pb_json_read.specs.Forms.{given, mask_message, time_message, time_parts};
-ghost use Rattle.pb_json_read.specs.Steps.{nothing, with_held};
+ghost use Rattle.pb_json_read.specs.Forms.{mask_message, time_message, time_parts};
+ghost use Rattle.pb_json_read.specs.Steps.{given, nothing, with_held};
 ghost use Rattle.pb_json_read.specs.WellKnown.{both_times, field_for, is_dynamic, is_sole, paths_field, string_meant, takes, texts, time_fields};
 
 use crate::context::Context;
@@ -25,6 +26,13 @@ use pb_json_text::{JsonForm, JsonValue};
 use pb_schema::{Field, Kind, MessageId, Pool, Shape};
 use pb_value::{Body, Content, Value};
 use std::alloc::{AllocError, Global};
+
+/// Whether a type has no form of its own.
+pub(crate) fn is_plain(form: WellKnown) -> bool
+    ensures { result ≡ is_plain form }
+{
+    matches!(form, WellKnown::Other)
+}
 
 /// Whether a form is that of `google.protobuf.Value`.
 pub(crate) fn is_dynamic(form: WellKnown) -> bool
@@ -179,7 +187,7 @@ fn put_time(
 }
 
 /// Whether a field holds one value.
-fn is_single(shape: Shape) -> bool
+pub(crate) fn is_single(shape: Shape) -> bool
     ensures { (x : Datum) → has_shape shape (one x) ≡ result }
 {
     match shape {

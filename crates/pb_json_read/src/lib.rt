@@ -1,15 +1,27 @@
 //! Messages from JSON: the proto3 JSON mapping, read.
 #![tactic(auto)]
 
+mod absent;
+mod anys;
+mod contents;
 mod context;
+mod depth;
+mod dynamic;
+mod encoded;
 mod error;
 mod forms;
 mod keys;
+mod lists;
+mod maps;
+mod messages;
 mod names;
 mod parts;
-mod reading;
+mod passing;
+mod plain;
 mod rules;
 mod scalars;
+mod sole;
+mod tags;
 mod text;
 mod values;
 

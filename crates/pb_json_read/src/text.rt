@@ -11,49 +11,17 @@ ghost use Rattle.pb_value.specs.View.{body_view};
 ghost use Rattle.pb_value.specs.WellFormed.{IsWellFormed};
 
 use crate::context::Context;
-use crate::error::{JsonReadCause, JsonReadError};
-use crate::reading::read_message;
+use crate::depth::within_depth;
+use crate::error::JsonReadError;
 use crate::rules::JsonRules;
 use pb_json_text::read_value;
 use pb_schema::{MessageId, Pool};
-use pb_value::{Body, DynamicMessage, ValueError};
+use pb_value::DynamicMessage;
 use std::alloc::Global;
-
-/// The fault of a message that is not well formed; its text begins at this byte.
-fn not_well_formed(error: ValueError, at: usize) -> JsonReadError
-    ensures { ((error ≡ Memory) × (result ≡ out_of_memory)) ⊎ ((error ≢ Memory) × (result ≡ fault at TooDeep)) }
-{
-    match error {
-        ValueError::Memory => JsonReadError::out_of_memory(),
-        _ => JsonReadError {
-            byte: at,
-            cause: JsonReadCause::TooDeep,
-        },
-    }
-}
-
-/// The message of a body, unless it nests too deep; its text begins at this byte.
-fn within_depth<'p>(
-    alloc: Global,
-    pool: &'p Pool,
-    message_type: MessageId,
-    body: Body,
-    at: usize,
-) -> Result<DynamicMessage<'p>, JsonReadError>
-    requires { message_type.0 < length pool.now.messages }
-    ensures made { IfOk result (λ m. m ≡ record { pool = pool.now; kind = message_type.0; body = body_view body }) }
-    ensures well_formed { IfOk result (λ m. IsWellFormed pool.now message_type.0 (body_view body)) }
-    ensures refused { IfErr result (λ e. (e ≡ out_of_memory) ⊎ ((¬ IsWellFormed pool.now message_type.0 (body_view body)) × (e ≡ fault at TooDeep))) }
-{
-    match DynamicMessage::from_body(alloc, pool, message_type, body) {
-        Ok(message) => Ok(message),
-        Err(error) => Err(not_well_formed(error, at)),
-    }
-}
 
 /// Reads a message of a type from a JSON text, by the proto3 JSON mapping (ProtoJSON format, "JSON representation").
 ///
-/// Fields are named in lowerCamelCase or as declared; null says that a field is absent. The well-known types are read as other messages are.
+/// Fields are named in lowerCamelCase or as declared; null says that a field is absent. The well-known types are read from their own forms.
 /// The fault is the first in the order of the text: its byte, counted from 0, is where the name or the value begins that is refused. Bytes that are
 /// no JSON text are refused before all else, and a message that nests more than 100 levels after all else.
 pub fn read_json<'p>(
@@ -76,6 +44,6 @@ pub fn read_json<'p>(
 {
     let value = read_value(alloc, bytes)?;
     let context = Context { alloc, pool, rules };
-    let body = read_message(&context, message_type, &value)?;
+    let body = context.read_message(message_type, &value)?;
     within_depth(alloc, pool, message_type, body, value.at)
 }

@@ -58,6 +58,30 @@ const ROWS: &str = "
 {\"i32Value\":{\"value\":1}} | 12 BadValue
 {\"emptyValue\":[]} | 14 BadValue
 {\"emptyValue\":{\"a\":1}} | 15 UnknownName
+{\"any\":[]} | 7 BadValue
+{\"any\":\"x\"} | 7 BadValue
+{\"any\":{\"intA\":1}} | 7 BadValue
+{\"any\":{\"@type\":1}} | 16 BadValue
+{\"any\":{\"@type\":null}} | 16 BadValue
+{\"any\":{\"@type\":\"\"}} | 16 BadValue
+{\"any\":{\"@type\":\"\",\"value\":\"\"}} | 16 BadValue
+{\"any\":{\"@type\":\"t.M\",\"intA\":1}} | 16 BadValue
+{\"any\":{\"intA\":1,\"@type\":\"/t.None\"}} | 25 BadValue
+{\"any\":{\"intA\":\"x\",\"@type\":\"/t.None\"}} | 27 BadValue
+{\"any\":{\"@type\":\"/t.M\",\"@type\":\"/t.M\"}} | 23 RepeatedName
+{\"any\":{\"@type\":\"/t.None\",\"@type\":\"/t.M\"}} | 26 RepeatedName
+{\"any\":{\"@type\":\"/t.M\",\"nope\":1}} | 23 UnknownName
+{\"any\":{\"@type\":\"/t.M\",\"value\":{}}} | 23 UnknownName
+{\"any\":{\"intA\":1,\"@type\":\"/t.M\",\"int_a\":1}} | 32 RepeatedName
+{\"any\":{\"pickX\":1,\"@type\":\"/t.M\",\"pickY\":{}}} | 33 SecondMember
+{\"any\":{\"@type\":\"/t.M\",\"innerC\":{\"intA\":\"x\"}}} | 40 BadValue
+{\"any\":{\"@type\":\"/t.M\",\"any\":{\"@type\":\"/t.M\",\"intA\":\"x\"}}} | 52 BadValue
+{\"any\":{\"@type\":\"/google.protobuf.Duration\"}} | 7 BadValue
+{\"any\":{\"@type\":\"/google.protobuf.Duration\",\"value\":null}} | 7 BadValue
+{\"any\":{\"@type\":\"/google.protobuf.Duration\",\"value\":1}} | 52 BadValue
+{\"any\":{\"@type\":\"/google.protobuf.Duration\",\"seconds\":1}} | 44 UnknownName
+{\"any\":{\"value\":\"1s\",\"@type\":\"/google.protobuf.Duration\",\"value\":\"1s\"}} | 57 RepeatedName
+{\"any\":{\"@type\":\"/google.protobuf.Empty\",\"value\":{}}} | 41 UnknownName
 ";
 
 /// What a text is refused with.

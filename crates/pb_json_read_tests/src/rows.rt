@@ -10,7 +10,7 @@ use std::alloc::{AllocError, Global};
 use std::test::Fail;
 
 /// A row: a text, and the bytes that Python's protobuf 3.21 writes of the message of type `t.M` that it reads. Those of the types with a form of
-/// their own are what libprotobuf 3.21 reads, in canonical form.
+/// their own are what libprotobuf 3.21 reads, in canonical form; those of an Any are what protoc 3.21 writes of it in the text format.
 const ROWS: &str = "
 {} | 
  {\"intA\":1}  | 0801
@@ -62,6 +62,23 @@ const ROWS: &str = "
 {\"mask\":\"a,fooBar.bazQux\"} | 9202140a01610a0f666f6f5f6261722e62617a5f717578
 {\"values\":[null,1,[null],{\"a\":null}]} | a202020800a2020911000000000000f03fa2020632040a020800a2020b2a090a070a016112020800
 {\"nulls\":{\"a\":null,\"b\":\"NULL_VALUE\"}} | c202050a01611000c202050a01621000
+{\"any\":{}} | 9a0200
+{\"any\":{\"@type\":\"type.googleapis.com/t.M\"}} | 9a02190a17747970652e676f6f676c65617069732e636f6d2f742e4d
+{\"any\":{\"@type\":\"type.googleapis.com/t.M\",\"intA\":12345,\"textB\":\"x\"}} | 9a02210a17747970652e676f6f676c65617069732e636f6d2f742e4d120608b960120178
+{\"any\":{\"textB\":\"x\",\"@type\":\"type.googleapis.com/t.M\",\"int_a\":12345}} | 9a02210a17747970652e676f6f676c65617069732e636f6d2f742e4d120608b960120178
+{\"any\":{\"textB\":\"x\",\"intA\":\"12345\",\"@type\":\"type.googleapis.com/t.M\",\"flagP\":null}} | 9a02210a17747970652e676f6f676c65617069732e636f6d2f742e4d120608b960120178
+{\"any\":{\"@type\":\"type.googleapis.com/t.M\",\"any\":{\"intA\":12345,\"@type\":\"type.googleapis.com/t.M\"}}} | 9a023c0a17747970652e676f6f676c65617069732e636f6d2f742e4d12219a021e0a17747970652e676f6f676c65617069732e636f6d2f742e4d120308b960
+{\"any\":{\"value\":{\"@type\":\"type.googleapis.com/t.M\",\"intA\":12345},\"@type\":\"type.googleapis.com/google.protobuf.Any\"}} | 9a02490a27747970652e676f6f676c65617069732e636f6d2f676f6f676c652e70726f746f6275662e416e79121e0a17747970652e676f6f676c65617069732e636f6d2f742e4d120308b960
+{\"any\":{\"@type\":\"type.googleapis.com/google.protobuf.Any\",\"value\":{}}} | 9a02290a27747970652e676f6f676c65617069732e636f6d2f676f6f676c652e70726f746f6275662e416e79
+{\"any\":{\"@type\":\"type.googleapis.com/google.protobuf.Timestamp\",\"value\":\"1970-01-01T00:00:01.000000002Z\"}} | 9a02350a2d747970652e676f6f676c65617069732e636f6d2f676f6f676c652e70726f746f6275662e54696d657374616d70120408011002
+{\"any\":{\"@type\":\"type.googleapis.com/google.protobuf.Duration\",\"value\":\"-1.5s\"}} | 9a02460a2c747970652e676f6f676c65617069732e636f6d2f676f6f676c652e70726f746f6275662e4475726174696f6e121608ffffffffffffffffff011080b6ca91feffffffff01
+{\"any\":{\"@type\":\"type.googleapis.com/google.protobuf.FieldMask\",\"value\":\"foo,barBaz\"}} | 9a023f0a2d747970652e676f6f676c65617069732e636f6d2f676f6f676c652e70726f746f6275662e4669656c644d61736b120e0a03666f6f0a076261725f62617a
+{\"any\":{\"@type\":\"type.googleapis.com/google.protobuf.Int32Value\",\"value\":7}} | 9a02340a2e747970652e676f6f676c65617069732e636f6d2f676f6f676c652e70726f746f6275662e496e74333256616c756512020807
+{\"any\":{\"@type\":\"type.googleapis.com/google.protobuf.Struct\",\"value\":{\"foo\":1}}} | 9a02400a2a747970652e676f6f676c65617069732e636f6d2f676f6f676c652e70726f746f6275662e53747275637412120a100a03666f6f120911000000000000f03f
+{\"any\":{\"@type\":\"type.googleapis.com/google.protobuf.Value\",\"value\":{\"a\":1}}} | 9a023f0a29747970652e676f6f676c65617069732e636f6d2f676f6f676c652e70726f746f6275662e56616c756512122a100a0e0a0161120911000000000000f03f
+{\"any\":{\"@type\":\"type.googleapis.com/google.protobuf.Value\",\"value\":null}} | 9a022f0a29747970652e676f6f676c65617069732e636f6d2f676f6f676c652e70726f746f6275662e56616c756512020800
+{\"any\":{\"@type\":\"type.googleapis.com/google.protobuf.Empty\"}} | 9a022b0a29747970652e676f6f676c65617069732e636f6d2f676f6f676c652e70726f746f6275662e456d707479
+{\"any\":{\"@type\":\"a.b/c/t.M\",\"intA\":5}} | 9a020f0a09612e622f632f742e4d12020805
 ";
 
 /// Whether a text is read as a message with this encoding.
