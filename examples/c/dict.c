@@ -1,65 +1,32 @@
-/* dict SET TYPE FILE: prints the message that a file holds as names and values, one a line: a walk over its fields, lists, maps and messages. Names, keys and
- * strings of 255 bytes and more are cut off. */
+/* dict SET TYPE FILE: prints the message that a file holds as JSON, a member a line, and fails where the message of this JSON is another than the one
+ * that was read. Unknown records are no members, so they are dropped first. */
 #include "common.h"
 
-#include <inttypes.h>
-#include <string.h>
+#include <stdlib.h>
 
-static struct mb_pool pool;
-static struct mb_message message;
-static struct mb_value place[256];
-static struct mb_bytes keys[256];
-static size_t len, keys_len;
-
-static void cut(char *text, uint64_t size) { text[size < 255 ? size : 255] = '\0'; }
-
-/* Prints what is at the place and one step more, if anything is, under this name. */
-static void walk(struct mb_value step, int depth, const char *name)
+/* The JSON of a message, in a buffer that grows where it was too small. */
+static uint32_t to_json(struct mb_message *message, struct buffer *json)
 {
-    struct mb_value value, key;
-    struct mb_field field;
-    char text[256] = "";
-    size_t size;
-    double number;
+    uint32_t path[MB_MAX_STEPS], answer;
+    size_t steps;
 
-    place[len++] = step;
-    if (mb_message_get(&message, place + 1, len - 1, keys, keys_len, &value) == MB_DONE) {
-        printf("%*s%s:", 2 * depth, "", name);
-        if (value.kind == MB_STRING) {
-            mb_message_read(&message, place + 1, len - 1, keys, keys_len, (uint8_t *)text, 255, &size);
-            printf(" \"%s\"\n", text);
-        } else if (value.kind == MB_DOUBLE) {
-            memcpy(&number, &value.number, sizeof number);
-            printf(" %.17g\n", number);
-        } else if (value.kind < MB_LIST && value.kind != MB_MESSAGE) {
-            printf(" %" PRId64 "\n", (int64_t)value.number);
-        } else {
-            printf("\n");
-        }
-        for (size_t i = 0; value.kind == MB_LIST && i < value.number; i++)
-            walk((struct mb_value){MB_INDEX, i}, depth + 1, "-");
-        for (size_t i = 0; value.kind == MB_MESSAGE && mb_pool_field_at(&pool, (uint32_t)value.number, i, &field, &(uint32_t){0}, (uint8_t *)text, 255, &size) == MB_DONE; i++) {
-            cut(text, size);
-            walk((struct mb_value){MB_FIELD, field.number}, depth + 1, text);
-        }
-        for (size_t i = 0; value.kind == MB_MAP && mb_message_key(&message, place + 1, len - 1, keys, keys_len, i, &key, (uint8_t *)text, 255) == MB_DONE; i++) {
-            if (key.kind == MB_STRING) {
-                cut(text, key.number);
-                keys[keys_len] = (struct mb_bytes){(uint8_t *)text, key.number < 255 ? key.number : 255};
-                walk((struct mb_value){MB_STRING, keys_len++}, depth + 1, text);
-                keys_len--;
-            } else {
-                snprintf(text, sizeof text, "%" PRId64, (int64_t)key.number);
-                walk(key, depth + 1, text);
-            }
-        }
-    }
-    len--;
+    do {
+        grow(json, json->len + 256);
+        answer = mb_message_json(message, true, true, json->bytes, json->room, &json->len, path, MB_MAX_STEPS, &steps);
+    } while (answer == MB_DONE && json->len > json->room);
+    if (answer >= MB_JSON_NO_KIND && answer <= MB_JSON_UNSUPPORTED)
+        print_json_refusal(answer, path, steps);
+    return answer;
 }
 
 int main(int argc, char **argv)
 {
+    struct mb_pool pool = {0};
+    struct mb_message message = {0}, again = {0};
+    struct buffer json = {0};
     struct report report;
+    uint32_t equal = 0;
+    size_t byte;
 
     if (argc != 4 || mb_interface() != MB_INTERFACE)
         return fprintf(stderr, "usage: dict SET TYPE FILE\n"), 2;
@@ -67,8 +34,20 @@ int main(int argc, char **argv)
     struct buffer file = read_file(argv[3]);
     uint32_t answer = mb_message_decode(&pool, type, file.bytes, file.len, MB_MAX_BYTES, MB_MAX_DEPTH, &message, &report.fault, report.path, MB_MAX_STEPS);
     if (answer == MB_DONE)
-        walk((struct mb_value){0, 0}, 0, argv[2]);
+        answer = mb_message_drop_unknown(&message, NULL, 0, NULL, 0);
+    if (answer == MB_DONE && (answer = to_json(&message, &json)) == MB_DONE) {
+        fwrite(json.bytes, 1, json.len, stdout);
+        printf("\n");
+        answer = mb_message_from_json(&pool, type, json.bytes, json.len, false, &again, &byte);
+    }
+    if (answer == MB_DONE)
+        answer = mb_message_equal(&message, &again, &equal);
+    free(json.bytes);
+    free(file.bytes);
+    mb_message_free(&again);
     mb_message_free(&message);
     mb_pool_free(&pool);
-    return answer == MB_DONE ? 0 : print_refusal(answer, &report);
+    if (answer == MB_DONE)
+        return equal == 1 ? 0 : 1;
+    return answer >= MB_JSON_NO_KIND ? 1 : print_refusal(answer, &report);
 }

@@ -22,7 +22,8 @@ use pb_wire::Limits;
 use std::alloc::Global;
 use std::sync::Arc;
 
-/// The message of the bytes, by its type's number: the bytes themselves, where they are canonical, and else the fields. Where there is none, a fault is reported, and the error is what a call answers.
+/// The message of the bytes, by its type's number: the bytes themselves, where they are canonical, and else the fields. Where there is none, a fault is
+/// reported, and the error is what a call answers.
 fn decode_message(
     alloc: Global,
     pool: &Arc<Pool>,
