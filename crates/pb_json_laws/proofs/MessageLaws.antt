@@ -33,7 +33,7 @@ use Rattle.pb_json_text.specs.Json as read
 use Rattle.pb_json_read.specs.declared.rules.JsonRules.{JsonRules}
 use Rattle.pb_json_read.specs.Forms.{ReadsForm}
 use Rattle.pb_json_read.specs.Names.{field_meant}
-use Rattle.pb_json_read.specs.Reads.{ReadsContent, ReadsElements, ReadsEntries, ReadsList, ReadsMap, ReadsMembers, ReadsMessage, ReadsObject, ReadsValue}
+use Rattle.pb_json_read.specs.Reads.{ReadsAnyObject, ReadsContent, ReadsElements, ReadsEntries, ReadsList, ReadsMap, ReadsMembers, ReadsMessage, ReadsObject, ReadsValue}
 use Rattle.pb_json_read.specs.Scalars as scalars
 use Rattle.pb_json_read.specs.Steps.{Made, Parts, ReadsEntry, ReadsField, ReadsHeld, ReadsShape, has, has_null, is_absent, is_null, takes_null, with_held, with_number, with_oneof}
 use Rattle.pb_json_read.specs.WellKnown.{is_dynamic}
@@ -447,7 +447,7 @@ module _ (pool : Types) (names : Names) (rules : JsonRules) (is_pool : IsPool po
         let known : IsBody pool m (body fs []) = subst (λ (u : _). IsBody pool m (body fs u)) none is in
         let reads = object_read m fs known covered (omega arith) at j object in (
           subst (λ (w : WellKnown). ReadsForm pool rules at j (λ key e r. ReadsMap pool rules key e at j r) (λ e r. ReadsList pool rules e at j r) w
-              (λ r. ReadsObject pool rules m at j r) m (Ok (body (fields_with_one_nan fs) us))) (sym plain)
+              (λ r. ReadsObject pool rules m at j r) (λ r. ReadsAnyObject pool rules m at j r) m (Ok (body (fields_with_one_nan fs) us))) (sym plain)
               (subst (λ (u : _). ReadsObject pool rules m at j (Ok (body (fields_with_one_nan fs) u))) (sym none) reads),
           λ null. absurd (cc (rw object.1 at null)),
         )
