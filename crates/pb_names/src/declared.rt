@@ -34,12 +34,35 @@ fn scoped(alloc: Global, scope: &str, name: &str) -> Result<String, AllocError>
     Ok(full_name)
 }
 
+/// What declarations are in: a file, the declaration at this index, and a scope.
+#[derive(Clone, Copy)]
+struct Parent<'s> {
+    file: usize,
+    index: usize,
+    scope: &'s str,
+}
+
+impl<'s> Parent<'s> {
+    ghost use Rattle.std.specs.Prelude.{◌≡◌};
+
+    /// The parent of what is inside one of its declarations, at this index, where names are in this scope.
+    fn inside<'i>(self, index: usize, scope: &'i str) -> Parent<'i>
+        ensures file { result.file ≡ self.entry.file }
+        ensures index { result.index ≡ index }
+        ensures scope { result.scope.now ≡ scope.now }
+    {
+        Parent {
+            file: self.file,
+            index,
+            scope,
+        }
+    }
+}
+
 /// Puts a declaration with its simple name and its marks at the end of the row.
 fn add<'a>(
     alloc: Global,
-    file: usize,
-    parent: usize,
-    scope: &str,
+    parent: Parent,
     name: &str,
     item: Item<'a>,
     marks: Marks,
@@ -47,13 +70,13 @@ fn add<'a>(
 ) -> Result<(), AllocError>
     requires named { name.now ≡ simple_name (item_view item) }
     requires marked { marks ≡ marks_of (item_view item) }
-    ensures { OnOk result (Adds row.old.items row.new.items (record { file = file; parent = parent; scope = scope.now; item = item_view item.entry } ∷ [])) }
+    ensures { OnOk result (Adds row.old.items row.new.items (record { file = parent.entry.file; parent = parent.entry.index; scope = parent.entry.scope.now; item = item_view item.entry } ∷ [])) }
 {
     row.push(Declaration {
-        file,
-        parent,
-        full_name: scoped(alloc, scope, name)?,
-        scope_len: scope.len(),
+        file: parent.file,
+        parent: parent.index,
+        full_name: scoped(alloc, parent.scope, name)?,
+        scope_len: parent.scope.len(),
         item,
         marks,
     })?;
@@ -62,9 +85,7 @@ fn add<'a>(
 
 fn add_fields<'a>(
     alloc: Global,
-    file: usize,
-    parent: usize,
-    scope: &str,
+    parent: Parent,
     message: &'a MessageDecl,
     fields: &'a [FieldDecl],
     marks: &[Marks],
@@ -72,21 +93,19 @@ fn add_fields<'a>(
 ) -> Result<(), AllocError>
     requires { marks.now ≡ map (λ e. marks_of (a_field (head_of (message_view message.now)) e.0 e.1)) (enumerate_from 0 (map field_view fields.now)) }
     ensures { OnOk result
-        (Adds row.old.items row.new.items (fields_of file parent scope.now (head_of (message_view message.now)) (map field_view fields.now))) }
+        (Adds row.old.items row.new.items (fields_of parent.entry.file parent.entry.index parent.entry.scope.now (head_of (message_view message.now)) (map field_view fields.now))) }
 {
     for (index, field) in fields.iter().enumerate() {
         let name = field.name.as_str();
         let item = Item::Field(message, index, field);
-        add(alloc, file, parent, scope, name, item, marks[index], row)?;
+        add(alloc, parent, name, item, marks[index], row)?;
     }
     Ok(())
 }
 
 fn add_oneofs<'a>(
     alloc: Global,
-    file: usize,
-    parent: usize,
-    scope: &str,
+    parent: Parent,
     message: &'a MessageDecl,
     oneofs: &'a [String],
     marks: &[Marks],
@@ -94,77 +113,62 @@ fn add_oneofs<'a>(
 ) -> Result<(), AllocError>
     requires { marks.now ≡ map (λ e. marks_of (a_oneof (head_of (message_view message.now)) e.0 e.1)) (enumerate_from 0 (map string_bytes oneofs.now)) }
     ensures { OnOk result
-        (Adds row.old.items row.new.items (oneofs_of file parent scope.now (head_of (message_view message.now)) (map string_bytes oneofs.now))) }
+        (Adds row.old.items row.new.items (oneofs_of parent.entry.file parent.entry.index parent.entry.scope.now (head_of (message_view message.now)) (map string_bytes oneofs.now))) }
 {
     for (index, oneof) in oneofs.iter().enumerate() {
         let name = oneof.as_str();
         let item = Item::Oneof(message, index, oneof);
-        add(alloc, file, parent, scope, name, item, marks[index], row)?;
+        add(alloc, parent, name, item, marks[index], row)?;
     }
     Ok(())
 }
 
 fn add_values<'a>(
     alloc: Global,
-    file: usize,
-    parent: usize,
-    scope: &str,
+    parent: Parent,
     entry: &'a EnumDecl,
     values: &'a [(String, i32)],
     marks: &[Marks],
     row: &mut Vec<Declaration<'a>>,
 ) -> Result<(), AllocError>
     requires { marks.now ≡ map (λ e. marks_of (a_value (enum_view entry.now) e.0 e.1)) (enumerate_from 0 (map numbered_view values.now)) }
-    ensures { OnOk result (Adds row.old.items row.new.items (values_of file parent scope.now (enum_view entry.now) (map numbered_view values.now))) }
+    ensures { OnOk result (Adds row.old.items row.new.items (values_of parent.entry.file parent.entry.index parent.entry.scope.now (enum_view entry.now) (map numbered_view values.now))) }
 {
     for (index, value) in values.iter().enumerate() {
         let name = value.0.as_str();
         let item = Item::Value(entry, index, value);
-        add(alloc, file, parent, scope, name, item, marks[index], row)?;
+        add(alloc, parent, name, item, marks[index], row)?;
     }
     Ok(())
 }
 
 fn add_enum<'a>(
     alloc: Global,
-    file: usize,
-    parent: usize,
-    scope: &str,
+    parent: Parent,
     entry: &'a EnumDecl,
     row: &mut Vec<Declaration<'a>>,
 ) -> Result<(), AllocError>
-    ensures { OnOk result (Adds row.old.items row.new.items (enum_declared file parent scope.now (length row.old.items) (enum_view entry.now))) }
+    ensures { OnOk result (Adds row.old.items row.new.items (enum_declared parent.entry.file parent.entry.index parent.entry.scope.now (length row.old.items) (enum_view entry.now))) }
 {
-    let place = row.len();
+    let inside = parent.inside(row.len(), parent.scope);
     let reserved = Reserved::of_enum(alloc, entry)?;
     let own = enum_marks(&reserved, entry);
     let marks = value_marks(alloc, &reserved, entry)?;
     let name = entry.name.as_str();
-    add(
-        alloc,
-        file,
-        parent,
-        scope,
-        name,
-        Item::Enum(entry),
-        own,
-        row,
-    )?;
-    add_values(alloc, file, place, scope, entry, &entry.values, &marks, row)
+    add(alloc, parent, name, Item::Enum(entry), own, row)?;
+    add_values(alloc, inside, entry, &entry.values, &marks, row)
 }
 
 fn add_enums<'a>(
     alloc: Global,
-    file: usize,
-    parent: usize,
-    scope: &str,
+    parent: Parent,
     enums: &'a [EnumDecl],
     row: &mut Vec<Declaration<'a>>,
 ) -> Result<(), AllocError>
-    ensures { OnOk result (Adds row.old.items row.new.items (enums_declared file parent scope.now (length row.old.items) (map enum_view enums.now))) }
+    ensures { OnOk result (Adds row.old.items row.new.items (enums_declared parent.entry.file parent.entry.index parent.entry.scope.now (length row.old.items) (map enum_view enums.now))) }
 {
     for entry in enums {
-        add_enum(alloc, file, parent, scope, entry, row)?;
+        add_enum(alloc, parent, entry, row)?;
     }
     Ok(())
 }
@@ -172,162 +176,104 @@ fn add_enums<'a>(
 /// A message itself, its fields and its oneofs, where it has this full name.
 fn add_head<'a>(
     alloc: Global,
-    file: usize,
-    parent: usize,
-    scope: &str,
+    parent: Parent,
     full_name: &str,
     message: &'a MessageDecl,
     row: &mut Vec<Declaration<'a>>,
 ) -> Result<(), AllocError>
-    ensures { OnOk result (Adds row.old.items row.new.items (head_row file parent scope.now full_name.now (length row.old.items) (message_view message.now))) }
+    ensures { OnOk result (Adds row.old.items row.new.items (head_row parent.entry.file parent.entry.index parent.entry.scope.now full_name.now (length row.old.items) (message_view message.now))) }
 {
-    let place = row.len();
+    let inside = parent.inside(row.len(), full_name);
     let reserved = Reserved::of_message(alloc, message)?;
     let own = message_marks(&reserved, message);
     let fields = field_marks(alloc, &reserved, message)?;
     let oneofs = oneof_marks(alloc, message)?;
     let name = message.name.as_str();
-    add(
-        alloc,
-        file,
-        parent,
-        scope,
-        name,
-        Item::Message(message),
-        own,
-        row,
-    )?;
-    add_fields(
-        alloc,
-        file,
-        place,
-        full_name,
-        message,
-        &message.fields,
-        &fields,
-        row,
-    )?;
-    add_oneofs(
-        alloc,
-        file,
-        place,
-        full_name,
-        message,
-        &message.oneofs,
-        &oneofs,
-        row,
-    )
+    add(alloc, parent, name, Item::Message(message), own, row)?;
+    add_fields(alloc, inside, message, &message.fields, &fields, row)?;
+    add_oneofs(alloc, inside, message, &message.oneofs, &oneofs, row)
 }
 
 #[cycle(add_message)]
 fn add_message<'a>(
     alloc: Global,
-    file: usize,
-    parent: usize,
-    scope: &str,
+    parent: Parent,
     message: &'a MessageDecl,
     row: &mut Vec<Declaration<'a>>,
 ) -> Result<(), AllocError>
-    ensures { OnOk result (Adds row.old.items row.new.items (message_declared file parent scope.now (length row.old.items) (message_view message.now))) }
+    ensures { OnOk result (Adds row.old.items row.new.items (message_declared parent.entry.file parent.entry.index parent.entry.scope.now (length row.old.items) (message_view message.now))) }
 {
-    let place = row.len();
-    let full_name = scoped(alloc, scope, message.name.as_str())?;
-    let name = full_name.as_str();
-    add_head(alloc, file, parent, scope, name, message, row)?;
-    add_messages(alloc, file, place, name, &message.messages, row)?;
-    add_enums(alloc, file, place, name, &message.enums, row)?;
+    let full_name = scoped(alloc, parent.scope, message.name.as_str())?;
+    let inside = parent.inside(row.len(), full_name.as_str());
+    add_head(alloc, parent, inside.scope, message, row)?;
+    add_messages(alloc, inside, &message.messages, row)?;
+    add_enums(alloc, inside, &message.enums, row)?;
     Ok(())
 }
 
 #[cycle(add_message)]
 fn add_messages<'a>(
     alloc: Global,
-    file: usize,
-    parent: usize,
-    scope: &str,
+    parent: Parent,
     messages: &'a [MessageDecl],
     row: &mut Vec<Declaration<'a>>,
 ) -> Result<(), AllocError>
     ensures { OnOk result
-        (Adds row.old.items row.new.items (messages_declared file parent scope.now (length row.old.items) (messages_of (map message_view messages.now)))) }
+        (Adds row.old.items row.new.items (messages_declared parent.entry.file parent.entry.index parent.entry.scope.now (length row.old.items) (messages_of (map message_view messages.now)))) }
 {
     for message in messages {
-        add_message(alloc, file, parent, scope, message, row)?;
+        add_message(alloc, parent, message, row)?;
     }
     Ok(())
 }
 
 fn add_methods<'a>(
     alloc: Global,
-    file: usize,
-    parent: usize,
-    scope: &str,
+    parent: Parent,
     methods: &'a [MethodDecl],
     row: &mut Vec<Declaration<'a>>,
 ) -> Result<(), AllocError>
-    ensures { OnOk result (Adds row.old.items row.new.items (methods_of file parent scope.now (map method_view methods.now))) }
+    ensures { OnOk result (Adds row.old.items row.new.items (methods_of parent.entry.file parent.entry.index parent.entry.scope.now (map method_view methods.now))) }
 {
     for method in methods {
         let name = method.name.as_str();
-        add(
-            alloc,
-            file,
-            parent,
-            scope,
-            name,
-            Item::Method(method),
-            plain(true),
-            row,
-        )?;
+        add(alloc, parent, name, Item::Method(method), plain(true), row)?;
     }
     Ok(())
 }
 
 fn add_service<'a>(
     alloc: Global,
-    file: usize,
-    parent: usize,
-    scope: &str,
+    parent: Parent,
     service: &'a ServiceDecl,
     row: &mut Vec<Declaration<'a>>,
 ) -> Result<(), AllocError>
-    ensures { OnOk result (Adds row.old.items row.new.items (service_declared file parent scope.now (length row.old.items) (service_view service.now))) }
+    ensures { OnOk result (Adds row.old.items row.new.items (service_declared parent.entry.file parent.entry.index parent.entry.scope.now (length row.old.items) (service_view service.now))) }
 {
-    let place = row.len();
     let name = service.name.as_str();
-    let full_name = scoped(alloc, scope, name)?;
+    let full_name = scoped(alloc, parent.scope, name)?;
+    let inside = parent.inside(row.len(), full_name.as_str());
     add(
         alloc,
-        file,
         parent,
-        scope,
         name,
         Item::Service(service),
         plain(true),
         row,
     )?;
-    add_methods(
-        alloc,
-        file,
-        place,
-        full_name.as_str(),
-        &service.methods,
-        row,
-    )
+    add_methods(alloc, inside, &service.methods, row)
 }
 
 fn add_services<'a>(
     alloc: Global,
-    file: usize,
-    parent: usize,
-    scope: &str,
+    parent: Parent,
     services: &'a [ServiceDecl],
     row: &mut Vec<Declaration<'a>>,
 ) -> Result<(), AllocError>
-    ensures { OnOk result (Adds row.old.items row.new.items (services_declared file parent scope.now (length row.old.items) (map service_view services.now))) }
+    ensures { OnOk result (Adds row.old.items row.new.items (services_declared parent.entry.file parent.entry.index parent.entry.scope.now (length row.old.items) (map service_view services.now))) }
 {
     for service in services {
-        add_service(alloc, file, parent, scope, service, row)?;
+        add_service(alloc, parent, service, row)?;
     }
     Ok(())
 }
@@ -341,20 +287,16 @@ fn add_file<'a>(
     ensures { OnOk result (Adds row.old.items row.new.items (file_declared index (length row.old.items) (file_view file.now))) }
 {
     let place = row.len();
-    let scope = file.package.as_str();
-    add(
-        alloc,
-        index,
-        place,
-        "",
-        "",
-        Item::File(file),
-        plain(false),
-        row,
-    )?;
-    add_messages(alloc, index, place, scope, &file.messages, row)?;
-    add_enums(alloc, index, place, scope, &file.enums, row)?;
-    add_services(alloc, index, place, scope, &file.services, row)
+    let top = Parent {
+        file: index,
+        index: place,
+        scope: "",
+    };
+    let inside = top.inside(place, file.package.as_str());
+    add(alloc, top, "", Item::File(file), plain(false), row)?;
+    add_messages(alloc, inside, &file.messages, row)?;
+    add_enums(alloc, inside, &file.enums, row)?;
+    add_services(alloc, inside, &file.services, row)
 }
 
 /// All declarations of some files.

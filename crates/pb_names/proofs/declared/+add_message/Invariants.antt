@@ -6,4 +6,4 @@ use Rattle.pb_names.specs.View.{declaration_view}
 use Rattle.pb_names.proofs.declared.+add_message.Given as goal
 
 abbrev pub invariant-add_messages-loop-message : goal.invariant-add_messages-loop-message
-invariant-add_messages-loop-message l = map declaration_view l.row.items ≡ map declaration_view l.initial.row.items ++ messages_declared l.file l.parent l.scope (length l.initial.row.items) (messages_of (map message_view (take l.message-index l.messages)))
+invariant-add_messages-loop-message l = map declaration_view l.row.items ≡ map declaration_view l.initial.row.items ++ messages_declared l.parent.file l.parent.index l.parent.scope.now (length l.initial.row.items) (messages_of (map message_view (take l.message-index l.messages)))

@@ -5,4 +5,4 @@ use Rattle.pb_names.specs.View.{declaration_view}
 use Rattle.pb_names.proofs.declared.add_methods.Given as goal
 
 abbrev pub invariant-loop-method : goal.invariant-loop-method
-invariant-loop-method l = map declaration_view l.row.items ≡ map declaration_view l.initial.row.items ++ methods_of l.file l.parent l.scope (map method_view (take l.method-index l.methods))
+invariant-loop-method l = map declaration_view l.row.items ≡ map declaration_view l.initial.row.items ++ methods_of l.parent.file l.parent.index l.parent.scope.now (map method_view (take l.method-index l.methods))

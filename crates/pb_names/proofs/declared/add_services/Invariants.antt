@@ -5,4 +5,4 @@ use Rattle.pb_names.specs.View.{declaration_view}
 use Rattle.pb_names.proofs.declared.add_services.Given as goal
 
 abbrev pub invariant-loop-service : goal.invariant-loop-service
-invariant-loop-service l = map declaration_view l.row.items ≡ map declaration_view l.initial.row.items ++ services_declared l.file l.parent l.scope (length l.initial.row.items) (map service_view (take l.service-index l.services))
+invariant-loop-service l = map declaration_view l.row.items ≡ map declaration_view l.initial.row.items ++ services_declared l.parent.file l.parent.index l.parent.scope.now (length l.initial.row.items) (map service_view (take l.service-index l.services))

@@ -10,7 +10,7 @@ use Rattle.pb_names.proofs.declared.add_values.Goals as goal
 
 pub loop-index-preserved : goal.loop-index-preserved
 loop-index-preserved c =
-    let f : ℕ × (List ℕ × ℤ) → Declaration = λ e. record { file = c.args.file; parent = c.args.parent; scope = c.args.scope.now; item = a_value (enum_view c.args.entry.now) e.0 e.1 } in
+    let f : ℕ × (List ℕ × ℤ) → Declaration = λ e. record { file = c.args.parent.file; parent = c.args.parent.index; scope = c.args.parent.scope.now; item = a_value (enum_view c.args.entry.now) e.0 e.1 } in
     grown f numbered_view c.args.values.now c.loop-index.index c.index-values-index.result (map declaration_view c.args.row.now.items) (map declaration_view c.loop-index.row.items) (map declaration_view c.add.new.row.items) c.loop-index-test.true c.index-values-index.is c.loop-index.invariant c.in_ok-add.ensures
 
 pub bounds-marks-index : goal.bounds-marks-index

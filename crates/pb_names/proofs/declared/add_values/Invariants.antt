@@ -5,4 +5,4 @@ use Rattle.pb_names.specs.View.{declaration_view}
 use Rattle.pb_names.proofs.declared.add_values.Given as goal
 
 abbrev pub invariant-loop-index : goal.invariant-loop-index
-invariant-loop-index l = map declaration_view l.row.items ≡ map declaration_view l.initial.row.items ++ values_of l.file l.parent l.scope (enum_view l.entry) (map numbered_view (take l.index l.values))
+invariant-loop-index l = map declaration_view l.row.items ≡ map declaration_view l.initial.row.items ++ values_of l.parent.file l.parent.index l.parent.scope.now (enum_view l.entry) (map numbered_view (take l.index l.values))
