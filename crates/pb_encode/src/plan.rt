@@ -101,7 +101,6 @@ impl<'m> Plan<'m> {
             self.kind,
             self.body,
             &self.lengths,
-            0,
         );
         sink.flush(output);
         match sink.failure() {

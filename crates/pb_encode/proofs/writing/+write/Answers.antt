@@ -92,7 +92,7 @@ write_value-returns-in_default-kind g t c =
     (ap (is_plain c.args.kind) (ap value_view c.in-Message.is ∙ value_view-Message c.in-Message.body) ∙ plain_kind c.args.kind (body_view c.in-Message.body) c.in_default-kind.not-Message c.in_default-kind.not-Group) c.scalar_payload.ensures c.put_scalar.ensures
 
 pub write_values-loop-value-init : goal.write_values-loop-value-init
-write_values-loop-value-init g t c = to_write_start _ _ _ _
+write_values-loop-value-init g t c = to_write_start _ _ _
 
 pub write_values-returns-then-has_failed : goal.write_values-returns-then-has_failed
 write_values-returns-then-has_failed g t c = to_write_lost c.loop-value.invariant (sym c.has_failed.ensures ∙ c.if-has_failed.true)
@@ -109,9 +109,9 @@ write_values-returns g t c =
 pub write_value-returns-then-has_failed : goal.write_value-returns-then-has_failed
 write_value-returns-then-has_failed g t c =
     writes_group_lost c.args.pool.now c.args.kind (value_view c.args.value.now) (body_view c.in-Message.body) c.in-Group.id c.args.number (ap value_view c.in-Message.is ∙ value_view-Message c.in-Message.body) c.in-Group.is
-    c.put_tag.ensures c.write_message-behind.ensures (sym c.has_failed.ensures ∙ c.if-has_failed.true)
+    c.put_tag.ensures c.write_message-next-in-Group.ensures (sym c.has_failed.ensures ∙ c.if-has_failed.true)
 
 pub write_value-returns-else-has_failed : goal.write_value-returns-else-has_failed
 write_value-returns-else-has_failed g t c =
     writes_group c.args.pool.now c.args.kind (value_view c.args.value.now) (body_view c.in-Message.body) c.in-Group.id c.args.number (ap value_view c.in-Message.is ∙ value_view-Message c.in-Message.body) c.in-Group.is
-    c.put_tag.ensures c.write_message-behind.ensures (sym c.has_failed.ensures ∙ c.if-has_failed.false) c.put_tag-in-Group.ensures
+    c.put_tag.ensures c.write_message-next-in-Group.ensures (sym c.has_failed.ensures ∙ c.if-has_failed.false) c.put_tag-in-Group.ensures

@@ -1,5 +1,5 @@
-use Rattle.pb_encode.proofs.WriteLemmas.{next_at}
+use Rattle.pb_encode.proofs.WriteLemmas.{first_of}
 use Rattle.pb_encode.proofs.writing.next_length.Goals as goal
 
-pub returns-then-at-lengths : goal.returns-then-at-lengths
-returns-then-at-lengths c = λ n more e. next_at c.args.lengths.now c.args.at n more c.if-at-lengths.true e
+pub returns-else-is_empty : goal.returns-else-is_empty
+returns-else-is_empty c = λ n more e. first_of c.args.lengths.now n more e
