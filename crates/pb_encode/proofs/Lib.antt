@@ -6,5 +6,5 @@ pub mod MeasureLemmas
 pub mod PartsLemmas
 -- for the loops that put records and elements
 pub mod PutLemmas
--- for writing by the table: what goes out, part by part
+-- for writing by the lengths: what goes out, part by part
 pub mod WriteLemmas
