@@ -11,23 +11,23 @@ use Rattle.pb_schema.specs.Context.{a_message, schema_of}
 use Rattle.pb_value.specs.Dynamic.{Dynamic}
 use Rattle.pb_decode.specs.declared.error.DecodeError.{DecodeError}
 use Rattle.pb_decode.specs.declared.push.Reading.{Reading}
-use Rattle.pb_parts.specs.Open.Frames.{Frame}
+use Rattle.pb_parts.specs.Open.Parents.{Parent}
 use Rattle.pb_decode.specs.Reader.{State, state_view}
 use Rattle.pb_decode.specs.Push.{Took, TookSome}
 use Rattle.pb_decode.specs.Reader.Waiting.{Waits, lists_in}
 use Rattle.pb_decode.specs.Pending.{EndsInside, IsPending, HasOpen, IsDeclared}
-use Rattle.pb_parts.specs.Open.PartView.{frame_view}
+use Rattle.pb_parts.specs.Open.PartView.{parent_view}
 use Rattle.pb_decode.specs.Decoder as decoder
 use Rattle.pb_decode.specs.Parts.{IsOfPool}
-use Rattle.pb_decode.specs.ReadingView.{open_frame, reading_view, IsSound}
+use Rattle.pb_decode.specs.ReadingView.{open_parent, reading_view, IsSound}
 use Rattle.pb_decode.proofs.OneEnd.{one_ending}
 use Rattle.pb_decode.proofs.PendingLemmas.{ends_inside, few_held, few_open, declared_in}
 
 -- the state that contracts see is that of the reader
 pub same_state : (r : Reading) → decoder.state_of (reading_view r) ≡ state_view r.reader
 same_state r =
-    ap (λ (z : List Frame). let s : State = record { at = r.reader.at; now = (state_view r.reader).now; scope = (state_view r.reader).scope; frames = reverse z; next = r.reader.step } in s)
-    (map-map decoder.frame_of open_frame r.reader.frames.items)
+    ap (λ (z : List Parent). let s : State = record { at = r.reader.at; now = (state_view r.reader).now; scope = (state_view r.reader).scope; parents = reverse z; next = r.reader.step } in s)
+    (map-map decoder.parent_of open_parent r.reader.parents.items)
 
 pub took_by :
     (pool : Types) (m : ℕ) (limits : Bounds) (b : List ℕ) (o : Option Reading) (r : Reading) → Some r ≡ o → IsSomeAnd (option_map reading_view o) (λ x. Took pool m limits b (decoder.state_of x) x.held)
@@ -75,19 +75,19 @@ pub one_declared :
     {S : Schema} {x : S.Context} {depth : ℕ} {b : List ℕ} {n k : ℕ} → IsDeclared S x depth b n → IsDeclared S x depth b k → n ≡ k
 one_declared h g = (one_ending h.2 g.2).2
 
-frames_size : (r : Reading) → length (state_view r.reader).frames ≡ vec_len r.reader.frames
-frames_size r =
-    let turned = length-reverse (map frame_view r.reader.frames.items) in
-    let seen = length-map r.reader.frames.items frame_view in
-    let size = r.reader.frames.ok in
+parents_size : (r : Reading) → length (state_view r.reader).parents ≡ vec_len r.reader.parents
+parents_size r =
+    let turned = length-reverse (map parent_view r.reader.parents.items) in
+    let seen = length-map r.reader.parents.items parent_view in
+    let size = r.reader.parents.ok in
     omega (arith, turned, seen, size)
 
 module _ {pool : Types} {m : ℕ} {limits : Bounds} (o : Option Reading) (r : Reading) (sound : IsSound pool m limits o) (is : Some r ≡ o) where
-  ends_of : (b : List ℕ) (n k : ℕ) → n ≡ length r.held.items → k ≡ vec_len r.reader.frames + lists_in r.reader.step + 1 → Took pool m limits b (state_view r.reader) r.held.items
+  ends_of : (b : List ℕ) (n k : ℕ) → n ≡ length r.held.items → k ≡ vec_len r.reader.parents + lists_in r.reader.step + 1 → Took pool m limits b (state_view r.reader) r.held.items
       → EndsInside (schema_of pool) (a_message m) limits.depth b n k (declared_in r.reader.step)
   ends_of b n k held_is open_is took =
-      let size = frames_size r in
-      let same : suc (length (state_view r.reader).frames) + lists_in r.reader.step ≡ k = omega (arith, size, open_is) in
+      let size = parents_size r in
+      let same : suc (length (state_view r.reader).parents) + lists_in r.reader.step ≡ k = omega (arith, size, open_is) in
       subst (λ (z : ℕ). EndsInside (schema_of pool) (a_message m) limits.depth b z k (declared_in r.reader.step)) (sym held_is)
       (subst (λ (z : ℕ). EndsInside (schema_of pool) (a_message m) limits.depth b (length r.held.items) z (declared_in r.reader.step)) same
       (ends_inside b (state_view r.reader) r.held.items sound.rules took (waits_by o r is sound.waits)))
@@ -95,11 +95,11 @@ module _ {pool : Types} {m : ℕ} {limits : Bounds} (o : Option Reading) (r : Re
   pub pending_is : (b : List ℕ) (n : ℕ) → n ≡ length r.held.items → IsSomeAnd (option_map reading_view o) (λ x. Took pool m limits b (decoder.state_of x) x.held)
       → IsPending (schema_of pool) (a_message m) limits.depth b n
   pending_is b n held_is after =
-      (vec_len r.reader.frames + lists_in r.reader.step + 1, declared_in r.reader.step, ends_of b n (vec_len r.reader.frames + lists_in r.reader.step + 1) held_is refl (took_by pool m limits b o r is after))
+      (vec_len r.reader.parents + lists_in r.reader.step + 1, declared_in r.reader.step, ends_of b n (vec_len r.reader.parents + lists_in r.reader.step + 1) held_is refl (took_by pool m limits b o r is after))
 
   pub pending_one : (b : List ℕ) (n : ℕ) → n ≡ length r.held.items → (k : ℕ) → IsSomeAnd (option_map reading_view o) (λ x. Took pool m limits b (decoder.state_of x) x.held)
       → IsPending (schema_of pool) (a_message m) limits.depth b k → k ≡ n
-  pending_one b n held_is k after pending = (one_ending pending.2 (ends_of b n (vec_len r.reader.frames + lists_in r.reader.step + 1) held_is refl (took_by pool m limits b o r is after))).0
+  pending_one b n held_is k after pending = (one_ending pending.2 (ends_of b n (vec_len r.reader.parents + lists_in r.reader.step + 1) held_is refl (took_by pool m limits b o r is after))).0
 
   pub pending_few : (b : List ℕ) (n : ℕ) → n ≡ length r.held.items → IsSomeAnd (option_map reading_view o) (λ x. Took pool m limits b (decoder.state_of x) x.held)
       → (d : ℕ) × IsDeclared (schema_of pool) (a_message m) limits.depth b d × (n ≤ max 10 d)
@@ -107,21 +107,21 @@ module _ {pool : Types} {m : ℕ} {limits : Bounds} (o : Option Reading) (r : Re
       let took = took_by pool m limits b o r is after in
       let few = few_held b (state_view r.reader) r.held.items took (waits_by o r is sound.waits) in (
         declared_in r.reader.step,
-        (n, vec_len r.reader.frames + lists_in r.reader.step + 1, ends_of b n (vec_len r.reader.frames + lists_in r.reader.step + 1) held_is refl took),
+        (n, vec_len r.reader.parents + lists_in r.reader.step + 1, ends_of b n (vec_len r.reader.parents + lists_in r.reader.step + 1) held_is refl took),
         omega (arith, few, held_is),
       )
 
-  pub open_is : (b : List ℕ) (k : ℕ) → k ≡ vec_len r.reader.frames + lists_in r.reader.step + 1 → IsSomeAnd (option_map reading_view o) (λ x. Took pool m limits b (decoder.state_of x) x.held)
+  pub open_is : (b : List ℕ) (k : ℕ) → k ≡ vec_len r.reader.parents + lists_in r.reader.step + 1 → IsSomeAnd (option_map reading_view o) (λ x. Took pool m limits b (decoder.state_of x) x.held)
       → HasOpen (schema_of pool) (a_message m) limits.depth b k
   open_is b k is_count after = (length r.held.items, declared_in r.reader.step, ends_of b (length r.held.items) k refl is_count (took_by pool m limits b o r is after))
 
-  pub open_one : (b : List ℕ) (k : ℕ) → k ≡ vec_len r.reader.frames + lists_in r.reader.step + 1 → (j : ℕ) → IsSomeAnd (option_map reading_view o) (λ x. Took pool m limits b (decoder.state_of x) x.held)
+  pub open_one : (b : List ℕ) (k : ℕ) → k ≡ vec_len r.reader.parents + lists_in r.reader.step + 1 → (j : ℕ) → IsSomeAnd (option_map reading_view o) (λ x. Took pool m limits b (decoder.state_of x) x.held)
       → HasOpen (schema_of pool) (a_message m) limits.depth b j → j ≡ k
   open_one b k is_count j after there = (one_ending there.2 (ends_of b (length r.held.items) k refl is_count (took_by pool m limits b o r is after))).1
 
-  pub open_few : (k : ℕ) → k ≡ vec_len r.reader.frames + lists_in r.reader.step + 1 → k ≤ 2 * limits.depth + 2
+  pub open_few : (k : ℕ) → k ≡ vec_len r.reader.parents + lists_in r.reader.step + 1 → k ≤ 2 * limits.depth + 2
   open_few k is_count =
       let some = some_by pool m limits o r is sound.took in
       let few = few_open some.text (state_view r.reader) r.held.items some.took in
-      let size = frames_size r in
+      let size = parents_size r in
       omega (arith, few, size, is_count)

@@ -18,10 +18,10 @@ use Rattle.pb_decode.specs.declared.error.DecodeError.{DecodeError}
 use Rattle.pb_decode.specs.declared.error.DecodeError.TheVariants as error
 use Rattle.pb_decode.specs.declared.push.Reading.{Reading}
 use Rattle.pb_decode.specs.Reader.{state_view, IfFault}
-use Rattle.pb_decode.specs.Reader.Origin.{Origin, origin, further, TookFrom, IsWhole, BadFrom, ToldFrom}
+use Rattle.pb_decode.specs.Reader.Origin.{Origin, origin, further, TookFrom, IsWhole, BadFrom, ReportedFrom}
 use Rattle.pb_decode.specs.FromDevice.{IfRefused, TakesAtMost}
-use Rattle.pb_decode.specs.Loops.{ReadsOn, ToldOf}
-use Rattle.pb_decode.proofs.OntoText.{text_from, whole_fault, beyond_told}
+use Rattle.pb_decode.specs.Loops.{ReadsOn, ReportedOf}
+use Rattle.pb_decode.proofs.OntoText.{text_from, whole_fault, beyond_reported}
 
 pub further_nil : (o : Origin) → further o [] ≡ o
 further_nil o = ap (λ (z : List ℕ). record o { place = record o.place { rest = z } }) (append-nil o.place.rest)
@@ -72,28 +72,28 @@ reads_at o h took =
 pub reads_on : {pool : Types} {r s : Reading} {x y : Option (List ℕ)} {n : ℕ} (o : Origin) → ReadsOn pool r s x y n → TookFrom pool o (state_view r.reader) r.held.items → (p : Origin) × TookFrom pool p (state_view s.reader) s.held.items
 reads_on o h took = (further o h.bytes, h.onward o took)
 
-pub told_behind :
-    {pool : Types} (o : Origin) (f : Fault) (x y z : Option (List ℕ)) (front : List ℕ) {depth_left most : ℕ} → length front + depth_left ≤ most → Consumes x y front → ToldOf pool (further o front) y z depth_left f → ToldOf pool o x z most f
-told_behind {pool} o f x y z front fits given g = record {
+pub reported_after :
+    {pool : Types} (o : Origin) (f : Fault) (x y z : Option (List ℕ)) (front : List ℕ) {depth_left most : ℕ} → length front + depth_left ≤ most → Consumes x y front → ReportedOf pool (further o front) y z depth_left f → ReportedOf pool o x z most f
+reported_after {pool} o f x y z front fits given g = record {
   bytes = front ++ g.bytes;
   few = let b = g.few in let joined = length-append front g.bytes in omega (arith, fits, b, joined);
   given = Consumes-trans x y z front g.bytes given g.given;
-  told = subst (λ (p : Origin). ToldFrom pool p f) (further_more o front g.bytes) g.told;
+  reported = subst (λ (p : Origin). ReportedFrom pool p f) (further_more o front g.bytes) g.reported;
 }
 
-pub told_more :
-    {pool : Types} {r s : Reading} {x y z : Option (List ℕ)} {n depth_left most : ℕ} (o : Origin) (f : Fault) → n + depth_left ≤ most → (h : ReadsOn pool r s x y n) → ToldOf pool (further o h.bytes) y z depth_left f → ToldOf pool o x z most f
-told_more {x = x} {y = y} {z = z} o f fits h g = told_behind o f x y z h.bytes (let a = h.size in omega (arith, fits, a)) h.given g
+pub reported_more :
+    {pool : Types} {r s : Reading} {x y z : Option (List ℕ)} {n depth_left most : ℕ} (o : Origin) (f : Fault) → n + depth_left ≤ most → (h : ReadsOn pool r s x y n) → ReportedOf pool (further o h.bytes) y z depth_left f → ReportedOf pool o x z most f
+reported_more {x = x} {y = y} {z = z} o f fits h g = reported_after o f x y z h.bytes (let a = h.size in omega (arith, fits, a)) h.given g
 
-pub takes_behind : (x y z : Option (List ℕ)) (front : List ℕ) {depth_left most : ℕ} → length front + depth_left ≤ most → Consumes x y front → TakesAtMost depth_left y z → TakesAtMost most x z
-takes_behind x y z front fits given (bytes, few, more) = (
+pub takes_after : (x y z : Option (List ℕ)) (front : List ℕ) {depth_left most : ℕ} → length front + depth_left ≤ most → Consumes x y front → TakesAtMost depth_left y z → TakesAtMost most x z
+takes_after x y z front fits given (bytes, few, more) = (
   front ++ bytes,
   let joined = length-append front bytes in omega (arith, fits, few, joined),
   Consumes-trans x y z front bytes given more,
 )
 
 pub takes_more : {pool : Types} {r s : Reading} {x y : Option (List ℕ)} (z : Option (List ℕ)) {n depth_left most : ℕ} → n + depth_left ≤ most → ReadsOn pool r s x y n → TakesAtMost depth_left y z → TakesAtMost most x z
-takes_more {x = x} {y = y} z fits h more = takes_behind x y z h.bytes (let a = h.size in omega (arith, fits, a)) h.given more
+takes_more {x = x} {y = y} z fits h more = takes_after x y z h.bytes (let a = h.size in omega (arith, fits, a)) h.given more
 
 pub takes_read : {pool : Types} {r s : Reading} {x y : Option (List ℕ)} {n most : ℕ} → n ≤ most → ReadsOn pool r s x y n → TakesAtMost most x y
 takes_read fits h = (h.bytes, let a = h.size in omega (arith, fits, a), h.given)
@@ -117,11 +117,11 @@ err_refused (Err e) P Q h bad = if_fault_refused e P Q h bad
 
 -- A TEXT, from position 0 on, with no known end
 module _ {pool : Types} {k : ℕ} {limits : Bounds} (base : List Record) where
-  pub told_left : (x y : Option (List ℕ)) (most : ℕ) (f : Fault) → most ≡ limits.bytes → ToldOf pool (origin k limits.depth base None) x y most f → IfSome x (λ left. HasFault (schema_of pool) (a_message k) limits left f)
-  told_left None y most f same h = tt
-  told_left (Some left) None most f same h = absurd h.given
-  told_left (Some left) (Some rest) most f same h =
-      let few = h.few in subst (λ (z : List ℕ). HasFault (schema_of pool) (a_message k) limits z f) (sym h.given) (text_bad h.bytes rest f (omega (arith, few, same)) h.told.settled h.told.bad)
+  pub reported_left : (x y : Option (List ℕ)) (most : ℕ) (f : Fault) → most ≡ limits.bytes → ReportedOf pool (origin k limits.depth base None) x y most f → IfSome x (λ left. HasFault (schema_of pool) (a_message k) limits left f)
+  reported_left None y most f same h = tt
+  reported_left (Some left) None most f same h = absurd h.given
+  reported_left (Some left) (Some rest) most f same h =
+      let few = h.few in subst (λ (z : List ℕ). HasFault (schema_of pool) (a_message k) limits z f) (sym h.given) (text_bad h.bytes rest f (omega (arith, few, same)) h.reported.settled h.reported.bad)
 
   -- more bytes than the limit allows
   pub more_left :
@@ -135,7 +135,7 @@ module _ {pool : Types} {k : ℕ} {limits : Bounds} (base : List Record) where
       let whole = ap length h.given ∙ length-append h.bytes rest in
       let part = ap length given ∙ length-append bytes last in
       let front : take most left ≡ h.bytes = ap (take most) h.given ∙ take_at h.bytes rest most size in
-      beyond_told most (state_view s.reader) s.held.items same (omega (arith, size, whole, part, one))
+      beyond_reported most (state_view s.reader) s.held.items same (omega (arith, size, whole, part, one))
       (subst (λ (b : List ℕ). TookFrom pool (further (origin k limits.depth base None) b) (state_view s.reader) s.held.items) (sym front) (h.onward (origin k limits.depth base None) took))
 
 -- all that is left, up to the end of the input

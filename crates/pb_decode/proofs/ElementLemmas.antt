@@ -16,12 +16,12 @@ use Rattle.pb_schema.specs.Kinds.{wire_type_of, is_packable}
 use Rattle.pb_schema.specs.Context.{a_message as in_message, element_of, schema_of}
 use Rattle.pb_parts.specs.declared.tokens.step.Step.{Step}
 use Rattle.pb_parts.specs.declared.tokens.step.Step.TheVariants as step
-use Rattle.pb_parts.specs.Open.Frames.{path_of, next_step, Part, Frame, Scope}
+use Rattle.pb_parts.specs.Open.Parents.{path_of, next_step, Part, Parent, Scope}
 use Rattle.pb_parts.specs.Tokens.Numbers.{NumberFault, a_varint, eight_bytes, four_bytes}
 use Rattle.pb_parts.specs.Tokens.After.{After}
 use Rattle.pb_parts.specs.Tokens.Number.{IsNumberType}
-use Rattle.pb_decode.specs.Reader.{State, here, own_step, path_here, Reads, AfterAt, Stops, cut, Told}
-use Rattle.pb_parts.proofs.ListSteps.{at_list, packed_field, list_told}
+use Rattle.pb_decode.specs.Reader.{State, here, own_step, path_here, Reads, AfterAt, Stops, cut, Reported}
+use Rattle.pb_parts.proofs.ListSteps.{at_list, packed_field, list_reported}
 use Rattle.pb_decode.proofs.ReaderLemmas.{passed_here}
 
 varint_of : {u : Place} {g : Fault} → NumberFault 0 u g → VarintFault u g
@@ -85,10 +85,10 @@ type_of_packed (kind.Group j) can = absurd (false≢true can)
 -- inside a list
 in_list :
     {pool : Types} {m depth levels : ℕ} {base : List Record} {p0 : Place} (s : State) (rest : List ℕ) (k : ℕ) (kd : Kind) (outer : Option ℕ) → Reads pool m depth levels base p0 s rest → s.next ≡ step.Elements k kd outer
-    → After pool m depth levels base p0 s.frames (step.Elements k kd outer) s.now s.scope (here s rest)
-in_list {pool} {m} {depth} {levels} {base} {p0} s rest k kd outer begun is = subst (λ (z : Step). After pool m depth levels base p0 s.frames z s.now s.scope (here s rest)) is begun
+    → After pool m depth levels base p0 s.parents (step.Elements k kd outer) s.now s.scope (here s rest)
+in_list {pool} {m} {depth} {levels} {base} {p0} s rest k kd outer begun is = subst (λ (z : Step). After pool m depth levels base p0 s.parents z s.now s.scope (here s rest)) is begun
 
-pub packs_here : {pool : Types} {m depth levels : ℕ} {base : List Record} {p0 u : Place} {frames : List Frame} {now : Part} {scope : Scope} (k : ℕ) (kd : Kind) (outer : Option ℕ) → After pool m depth levels base p0 frames (step.Elements k kd outer) now scope u → IsTrue (is_packable kd)
+pub packs_here : {pool : Types} {m depth levels : ℕ} {base : List Record} {p0 u : Place} {parents : List Parent} {now : Part} {scope : Scope} (k : ℕ) (kd : Kind) (outer : Option ℕ) → After pool m depth levels base p0 parents (step.Elements k kd outer) now scope u → IsTrue (is_packable kd)
 packs_here {pool} k kd outer begun =
     let list = at_list k kd outer begun in
     let (f, found, e, is_kind, (p, is_shape), none, can) = packed_field (field_numbered k (message_fields pool list.message_type)) k 2 kd list.means in
@@ -107,8 +107,8 @@ element_bad :
     → (here s rest).known ≢ Some 0 → NumberFault (wire_type_of kd) (here s rest) (fault byte [] c) → Bad (schema_of pool) (records (in_message m)) depth p0 (fault byte (path_here s) c)
 element_bad {pool} {m} {depth} {p0 = p0} s rest k kd outer byte c begun is goes_on bad =
     let inside_list = in_list s rest k kd outer begun is in
-    subst (λ (z : List PathStep). Bad (schema_of pool) (records (in_message m)) depth p0 (fault byte (path_of s.frames ++ z) c)) (sym (own_list s.next k kd outer s.scope is))
-    (list_told k kd outer (fault byte [] c) inside_list goes_on (element_fault kd (packs_here k kd outer inside_list) bad))
+    subst (λ (z : List PathStep). Bad (schema_of pool) (records (in_message m)) depth p0 (fault byte (path_of s.parents ++ z) c)) (sym (own_list s.next k kd outer s.scope is))
+    (list_reported k kd outer (fault byte [] c) inside_list goes_on (element_fault kd (packs_here k kd outer inside_list) bad))
 
 pub element_short :
     {pool : Types} {m depth levels : ℕ} {base : List Record} {p0 : Place} (s : State) (rest : List ℕ) (k : ℕ) (kd : Kind) (outer : Option ℕ) → Reads pool m depth levels base p0 s rest → s.next ≡ step.Elements k kd outer
@@ -117,7 +117,7 @@ element_short s rest k kd outer begun is goes_on bad = cut (element_bad s rest k
 
 pub element_refused :
     {pool : Types} {m depth levels : ℕ} {base : List Record} {p0 : Place} (s : State) (rest : List ℕ) (k : ℕ) (kd : Kind) (outer : Option ℕ) (c : Cause) → Reads pool m depth levels base p0 s rest → s.next ≡ step.Elements k kd outer
-    → (here s rest).known ≢ Some 0 → c ≢ Truncated → NumberFault (wire_type_of kd) (here s rest) (fault s.at [] c) → Told pool m depth p0 (fault s.at (path_here s) c)
+    → (here s rest).known ≢ Some 0 → c ≢ Truncated → NumberFault (wire_type_of kd) (here s rest) (fault s.at [] c) → Reported pool m depth p0 (fault s.at (path_here s) c)
 element_refused s rest k kd outer c begun is goes_on not_cut bad = record { bad = element_bad s rest k kd outer s.at c begun is goes_on bad; settled = not_cut }
 
 -- AFTER AN ELEMENT the next one comes

@@ -12,37 +12,37 @@ use Rattle.pb_schema.specs.declared.types.Kind.{Kind}
 use Rattle.pb_schema.specs.Types.{Types}
 use Rattle.pb_schema.specs.Rules.{IsPool}
 use Rattle.pb_schema.specs.Context.{a_message as in_message, schema_of}
-use Rattle.pb_parts.specs.declared.open.part.Frame.{Frame as FrameKept}
+use Rattle.pb_parts.specs.declared.open.part.Parent.{Parent as ParentKept}
 use Rattle.pb_parts.specs.declared.open.part.Part.{Part as PartKept}
 use Rattle.pb_parts.specs.declared.tokens.step.Step.{Step}
 use Rattle.pb_parts.specs.declared.tokens.step.Step.TheVariants as step
-use Rattle.pb_parts.specs.Open.Frames.{Part, Scope, Frame, frame_of, one_more_in, up_to, path_of, Stands}
-use Rattle.pb_parts.specs.Open.PartView.{part_view, scope_view, frame_view}
+use Rattle.pb_parts.specs.Open.Parents.{Part, Scope, Parent, parent_of, one_more_in, up_to, path_of, Stands}
+use Rattle.pb_parts.specs.Open.PartView.{part_view, scope_view, parent_view}
 use Rattle.pb_parts.specs.Open.Openings.{innermost_group}
 use Rattle.pb_parts.specs.Tokens.After.{After}
-use Rattle.pb_decode.specs.Reader.{State, frames_view, left_of, here, own_step, path_here, Reads, StandsAt, Told}
+use Rattle.pb_decode.specs.Reader.{State, parents_view, left_of, here, own_step, path_here, Reads, StandsAt, Reported}
 use Rattle.pb_parts.proofs.AfterLemmas.{after_record, at_record}
-use Rattle.pb_parts.proofs.GroupLemmas.{past_end_told}
+use Rattle.pb_parts.proofs.GroupLemmas.{past_end_reported}
 use Rattle.pb_decode.proofs.FewRecords.{counts_fit}
 use Rattle.pb_parts.proofs.ListSteps.{at_list, list_over}
 use Rattle.pb_whole.proofs.ListHolds.{list_can_hold}
 
 -- frames are kept outermost first, so the last is the innermost
-pub frames_split : (fs gs : List FrameKept) (f : FrameKept) → fs ≡ gs ++ f ∷ [] → frames_view fs ≡ frame_view f ∷ frames_view gs
-frames_split fs gs f is = ap frames_view is ∙ ap reverse (map-append frame_view gs (f ∷ [])) ∙ reverse-append (map frame_view gs) (frame_view f ∷ [])
+pub parents_split : (fs gs : List ParentKept) (f : ParentKept) → fs ≡ gs ++ f ∷ [] → parents_view fs ≡ parent_view f ∷ parents_view gs
+parents_split fs gs f is = ap parents_view is ∙ ap reverse (map-append parent_view gs (f ∷ [])) ∙ reverse-append (map parent_view gs) (parent_view f ∷ [])
 
 -- and so where its part is taken out of it
-pub frames_popped : (fs gs : List FrameKept) (f : FrameKept) (p : PartKept) → fs ≡ gs ++ f ∷ [] → p ≡ f.part → frames_view fs ≡ frame_of (part_view p) f.number f.slot f.group (scope_view f.scope) ∷ frames_view gs
-frames_popped fs gs f p is same = frames_split fs gs f is ∙ ap (λ (z : PartKept). frame_of (part_view z) f.number f.slot f.group (scope_view f.scope) ∷ frames_view gs) (sym same)
+pub parents_popped : (fs gs : List ParentKept) (f : ParentKept) (p : PartKept) → fs ≡ gs ++ f ∷ [] → p ≡ f.part → parents_view fs ≡ parent_of (part_view p) f.number f.slot f.group (scope_view f.scope) ∷ parents_view gs
+parents_popped fs gs f p is same = parents_split fs gs f is ∙ ap (λ (z : PartKept). parent_of (part_view z) f.number f.slot f.group (scope_view f.scope) ∷ parents_view gs) (sym same)
 
 -- AT A TAG the reader is after a whole record of the innermost part
 pub standing :
-    {pool : Types} {m depth levels : ℕ} {base : List Record} {p0 : Place} (s : State) (rest : List ℕ) (frames : List Frame) (now : Part) → Reads pool m depth levels base p0 s rest → s.next ≡ step.Tag → s.frames ≡ frames → s.now ≡ now
-    → Stands pool m depth levels base p0 frames now s.scope (here s rest)
-standing {pool} {m} {depth} {levels} {base} {p0} s rest frames now begun tag around is =
-    subst (λ (z : Part). Stands pool m depth levels base p0 frames z s.scope (here s rest)) is
-    (subst (λ (z : List Frame). Stands pool m depth levels base p0 z s.now s.scope (here s rest)) around
-    (at_record (subst (λ (z : Step). After pool m depth levels base p0 s.frames z s.now s.scope (here s rest)) tag begun)))
+    {pool : Types} {m depth levels : ℕ} {base : List Record} {p0 : Place} (s : State) (rest : List ℕ) (parents : List Parent) (now : Part) → Reads pool m depth levels base p0 s rest → s.next ≡ step.Tag → s.parents ≡ parents → s.now ≡ now
+    → Stands pool m depth levels base p0 parents now s.scope (here s rest)
+standing {pool} {m} {depth} {levels} {base} {p0} s rest parents now begun tag around is =
+    subst (λ (z : Part). Stands pool m depth levels base p0 parents z s.scope (here s rest)) is
+    (subst (λ (z : List Parent). Stands pool m depth levels base p0 z s.now s.scope (here s rest)) around
+    (at_record (subst (λ (z : Step). After pool m depth levels base p0 s.parents z s.now s.scope (here s rest)) tag begun)))
 
 -- and where that ended, the reader is in the part that holds it
 closed_here : (s t : State) (end : Option ℕ) (rest : List ℕ) → t.at ≡ s.at → t.scope.end ≡ end → up_to end (here s rest) ≡ here t rest
@@ -54,74 +54,74 @@ pub closed_reads :
     {pool : Types} {m depth levels : ℕ} {base : List Record} {p0 : Place} (s t : State) (end : Option ℕ) (rest : List ℕ) → t.at ≡ s.at → t.next ≡ step.Tag → t.scope.end ≡ end → StandsAt pool m depth levels base p0 t (up_to end (here s rest))
     → Reads pool m depth levels base p0 t rest
 closed_reads {pool} {m} {depth} {levels} {base} {p0} s t end rest at tag is h =
-    subst (λ (z : Step). After pool m depth levels base p0 t.frames z t.now t.scope (here t rest)) (sym tag)
+    subst (λ (z : Step). After pool m depth levels base p0 t.parents z t.now t.scope (here t rest)) (sym tag)
     (after_record (subst (StandsAt pool m depth levels base p0 t) (closed_here s t end rest at is) h))
 
 -- THE FRAME THAT IS TAKEN OUT, where no end tag ends what was open in it, and where one does
 
-in_group_of : (frame : Frame) (frames : List Frame) (k : ℕ) → innermost_group (frame ∷ frames) ≡ Some k → frame.group ≡ true
-in_group_of frame frames k some = by_flag frame.group some
+in_group_of : (parent : Parent) (parents : List Parent) (k : ℕ) → innermost_group (parent ∷ parents) ≡ Some k → parent.group ≡ true
+in_group_of parent parents k some = by_flag parent.group some
   where
-    by_flag : (g : Bool) → (if g then Some frame.number else None) ≡ Some k → g ≡ true
+    by_flag : (g : Bool) → (if g then Some parent.number else None) ≡ Some k → g ≡ true
     by_flag true e = refl
     by_flag false e = absurd (cc)
 
-group_number : (frame : Frame) (frames : List Frame) (k : ℕ) → innermost_group (frame ∷ frames) ≡ Some k → frame.number ≡ k
-group_number frame frames k some = by_flag frame.group some
+group_number : (parent : Parent) (parents : List Parent) (k : ℕ) → innermost_group (parent ∷ parents) ≡ Some k → parent.number ≡ k
+group_number parent parents k some = by_flag parent.group some
   where
-    by_flag : (g : Bool) → (if g then Some frame.number else None) ≡ Some k → frame.number ≡ k
+    by_flag : (g : Bool) → (if g then Some parent.number else None) ≡ Some k → parent.number ≡ k
     by_flag true e = cc
     by_flag false e = absurd (cc)
 
-not_in_group : (frame : Frame) (frames : List Frame) → innermost_group (frame ∷ frames) ≡ None → frame.group ≡ false
-not_in_group frame frames none = by_flag frame.group none
+not_in_group : (parent : Parent) (parents : List Parent) → innermost_group (parent ∷ parents) ≡ None → parent.group ≡ false
+not_in_group parent parents none = by_flag parent.group none
   where
-    by_flag : (g : Bool) → (if g then Some frame.number else None) ≡ None → g ≡ false
+    by_flag : (g : Bool) → (if g then Some parent.number else None) ≡ None → g ≡ false
     by_flag true e = absurd (cc)
     by_flag false e = refl
 
-pub popped_open : (fs gs : List FrameKept) (f : FrameKept) (p : PartKept) → fs ≡ gs ++ f ∷ [] → p ≡ f.part → innermost_group (frames_view fs) ≡ None → frames_view fs ≡ frame_of (part_view p) f.number f.slot false (scope_view f.scope) ∷ frames_view gs
+pub popped_open : (fs gs : List ParentKept) (f : ParentKept) (p : PartKept) → fs ≡ gs ++ f ∷ [] → p ≡ f.part → innermost_group (parents_view fs) ≡ None → parents_view fs ≡ parent_of (part_view p) f.number f.slot false (scope_view f.scope) ∷ parents_view gs
 popped_open fs gs f p is same none =
-    let around = frames_popped fs gs f p is same in
-    around ∙ ap (λ (z : Bool). frame_of (part_view p) f.number f.slot z (scope_view f.scope) ∷ frames_view gs)
-    (not_in_group (frame_of (part_view p) f.number f.slot f.group (scope_view f.scope)) (frames_view gs) (sym (ap innermost_group around) ∙ none))
+    let around = parents_popped fs gs f p is same in
+    around ∙ ap (λ (z : Bool). parent_of (part_view p) f.number f.slot z (scope_view f.scope) ∷ parents_view gs)
+    (not_in_group (parent_of (part_view p) f.number f.slot f.group (scope_view f.scope)) (parents_view gs) (sym (ap innermost_group around) ∙ none))
 
-pub popped_group : (fs gs : List FrameKept) (f : FrameKept) (p : PartKept) (k : ℕ) → fs ≡ gs ++ f ∷ [] → p ≡ f.part → innermost_group (frames_view fs) ≡ Some k → frames_view fs ≡ frame_of (part_view p) f.number f.slot true (scope_view f.scope) ∷ frames_view gs
+pub popped_group : (fs gs : List ParentKept) (f : ParentKept) (p : PartKept) (k : ℕ) → fs ≡ gs ++ f ∷ [] → p ≡ f.part → innermost_group (parents_view fs) ≡ Some k → parents_view fs ≡ parent_of (part_view p) f.number f.slot true (scope_view f.scope) ∷ parents_view gs
 popped_group fs gs f p k is same some =
-    let around = frames_popped fs gs f p is same in
-    around ∙ ap (λ (z : Bool). frame_of (part_view p) f.number f.slot z (scope_view f.scope) ∷ frames_view gs)
-    (in_group_of (frame_of (part_view p) f.number f.slot f.group (scope_view f.scope)) (frames_view gs) k (sym (ap innermost_group around) ∙ some))
+    let around = parents_popped fs gs f p is same in
+    around ∙ ap (λ (z : Bool). parent_of (part_view p) f.number f.slot z (scope_view f.scope) ∷ parents_view gs)
+    (in_group_of (parent_of (part_view p) f.number f.slot f.group (scope_view f.scope)) (parents_view gs) k (sym (ap innermost_group around) ∙ some))
 
-pub popped_number : (fs gs : List FrameKept) (f : FrameKept) (k : ℕ) → fs ≡ gs ++ f ∷ [] → innermost_group (frames_view fs) ≡ Some k → f.number ≡ k
-popped_number fs gs f k is some = group_number (frame_view f) (frames_view gs) k (sym (ap innermost_group (frames_split fs gs f is)) ∙ some)
+pub popped_number : (fs gs : List ParentKept) (f : ParentKept) (k : ℕ) → fs ≡ gs ++ f ∷ [] → innermost_group (parents_view fs) ≡ Some k → f.number ≡ k
+popped_number fs gs f k is some = group_number (parent_view f) (parents_view gs) k (sym (ap innermost_group (parents_split fs gs f is)) ∙ some)
 
 -- A GROUP at a known end
-group_told :
-    {pool : Types} {m depth levels : ℕ} {base : List Record} {p0 : Place} {frames : List Frame} {scope : Scope} {now : Part} {q : Place} (k : ℕ)
-    → Stands pool m depth levels base p0 frames now scope q → innermost_group frames ≡ Some k → q.known ≡ Some 0 → Bad (schema_of pool) (records (in_message m)) depth p0 (fault q.at (path_of frames) PastEnd)
-group_told {frames = []} k s some end = absurd (cc)
-group_told {frames = frame ∷ frames} k s some end = past_end_told s (in_group_of frame frames k some) end
+group_reported :
+    {pool : Types} {m depth levels : ℕ} {base : List Record} {p0 : Place} {parents : List Parent} {scope : Scope} {now : Part} {q : Place} (k : ℕ)
+    → Stands pool m depth levels base p0 parents now scope q → innermost_group parents ≡ Some k → q.known ≡ Some 0 → Bad (schema_of pool) (records (in_message m)) depth p0 (fault q.at (path_of parents) PastEnd)
+group_reported {parents = []} k s some end = absurd (cc)
+group_reported {parents = parent ∷ parents} k s some end = past_end_reported s (in_group_of parent parents k some) end
 
 pub group_at_end :
-    {pool : Types} {m depth levels : ℕ} {base : List Record} {p0 : Place} (s : State) (rest : List ℕ) → Reads pool m depth levels base p0 s rest → s.next ≡ step.Tag → is_some (innermost_group s.frames) ≡ true → left_of s ≡ Some 0
-    → Told pool m depth p0 (fault s.at (path_here s) PastEnd)
+    {pool : Types} {m depth levels : ℕ} {base : List Record} {p0 : Place} (s : State) (rest : List ℕ) → Reads pool m depth levels base p0 s rest → s.next ≡ step.Tag → is_some (innermost_group s.parents) ≡ true → left_of s ≡ Some 0
+    → Reported pool m depth p0 (fault s.at (path_here s) PastEnd)
 group_at_end {pool} {m} {depth} {levels} {base} {p0} s rest begun tag some end =
-    let (k, is) = the_group (innermost_group s.frames) some in
-    record { bad = subst (λ (z : List PathStep). Bad (schema_of pool) (records (in_message m)) depth p0 (fault s.at z PastEnd)) path (group_told k (standing s rest s.frames s.now begun tag refl refl) is end); settled = λ same. absurd (cc) }
+    let (k, is) = the_group (innermost_group s.parents) some in
+    record { bad = subst (λ (z : List PathStep). Bad (schema_of pool) (records (in_message m)) depth p0 (fault s.at z PastEnd)) path (group_reported k (standing s rest s.parents s.now begun tag refl refl) is end); settled = λ same. absurd (cc) }
   where
     the_group : (o : Option ℕ) → is_some o ≡ true → (k : ℕ) × (o ≡ Some k)
     the_group (Some k) h = (k, refl)
     the_group None h = absurd (cc)
 
-    path : path_of s.frames ≡ path_here s
-    path = sym (append-nil (path_of s.frames)) ∙ ap (λ (z : Step). path_of s.frames ++ own_step z s.scope) (sym tag)
+    path : path_of s.parents ≡ path_here s
+    path = sym (append-nil (path_of s.parents)) ∙ ap (λ (z : Step). path_of s.parents ++ own_step z s.scope) (sym tag)
 
 -- A PACKED LIST at its end
 pub list_few :
     {pool : Types} {m depth levels : ℕ} {base : List Record} {p0 : Place} (s : State) (rest : List ℕ) (k : ℕ) (kd : Kind) (outer : Option ℕ) → Reads pool m depth levels base p0 s rest → s.next ≡ step.Elements k kd outer
     → s.scope.counts k ≤ s.at
 list_few {pool} {m} {depth} {levels} {base} {p0} s rest k kd outer begun is =
-    let list = at_list k kd outer (subst (λ (z : Step). After pool m depth levels base p0 s.frames z s.now s.scope (here s rest)) is begun) in
+    let list = at_list k kd outer (subst (λ (z : Step). After pool m depth levels base p0 s.parents z s.now s.scope (here s rest)) is begun) in
     let few = counts_fit k list.stands in
     let tag = list.has.tag.2.at in
     let size = list.length_is.length_is.2.at in
@@ -130,11 +130,11 @@ list_few {pool} {m} {depth} {levels} {base} {p0} s rest k kd outer begun is =
 
 pub list_ended :
     {pool : Types} {m depth levels : ℕ} {base : List Record} {p0 : Place} (s t : State) (rest : List ℕ) (k : ℕ) (kd : Kind) (outer : Option ℕ) → IsPool pool → Reads pool m depth levels base p0 s rest → s.next ≡ step.Elements k kd outer
-    → left_of s ≡ Some 0 → t.at ≡ s.at → t.next ≡ step.Tag → t.frames ≡ s.frames → t.now ≡ s.now → t.scope ≡ one_more_in k (record s.scope { end = outer }) → Reads pool m depth levels base p0 t rest
+    → left_of s ≡ Some 0 → t.at ≡ s.at → t.next ≡ step.Tag → t.parents ≡ s.parents → t.now ≡ s.now → t.scope ≡ one_more_in k (record s.scope { end = outer }) → Reads pool m depth levels base p0 t rest
 list_ended {pool} {m} {depth} {levels} {base} {p0} s t rest k kd outer ok begun is end at tag around now scope =
-    let inside_list = subst (λ (z : Step). After pool m depth levels base p0 s.frames z s.now s.scope (here s rest)) is begun in
+    let inside_list = subst (λ (z : Step). After pool m depth levels base p0 s.parents z s.now s.scope (here s rest)) is begun in
     let over = list_over k kd outer ok (list_can_hold k kd outer ok inside_list) inside_list end in
     closed_reads s t outer rest at tag (ap (λ (z : Scope). z.end) scope)
-    (subst (λ (z : List Frame). Stands pool m depth levels base p0 z t.now t.scope (up_to outer (here s rest))) (sym around)
-    (subst (λ (z : Part). Stands pool m depth levels base p0 s.frames z t.scope (up_to outer (here s rest))) (sym now)
-    (subst (λ (z : Scope). Stands pool m depth levels base p0 s.frames s.now z (up_to outer (here s rest))) (sym scope) over)))
+    (subst (λ (z : List Parent). Stands pool m depth levels base p0 z t.now t.scope (up_to outer (here s rest))) (sym around)
+    (subst (λ (z : Part). Stands pool m depth levels base p0 s.parents z t.scope (up_to outer (here s rest))) (sym now)
+    (subst (λ (z : Scope). Stands pool m depth levels base p0 s.parents s.now z (up_to outer (here s rest))) (sym scope) over)))

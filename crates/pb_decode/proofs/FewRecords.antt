@@ -9,8 +9,8 @@ use Rattle.pb_schema.specs.Types.{Types}
 use Rattle.pb_schema.specs.Context.{Context}
 use Rattle.pb_wire.specs.declared.fault.PathStep.{PathStep}
 use Rattle.pb_parts.specs.Open.Occurrences.{CountsOf}
-use Rattle.pb_parts.specs.Open.Opened.{Behind, Begun, a_message, a_value, a_group}
-use Rattle.pb_parts.specs.Open.Frames.{Part, Scope, Frame, Held, inside, Stands}
+use Rattle.pb_parts.specs.Open.Opened.{SoFar, Begun, a_message, a_value, a_group}
+use Rattle.pb_parts.specs.Open.Parents.{Part, Scope, Parent, Held, inside, Stands}
 use Rattle.pb_parts.proofs.StepCounts.{occurrence-le-length}
 
 few_records : (rs : List Record) (b : List ℕ) → AreRecords rs b → length rs ≤ length b
@@ -22,8 +22,8 @@ few_records (r ∷ rs) b h =
     let others = few_records rs h.1 h.3 in
     omega (arith, some, first, whole, others)
 
-counts_behind : {S : Schema} {o : Open S.Context} {depth_left : ℕ} {p q : Place} {rs : List Record} (counts : ℕ → ℕ) (k : ℕ) → Behind S o depth_left p rs q → CountsOf counts rs → counts k ≤ q.at
-counts_behind {rs = rs} counts k b h =
+counts_after : {S : Schema} {o : Open S.Context} {depth_left : ℕ} {p q : Place} {rs : List Record} (counts : ℕ → ℕ) (k : ℕ) → SoFar S o depth_left p rs q → CountsOf counts rs → counts k ≤ q.at
+counts_after {rs = rs} counts k b h =
     let is = h k in
     let fit = occurrence-le-length k rs in
     let few = few_records rs b.front b.spelled in
@@ -37,20 +37,20 @@ begun_later (a_group levels tag is_open is_place) = let x = ap (λ (z : Place). 
 
 -- the counts of the innermost part
 pub counts_fit :
-    {pool : Types} {m depth levels : ℕ} {base : List Record} {p0 : Place} {frames : List Frame} {scope : Scope} {now : Part} {q : Place} (k : ℕ) → Stands pool m depth levels base p0 frames now scope q → scope.counts k ≤ q.at
-counts_fit {scope = scope} k s = counts_behind scope.counts k s.behind s.counted
+    {pool : Types} {m depth levels : ℕ} {base : List Record} {p0 : Place} {parents : List Parent} {scope : Scope} {now : Part} {q : Place} (k : ℕ) → Stands pool m depth levels base p0 parents now scope q → scope.counts k ≤ q.at
+counts_fit {scope = scope} k s = counts_after scope.counts k s.so_far s.counted
 
 -- and those of its parent
-pub frame_counts_fit :
-    {pool : Types} {m depth levels : ℕ} {base : List Record} {p0 : Place} {frame : Frame} {frames : List Frame} {scope : Scope} {now : Part} {q : Place} (k : ℕ)
-    → Stands pool m depth levels base p0 (frame ∷ frames) now scope q → frame.scope.counts k ≤ q.at
-frame_counts_fit {pool} {m} {depth} {levels} {base} {p0} {frame} {frames} {scope} {now} {q} k s =
+pub parent_counts_fit :
+    {pool : Types} {m depth levels : ℕ} {base : List Record} {p0 : Place} {parent : Parent} {parents : List Parent} {scope : Scope} {now : Part} {q : Place} (k : ℕ)
+    → Stands pool m depth levels base p0 (parent ∷ parents) now scope q → parent.scope.counts k ≤ q.at
+parent_counts_fit {pool} {m} {depth} {levels} {base} {p0} {parent} {parents} {scope} {now} {q} k s =
     let before = outer_counts s.held in
-    let at = s.behind.moves.at in
+    let at = s.so_far.moves.at in
     omega (arith, before, at)
   where
-    outer_counts : {o : Open Context} {depth_left inner : ℕ} {path : List PathStep} {p : Place} {earlier : List Record} → Held pool m depth levels base p0 (frame ∷ frames) now o depth_left inner path p earlier → frame.scope.counts k ≤ p.at
+    outer_counts : {o : Open Context} {depth_left inner : ℕ} {path : List PathStep} {p : Place} {earlier : List Record} → Held pool m depth levels base p0 (parent ∷ parents) now o depth_left inner path p earlier → parent.scope.counts k ≤ p.at
     outer_counts (inside up h begun form can deep completes is_path counts ends goes_on takes) =
-        let few = counts_behind frame.scope.counts k h counts in
+        let few = counts_after parent.scope.counts k h counts in
         let later = begun_later begun in
         omega (arith, few, later)

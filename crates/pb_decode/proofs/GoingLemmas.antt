@@ -34,7 +34,7 @@ going_there {pool} {m} {limits} b s held h = by_stops h.stops
   where
     by_stops : Stops pool m limits.depth (text_at b) s held → IsGoing pool m limits b
     by_stops (over none tag ended) = let there = text_there b s held h.size none tag (top_over s held none tag h.reads ended) h.reads in inl (some_text there.0 there.2)
-    by_stops (cut told) = inr (fault (s.at + length held) (path_here s) Truncated, HasFault.bad h.size told, refl)
+    by_stops (cut reported) = inr (fault (s.at + length held) (path_here s) Truncated, HasFault.bad h.size reported, refl)
 
 -- what goes on is not settled
 pub never_settled : {pool : Types} {m : ℕ} {limits : Bounds} {b : List ℕ} → All IsByte b → IsGoing pool m limits b → (f : Fault) → IsSettled pool m limits b f → ⊥

@@ -12,7 +12,7 @@ use Rattle.pb_wire.specs.Exact.{IsRead, ending_at}
 use Rattle.pb_wire.proofs.Places.{after, moves_after}
 use Rattle.pb_wire.proofs.OneFault.{not_both, one_fault}
 use Rattle.pb_wire.proofs.Longer.{bad_longer}
-use Rattle.pb_wire.proofs.FaultBounds.{told as bad_told}
+use Rattle.pb_wire.proofs.FaultBounds.{told as bad_reported}
 use Rattle.pb_schema.specs.Types.{Types}
 use Rattle.pb_schema.specs.Context.{a_message, schema_of}
 use Rattle.pb_value.specs.Data.{Message}
@@ -21,7 +21,7 @@ use Rattle.pb_decode.specs.Reader.Origin.{origin, further, IsWhole, BadFrom}
 use Rattle.pb_decode.specs.declared.error.DecodeError.{DecodeError}
 use Rattle.pb_decode.specs.declared.error.DecodeError.TheVariants as error
 use Rattle.pb_decode.specs.FromDevice.{IfRefused}
-use Rattle.pb_decode.specs.Loops.{ToldOf}
+use Rattle.pb_decode.specs.Loops.{ReportedOf}
 use Rattle.pb_decode.specs.Frame.{IsFrameOf, BadFrame, error_later}
 use Rattle.pb_decode.proofs.PushLemmas.{no_bytes}
 use Rattle.pb_decode.proofs.GivenLemmas.{never_cut}
@@ -88,10 +88,10 @@ rest_text (Some left) None size bytes all given = absurd given
 rest_text (Some left) (Some rest) size bytes all given = ap (λ (z : List ℕ). Some z) (sym (ap (drop size) given ∙ drop_at bytes rest size all))
 
 -- THE FAULT
-pub told_frame : {pool : Types} {k depth : ℕ} (x y : Option (List ℕ)) (size most : ℕ) (f : Fault) → ToldOf pool (origin k depth [] (Some size)) x y most f → IfSome x (λ left. BadFrame pool k depth 0 size left f)
-told_frame None y size most f h = tt
-told_frame (Some left) None size most f h = absurd h.given
-told_frame {pool} {k} {depth} (Some left) (Some rest) size most f h = subst (λ (z : List ℕ). BadFrame pool k depth 0 size z f) (sym h.given) (bad_longer rest h.told.bad h.told.settled)
+pub reported_frame : {pool : Types} {k depth : ℕ} (x y : Option (List ℕ)) (size most : ℕ) (f : Fault) → ReportedOf pool (origin k depth [] (Some size)) x y most f → IfSome x (λ left. BadFrame pool k depth 0 size left f)
+reported_frame None y size most f h = tt
+reported_frame (Some left) None size most f h = absurd h.given
+reported_frame {pool} {k} {depth} (Some left) (Some rest) size most f h = subst (λ (z : List ℕ). BadFrame pool k depth 0 size z f) (sym h.given) (bad_longer rest h.reported.bad h.reported.settled)
 
 -- and where the input ended, or all bytes of the frame are given
 pub bad_frame :
@@ -105,7 +105,7 @@ bad_frame pool {k} {depth} (Some left) (Some rest) size bytes f (inl all) given 
 
 -- where it is reported
 pub low_byte : (pool : Types) {k depth size : ℕ} {bytes : List ℕ} (f : Fault) → BadFrom pool (further (origin k depth [] (Some size)) bytes) f → f.byte ≤ length bytes
-low_byte pool {bytes = bytes} f bad = let high = (bad_told bad).high in omega (arith, high)
+low_byte pool {bytes = bytes} f bad = let high = (bad_reported bad).high in omega (arith, high)
 
 -- FROM A LATER POSITION ON
 pub refused_later : (start : ℕ) (e : DecodeError) (P Q : Fault → Type 0) → ((f : Fault) → P f → Q (later start f)) → IfRefused e P → IfRefused (error_later start e) Q

@@ -4,22 +4,22 @@ use Rattle.std.proofs.lemmas.List.{map-append, reverse-append}
 use Rattle.pb_wire.specs.Record.{Record}
 use Rattle.pb_wire.specs.Fault.{Place}
 use Rattle.pb_schema.specs.Types.{Types}
-use Rattle.pb_parts.specs.declared.open.part.Frame.{Frame as FrameKept}
+use Rattle.pb_parts.specs.declared.open.part.Parent.{Parent as ParentKept}
 use Rattle.pb_parts.specs.declared.tokens.step.Step.{Step}
 use Rattle.pb_parts.specs.declared.tokens.step.Step.TheVariants as step
-use Rattle.pb_parts.specs.Open.Frames.{Frame, Stands}
-use Rattle.pb_parts.specs.Open.PartView.{part_view, scope_view, frame_view}
+use Rattle.pb_parts.specs.Open.Parents.{Parent, Stands}
+use Rattle.pb_parts.specs.Open.PartView.{part_view, scope_view, parent_view}
 use Rattle.pb_parts.specs.Tokens.After.{After}
 use Rattle.pb_parts.specs.declared.open.part.Part.{Part as PartKept}
 use Rattle.pb_parts.specs.declared.open.part.Scope.{Scope as ScopeKept}
 use Rattle.pb_decode.specs.declared.reader.state.Reader.{Reader}
-use Rattle.pb_decode.specs.Reader.{State, state_view, frames_view, left_of, here, Reads}
-use Rattle.pb_parts.proofs.FrameLemmas.{place_up_to}
+use Rattle.pb_decode.specs.Reader.{State, state_view, parents_view, left_of, here, Reads}
+use Rattle.pb_parts.proofs.ParentLemmas.{place_up_to}
 use Rattle.pb_parts.proofs.AfterLemmas.{after_record}
 
 -- a frame more is the innermost
-pub frames_pushed : (fs : List FrameKept) (f : FrameKept) → frames_view (fs ++ f ∷ []) ≡ frame_view f ∷ frames_view fs
-frames_pushed fs f = ap reverse (map-append frame_view fs (f ∷ [])) ∙ reverse-append (map frame_view fs) (frame_view f ∷ [])
+pub parents_pushed : (fs : List ParentKept) (f : ParentKept) → parents_view (fs ++ f ∷ []) ≡ parent_view f ∷ parents_view fs
+parents_pushed fs f = ap reverse (map-append parent_view fs (f ∷ [])) ∙ reverse-append (map parent_view fs) (parent_view f ∷ [])
 
 -- where a reader is, is known by its position, its end and the bytes that are left
 place_here : (s : State) (rest : List ℕ) (u : Place) → u ≡ record u { known = option_map (λ (e : ℕ). e - u.at) s.scope.end } → u.at ≡ s.at → u.rest ≡ rest → u ≡ here s rest
@@ -28,25 +28,25 @@ place_here s rest u is at same =
     ∙ ap (λ (z : List ℕ). record { at = s.at; known = left_of s; rest = z }) same
 
 pub after_here :
-    {pool : Types} {m depth levels : ℕ} {base : List Record} {p0 : Place} (s : State) (rest : List ℕ) (u : Place) → After pool m depth levels base p0 s.frames s.next s.now s.scope u → u.at ≡ s.at → u.rest ≡ rest
+    {pool : Types} {m depth levels : ℕ} {base : List Record} {p0 : Place} (s : State) (rest : List ℕ) (u : Place) → After pool m depth levels base p0 s.parents s.next s.now s.scope u → u.at ≡ s.at → u.rest ≡ rest
     → Reads pool m depth levels base p0 s rest
 after_here {pool} {m} {depth} {levels} {base} {p0} s rest u a at same =
-    subst (After pool m depth levels base p0 s.frames s.next s.now s.scope) (place_here s rest u (place_up_to u s.scope.end a.ends) at same) a
+    subst (After pool m depth levels base p0 s.parents s.next s.now s.scope) (place_here s rest u (place_up_to u s.scope.end a.ends) at same) a
 
 -- after a whole record, or where a part begins, a tag comes next
 pub stands_here :
-    {pool : Types} {m depth levels : ℕ} {base : List Record} {p0 : Place} (s : State) (rest : List ℕ) (u : Place) → Stands pool m depth levels base p0 s.frames s.now s.scope u → s.next ≡ step.Tag → u.at ≡ s.at → u.rest ≡ rest
+    {pool : Types} {m depth levels : ℕ} {base : List Record} {p0 : Place} (s : State) (rest : List ℕ) (u : Place) → Stands pool m depth levels base p0 s.parents s.now s.scope u → s.next ≡ step.Tag → u.at ≡ s.at → u.rest ≡ rest
     → Reads pool m depth levels base p0 s rest
 stands_here {pool} {m} {depth} {levels} {base} {p0} s rest u h tag at same =
-    after_here s rest u (subst (λ (z : Step). After pool m depth levels base p0 s.frames z s.now s.scope u) (sym tag) (after_record h)) at same
+    after_here s rest u (subst (λ (z : Step). After pool m depth levels base p0 s.parents z s.now s.scope u) (sym tag) (after_record h)) at same
 
 -- a reader in what is opened is where it begins
 pub entered :
-    {pool : Types} {m depth levels : ℕ} {base : List Record} {p0 : Place} (r : Reader) (part : PartKept) (scope : ScopeKept) (frame : FrameKept) (frames : List Frame) (q : Place) → frames_view r.frames.items ≡ frame_view frame ∷ frames
-    → r.part ≡ part → r.scope ≡ scope → r.step ≡ step.Tag → q.at ≡ r.at → Stands pool m depth levels base p0 (frame_view frame ∷ frames) (part_view part) (scope_view scope) q → Reads pool m depth levels base p0 (state_view r) q.rest
-entered {pool} {m} {depth} {levels} {base} {p0} r part scope frame frames q is_frames is_part is_scope tag at h =
+    {pool : Types} {m depth levels : ℕ} {base : List Record} {p0 : Place} (r : Reader) (part : PartKept) (scope : ScopeKept) (parent : ParentKept) (parents : List Parent) (q : Place) → parents_view r.parents.items ≡ parent_view parent ∷ parents
+    → r.part ≡ part → r.scope ≡ scope → r.step ≡ step.Tag → q.at ≡ r.at → Stands pool m depth levels base p0 (parent_view parent ∷ parents) (part_view part) (scope_view scope) q → Reads pool m depth levels base p0 (state_view r) q.rest
+entered {pool} {m} {depth} {levels} {base} {p0} r part scope parent parents q is_parents is_part is_scope tag at h =
     stands_here (state_view r) q.rest q
-    (subst (λ (z : List Frame). Stands pool m depth levels base p0 z (part_view r.part) (scope_view r.scope) q) (sym is_frames)
-    (subst (λ (z : PartKept). Stands pool m depth levels base p0 (frame_view frame ∷ frames) (part_view z) (scope_view r.scope) q) (sym is_part)
-    (subst (λ (z : ScopeKept). Stands pool m depth levels base p0 (frame_view frame ∷ frames) (part_view part) (scope_view z) q) (sym is_scope) h)))
+    (subst (λ (z : List Parent). Stands pool m depth levels base p0 z (part_view r.part) (scope_view r.scope) q) (sym is_parents)
+    (subst (λ (z : PartKept). Stands pool m depth levels base p0 (parent_view parent ∷ parents) (part_view z) (scope_view r.scope) q) (sym is_part)
+    (subst (λ (z : ScopeKept). Stands pool m depth levels base p0 (parent_view parent ∷ parents) (part_view part) (scope_view z) q) (sym is_scope) h)))
     tag at refl

@@ -14,11 +14,11 @@ use Rattle.pb_schema.specs.Context.{a_message as in_message, schema_of}
 use Rattle.pb_parts.specs.declared.open.target.Target.{Target}
 use Rattle.pb_parts.specs.declared.tokens.step.Step.{Step}
 use Rattle.pb_parts.specs.declared.tokens.step.Step.TheVariants as step
-use Rattle.pb_parts.specs.Open.Frames.{EndsAt, path_of, next_step}
+use Rattle.pb_parts.specs.Open.Parents.{EndsAt, path_of, next_step}
 use Rattle.pb_parts.specs.Tokens.After.{awaited, After}
-use Rattle.pb_decode.specs.Reader.{State, left_of, here, own_step, path_here, Reads, Stops, cut, Told}
-use Rattle.pb_parts.proofs.FrameLemmas.{ends_along}
-use Rattle.pb_parts.proofs.TokenTold.{length_refused}
+use Rattle.pb_decode.specs.Reader.{State, left_of, here, own_step, path_here, Reads, Stops, cut, Reported}
+use Rattle.pb_parts.proofs.ParentLemmas.{ends_along}
+use Rattle.pb_parts.proofs.TokenReports.{length_refused}
 
 -- AFTER THE LENGTH the known end is where it was
 pub length_ends :
@@ -29,28 +29,28 @@ length_ends s rest n size begun h = ends_along h.0 s.scope.end h.2 begun.ends
 -- the reader awaits the length of this record
 pub at_length :
     {pool : Types} {m depth levels : ℕ} {base : List Record} {p0 : Place} (s : State) (rest : List ℕ) (k : ℕ) (p : Target) → Reads pool m depth levels base p0 s rest → s.next ≡ step.Length k p
-    → After pool m depth levels base p0 s.frames (step.Length k p) s.now s.scope (here s rest)
-at_length {pool} {m} {depth} {levels} {base} {p0} s rest k p begun is = subst (λ (z : Step). After pool m depth levels base p0 s.frames z s.now s.scope (here s rest)) is begun
+    → After pool m depth levels base p0 s.parents (step.Length k p) s.now s.scope (here s rest)
+at_length {pool} {m} {depth} {levels} {base} {p0} s rest k p begun is = subst (λ (z : Step). After pool m depth levels base p0 s.parents z s.now s.scope (here s rest)) is begun
 
 -- A FAULT below the step of the record is one where the reader is
-length_told :
+length_reported :
     (pool : Types) (m depth : ℕ) (p0 : Place) (s : State) (k : ℕ) (p : Target) (byte : ℕ) (c : Cause) → s.next ≡ step.Length k p
-    → Bad (schema_of pool) (records (in_message m)) depth p0 (fault byte (path_of s.frames ++ next_step k s.scope ∷ []) c) → Bad (schema_of pool) (records (in_message m)) depth p0 (fault byte (path_here s) c)
-length_told pool m depth p0 s k p byte c is bad =
-    let path : path_of s.frames ++ next_step k s.scope ∷ [] ≡ path_here s = ap (λ (z : Step). path_of s.frames ++ own_step z s.scope) (sym is) in
+    → Bad (schema_of pool) (records (in_message m)) depth p0 (fault byte (path_of s.parents ++ next_step k s.scope ∷ []) c) → Bad (schema_of pool) (records (in_message m)) depth p0 (fault byte (path_here s) c)
+length_reported pool m depth p0 s k p byte c is bad =
+    let path : path_of s.parents ++ next_step k s.scope ∷ [] ≡ path_here s = ap (λ (z : Step). path_of s.parents ++ own_step z s.scope) (sym is) in
     subst (λ (z : List PathStep). Bad (schema_of pool) (records (in_message m)) depth p0 (fault byte z c)) path bad
 
-pub length_fault_told :
+pub length_fault_reported :
     (pool : Types) (m depth : ℕ) (p0 : Place) (s : State) (k : ℕ) (p : Target) (c : Cause) → s.next ≡ step.Length k p → c ≢ Truncated
-    → Bad (schema_of pool) (records (in_message m)) depth p0 (fault s.at (path_of s.frames ++ next_step k s.scope ∷ []) c) → Told pool m depth p0 (fault s.at (path_here s) c)
-length_fault_told pool m depth p0 s k p c is not_cut bad = record { bad = length_told pool m depth p0 s k p s.at c is bad; settled = not_cut }
+    → Bad (schema_of pool) (records (in_message m)) depth p0 (fault s.at (path_of s.parents ++ next_step k s.scope ∷ []) c) → Reported pool m depth p0 (fault s.at (path_here s) c)
+length_fault_reported pool m depth p0 s k p c is not_cut bad = record { bad = length_reported pool m depth p0 s k p s.at c is bad; settled = not_cut }
 
 -- THE BYTES END inside the length
 pub length_short :
     {pool : Types} {m depth levels : ℕ} {base : List Record} {p0 : Place} (s : State) (rest : List ℕ) (k : ℕ) (p : Target) → Reads pool m depth levels base p0 s rest → s.next ≡ step.Length k p
     → VarintFault (here s rest) (fault (input_end (here s rest)) [] Truncated) → Stops pool m depth p0 s rest
 length_short {pool} {m} {depth} {levels} {base} {p0} s rest k p begun is bad =
-    cut (length_told pool m depth p0 s k p (input_end (here s rest)) Truncated is (length_refused k p (fault (input_end (here s rest)) [] Truncated) begun (ap awaited is) (LengthFault.token bad)))
+    cut (length_reported pool m depth p0 s k p (input_end (here s rest)) Truncated is (length_refused k p (fault (input_end (here s rest)) [] Truncated) begun (ap awaited is) (LengthFault.token bad)))
 
 -- WHAT IS REPORTED of the number at the start of the bytes
 pub number_there :

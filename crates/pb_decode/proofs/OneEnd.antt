@@ -11,20 +11,20 @@ use Rattle.pb_wire.proofs.Fronts.{align, RecordAt}
 use Rattle.pb_wire.proofs.OneFault.{bad_not_record}
 use Rattle.pb_wire.proofs.Tokens.{one_tag, one_length, varint_not_both}
 use Rattle.pb_parts.specs.Open.Opened as opened
-use Rattle.pb_parts.specs.Open.Opened.{Behind, Begun, Opened}
+use Rattle.pb_parts.specs.Open.Opened.{SoFar, Begun, Opened}
 use Rattle.pb_parts.specs.Tokens.Numbers.{a_varint, eight_bytes, four_bytes, IsCutVarint, IsCutNumber}
 use Rattle.pb_decode.specs.Pending.{Unfinished, in_tag, in_number, in_length, in_payload, in_list, EndsInside}
-use Rattle.pb_parts.proofs.OpenedLemmas.{begins_at_tag, bad_behind, bad_begun}
+use Rattle.pb_parts.proofs.OpenedLemmas.{begins_at_tag, bad_after, bad_begun}
 use Rattle.pb_decode.proofs.OneElement.{one_front, varint_open, element_open}
 
 -- THE SAME FROM THE TOP: after whole records the bytes end in what comes next, or in what is begun there
 pub data EndsIn (S : Schema) : Open S.Context → ℕ → Place → ℕ → ℕ → ℕ → Type 0 where
   here :
       {o : Open S.Context} {depth_left held contexts declared lists : ℕ} {p q : Place} {rs : List Record}
-      → Behind S o depth_left p rs q → Unfinished S (context_of o) depth_left q held lists declared → contexts ≡ suc lists → EndsIn S o depth_left p held contexts declared
+      → SoFar S o depth_left p rs q → Unfinished S (context_of o) depth_left q held lists declared → contexts ≡ suc lists → EndsIn S o depth_left p held contexts declared
   deeper :
       {a o : Open S.Context} {depth_left below k held contexts inner declared : ℕ} {p q u : Place} {rs : List Record}
-      → Behind S a depth_left p rs q → Begun S a depth_left k q o below u → EndsIn S o below u held inner declared → contexts ≡ suc inner → EndsIn S a depth_left p held contexts declared
+      → SoFar S a depth_left p rs q → Begun S a depth_left k q o below u → EndsIn S o below u held inner declared → contexts ≡ suc inner → EndsIn S a depth_left p held contexts declared
 
 from_top :
     {S : Schema} {top : Open S.Context} {depth : ℕ} {p0 : Place} {o : Open S.Context} {depth_left : ℕ} {path : List PathStep} {p : Place} (held contexts declared : ℕ)
@@ -44,7 +44,7 @@ ends_in : {S : Schema} {c : S.Context} {depth : ℕ} {b : List ℕ} {held contex
 ends_in {S} {c} {depth} {b} {held} {contexts} {declared} e =
     let is = e.contexts_are in
     let same : length e.path + suc e.lists ≡ contexts = omega (arith, is) in
-    subst (λ (n : ℕ). EndsIn S (records c) depth (text_at b) held n declared) same (from_top held (suc e.lists) declared e.opened (here e.behind e.unfinished refl))
+    subst (λ (n : ℕ). EndsIn S (records c) depth (text_at b) held n declared) same (from_top held (suc e.lists) declared e.opened (here e.so_far e.unfinished refl))
 
 -- A FAULT: what is not finished is no whole record
 unfinished_bad :
@@ -87,24 +87,24 @@ begun_begins {a = a} (opened.a_group levels tag is_open is_place) = begins_at_ta
 
 pub end_bad : {S : Schema} {o : Open S.Context} {depth_left : ℕ} {p : Place} {held contexts declared : ℕ} → ((open_group o ≢ None) ⊎ (p.known ≢ None)) → EndsIn S o depth_left p held contexts declared → (f : Fault) × Bad S o depth_left p f
 end_bad {o = o} {p = p} ends (here {q = q} {rs = rs} b h is) =
-    let told = unfinished_bad o rs h in
-    (told.0, bad_behind b (unfinished_begins o (along ends) h) told.1)
+    let reported = unfinished_bad o rs h in
+    (reported.0, bad_after b (unfinished_begins o (along ends) h) reported.1)
   where
     along : (open_group o ≢ None) ⊎ (p.known ≢ None) → (open_group o ≢ None) ⊎ (q.known ≢ None)
     along (inl grouped) = inl grouped
     along (inr known) = inr (none_known p q (length b.front) b.moves.known known)
 end_bad ends (deeper {rs = rs} b begun inner is) =
-    let told = end_bad (goes_inside begun) inner in
-    (_, bad_behind b (begun_begins begun) (bad_begun rs begun told.1))
+    let reported = end_bad (goes_inside begun) inner in
+    (_, bad_after b (begun_begins begun) (bad_begun rs begun reported.1))
 
 begun_bad :
     {S : Schema} {a o : Open S.Context} {depth_left below k held contexts declared : ℕ} {q u : Place} (before : List Record) → Begun S a depth_left k q o below u → EndsIn S o below u held contexts declared
     → (f : Fault) × RecordFault S a before depth_left q f
-begun_bad before begun inner = let told = end_bad (goes_inside begun) inner in (_, bad_begun before begun told.1)
+begun_bad before begun inner = let reported = end_bad (goes_inside begun) inner in (_, bad_begun before begun reported.1)
 
 -- ONE PLACE: no whole record is after either prefix
 one_place :
-    {S : Schema} {o : Open S.Context} {depth_left : ℕ} {p q r : Place} {rs ss : List Record} → Behind S o depth_left p rs q → Behind S o depth_left p ss r → (f : Fault) × RecordFault S o rs depth_left q f → (g : Fault) × RecordFault S o ss depth_left r g → q ≡ r
+    {S : Schema} {o : Open S.Context} {depth_left : ℕ} {p q r : Place} {rs ss : List Record} → SoFar S o depth_left p rs q → SoFar S o depth_left p ss r → (f : Fault) × RecordFault S o rs depth_left q f → (g : Fault) × RecordFault S o ss depth_left r g → q ≡ r
 one_place {S} {o} {depth_left} {p} {q} {r} {rs} {ss} b d f g = judge (align rs ss b.front d.front b.spelled d.spelled b.sound d.sound b.moves d.moves)
   where
     judge : (q ≡ r) ⊎ (RecordAt S (context_of o) depth_left q ⊎ RecordAt S (context_of o) depth_left r) → q ≡ r

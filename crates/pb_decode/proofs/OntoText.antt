@@ -29,7 +29,7 @@ use Rattle.pb_value.proofs.OntoLemmas.{onto_joined}
 use Rattle.pb_value.proofs.RoundTrip.{canonical_text}
 use Rattle.pb_value.proofs.JoinedTexts.{AreRecords-append, AllSound-append, AllSound-behind, records_behind}
 use Rattle.pb_decode.specs.Reader.{State, Stops, over, cut}
-use Rattle.pb_decode.specs.Reader.Origin.{origin, further, TookFrom, IsWhole, BadFrom, ToldFrom}
+use Rattle.pb_decode.specs.Reader.Origin.{origin, further, TookFrom, IsWhole, BadFrom, ReportedFrom}
 use Rattle.pb_decode.specs.Onto.{IsTextOnto}
 use Rattle.pb_decode.specs.Push.{Took}
 use Rattle.pb_whole.proofs.Top.{nothing_good}
@@ -111,16 +111,16 @@ pub whole_fault :
 whole_fault pool base f size h = HasFault.bad size h
 
 front_fault :
-    {pool : Types} {k : ℕ} {limits : Bounds} (base : List Record) {b : List ℕ} (f : Fault) → limits.bytes < length b → ToldFrom pool (further (origin k limits.depth base None) (take limits.bytes b)) f
+    {pool : Types} {k : ℕ} {limits : Bounds} (base : List Record) {b : List ℕ} (f : Fault) → limits.bytes < length b → ReportedFrom pool (further (origin k limits.depth base None) (take limits.bytes b)) f
     → HasFault (schema_of pool) (a_message k) limits b f
 front_fault {limits = limits} base f more h = HasFault.bad_front more h.bad (beyond_settled limits.bytes f h.settled)
 
 -- a fault of the bytes within the limit
-pub front_told :
-    {pool : Types} {k : ℕ} {limits : Bounds} (base : List Record) {b : List ℕ} (most : ℕ) (f : Fault) → most ≡ limits.bytes → most < length b → ToldFrom pool (further (origin k limits.depth base None) (take most b)) f
+pub front_reported :
+    {pool : Types} {k : ℕ} {limits : Bounds} (base : List Record) {b : List ℕ} (most : ℕ) (f : Fault) → most ≡ limits.bytes → most < length b → ReportedFrom pool (further (origin k limits.depth base None) (take most b)) f
     → HasFault (schema_of pool) (a_message k) limits b f
-front_told {pool} {k} {limits} base {b} most f is more h =
-    front_fault base f (omega (arith, is, more)) (subst (λ (n : ℕ). ToldFrom pool (further (origin k limits.depth base None) (take n b)) f) is h)
+front_reported {pool} {k} {limits} base {b} most f is more h =
+    front_fault base f (omega (arith, is, more)) (subst (λ (n : ℕ). ReportedFrom pool (further (origin k limits.depth base None) (take n b)) f) is h)
 
 beyond_fault :
     {pool : Types} {k : ℕ} {limits : Bounds} {base : List Record} {b : List ℕ} (s : State) (held : List ℕ) → limits.bytes < length b → TookFrom pool (further (origin k limits.depth base None) (take limits.bytes b)) s held
@@ -133,14 +133,14 @@ beyond_fault {pool} {k} {limits} {base} {b} s held more h = by_stops h.stops
     by_stops : Stops pool k limits.depth (further (origin k limits.depth base None) (take limits.bytes b)).place s held → HasFault (schema_of pool) (a_message k) limits b (fault limits.bytes [] InputTooLarge)
     by_stops (cut bad) = HasFault.bad_front more bad refl
     by_stops (over none tag ended) =
-        let (w, form) = is_message (further (origin k limits.depth base None) (take limits.bytes b)) s held (record { frames = none; next = tag; over = ended }) h in
-        from_whole w (whole_there (further (origin k limits.depth base None) (take limits.bytes b)) s held k w (record { frames = none; next = tag; over = ended }) form h)
+        let (w, form) = is_message (further (origin k limits.depth base None) (take limits.bytes b)) s held (record { parents = none; next = tag; over = ended }) h in
+        from_whole w (whole_there (further (origin k limits.depth base None) (take limits.bytes b)) s held k w (record { parents = none; next = tag; over = ended }) form h)
 
 -- more bytes than the limit allows: those within it are whole, or cut short
-pub beyond_told :
+pub beyond_reported :
     {pool : Types} {k : ℕ} {limits : Bounds} {base : List Record} {b : List ℕ} (most : ℕ) (s : State) (held : List ℕ) → most ≡ limits.bytes → most < length b
     → TookFrom pool (further (origin k limits.depth base None) (take most b)) s held → HasFault (schema_of pool) (a_message k) limits b (fault most [] InputTooLarge)
-beyond_told {pool} {k} {limits} {base} {b} most s held is more h =
+beyond_reported {pool} {k} {limits} {base} {b} most s held is more h =
     subst (λ (n : ℕ). HasFault (schema_of pool) (a_message k) limits b (fault n [] InputTooLarge)) (sym is)
     (beyond_fault s held (omega (arith, is, more)) (subst (λ (n : ℕ). TookFrom pool (further (origin k limits.depth base None) (take n b)) s held) is h))
 
@@ -156,12 +156,12 @@ module _ (pool : Types) (rules : IsPool pool) (m depth : ℕ) (v : Message) (goo
 
   pub derives_onto : (a b : List ℕ) (w : Message) → Derives pool m depth a v → Derives pool m depth (a ++ b) w → IsOnto pool m depth v b w
   derives_onto a b w h g =
-      let behind = records_behind h.records g.records a b h.spelled g.spelled in
+      let after = records_behind h.records g.records a b h.spelled g.spelled in
       record {
-        records = behind.0;
-        spelled = behind.2;
-        sound = AllSound-behind h.records behind.0 (subst (AllSound (schema_of pool) (a_message m) depth) behind.1 g.sound);
-        valued = g.valued ∙ ap (value pool m) behind.1 ∙ sym (onto_joined pool m v h.records behind.0 rules good (sym h.valued));
+        records = after.0;
+        spelled = after.2;
+        sound = AllSound-behind h.records after.0 (subst (AllSound (schema_of pool) (a_message m) depth) after.1 g.sound);
+        valued = g.valued ∙ ap (value pool m) after.1 ∙ sym (onto_joined pool m v h.records after.0 rules good (sym h.valued));
       }
 
 -- an encoding onto the empty message is one of its value

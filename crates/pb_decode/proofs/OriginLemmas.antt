@@ -18,14 +18,14 @@ use Rattle.pb_value.proofs.MessageSteps.{value_of_nothing}
 use Rattle.pb_value.specs.WellFormed.{IsWellFormed}
 use Rattle.pb_parts.specs.declared.tokens.step.Step.{Step}
 use Rattle.pb_parts.specs.declared.tokens.step.Step.TheVariants as step
-use Rattle.pb_parts.specs.Open.Opened.{Behind}
-use Rattle.pb_parts.specs.Open.Frames.{Part, message_part, Frame, Scope, EndsAt, Held, at_top, Stands}
+use Rattle.pb_parts.specs.Open.Opened.{SoFar}
+use Rattle.pb_parts.specs.Open.Parents.{Part, message_part, Parent, Scope, EndsAt, Held, at_top, Stands}
 use Rattle.pb_parts.specs.Tokens.After.{After}
 use Rattle.pb_decode.specs.Reader.{State, here, path_here, Reads, IsReading, Stops, over, cut}
 use Rattle.pb_decode.specs.Reader.Origin.{Origin, origin, further, TookFrom, IsOverAt, IsWhole, BadFrom}
 use Rattle.pb_parts.proofs.AfterLemmas.{after_record, at_record}
-use Rattle.pb_parts.proofs.FrameLemmas.{stands_at_start}
-use Rattle.pb_decode.proofs.FinishLemmas.{cut_told}
+use Rattle.pb_parts.proofs.ParentLemmas.{stands_at_start}
+use Rattle.pb_decode.proofs.FinishLemmas.{cut_reported}
 use Rattle.pb_whole.proofs.Top.{is_top, top_well_formed}
 
 -- MORE BYTES
@@ -57,7 +57,7 @@ pub stands_over : {pool : Types} (o : Origin) (s : State) (held : List ℕ) → 
 stands_over {pool} o s held ended h =
     at_record
     (subst (λ (z : Step). After pool o.kind o.depth 101 o.base o.place [] z s.now s.scope (here s held)) ended.next
-    (subst (λ (z : List Frame). After pool o.kind o.depth 101 o.base o.place z s.next s.now s.scope (here s held)) ended.frames h.reads))
+    (subst (λ (z : List Parent). After pool o.kind o.depth 101 o.base o.place z s.next s.now s.scope (here s held)) ended.parents h.reads))
 
 pub is_message : {pool : Types} (o : Origin) (s : State) (held : List ℕ) → IsOverAt s held → TookFrom pool o s held → (v : Message) × (s.now ≡ message_part o.kind v)
 is_message o s held ended h = is_top refl (stands_over o s held ended h).held
@@ -65,18 +65,18 @@ is_message o s held ended h = is_top refl (stands_over o s held ended h).held
 -- whole records lead from the top's first byte to the reader's position
 whole_read : (pool : Types) (o : Origin) (k : ℕ) (v : Message) (scope : Scope) (q : Place) → IsOver q → Stands pool o.kind o.depth 101 o.base o.place [] (message_part k v) scope q → IsWhole pool o v
 unfolding value
-whole_read pool o k v scope q ended s = from_held s.held s.behind s.worth
+whole_read pool o k v scope q ended s = from_held s.held s.so_far s.worth
   where
     from_held :
         {a : Open Context} {depth_left inner : ℕ} {path : List PathStep} {p : Place} {earlier rs : List Record}
-        → Held pool o.kind o.depth 101 o.base o.place [] (message_part k v) a depth_left inner path p earlier → Behind (schema_of pool) a depth_left p rs q → v ≡ value_within pool inner k (earlier ++ rs) → IsWhole pool o v
-    from_held {a} {depth_left} {inner} {path} {p} {earlier} {rs} (at_top x form is_open is_room is_inner is_path is_place is_base goes_on) h worth = record {
+        → Held pool o.kind o.depth 101 o.base o.place [] (message_part k v) a depth_left inner path p earlier → SoFar (schema_of pool) a depth_left p rs q → v ≡ value_within pool inner k (earlier ++ rs) → IsWhole pool o v
+    from_held {a} {depth_left} {inner} {path} {p} {earlier} {rs} (at_top x form is_open is_depth is_inner is_path is_place is_base goes_on) h worth = record {
       records = rs;
       front = h.front;
       after = q;
       spelled = h.spelled;
       sound =
-          subst (λ (z : ℕ). AllSound (schema_of pool) (in_message o.kind) z rs) is_room
+          subst (λ (z : ℕ). AllSound (schema_of pool) (in_message o.kind) z rs) is_depth
           (subst (λ (z : Open Context). AllSound (schema_of pool) (context_of z) depth_left rs) is_open h.sound);
       moves = subst (λ (z : Place). Moves z h.front q) is_place h.moves;
       over = ended;
@@ -100,18 +100,18 @@ cut_over {pool} o s held begun h = by_stops h.stops
   where
     by_stops : Stops pool o.kind o.depth o.place s held → BadFrom pool o (fault (s.at + length held) (path_here s) Truncated)
     by_stops (cut bad) = bad
-    by_stops (over none tag ended) = absurd (begun (record { frames = none; next = tag; over = ended }))
+    by_stops (over none tag ended) = absurd (begun (record { parents = none; next = tag; over = ended }))
 
 -- THE START
 -- nothing is taken yet
 unfoldable started : Part → Scope → State
-started v scope = record { at = 0; now = v; scope = scope; frames = []; next = step.Tag }
+started v scope = record { at = 0; now = v; scope = scope; parents = []; next = step.Tag }
 
-state_is : (s : State) (v : Part) → s.at ≡ 0 → s.next ≡ step.Tag → s.frames ≡ [] → s.now ≡ v → s ≡ started v s.scope
+state_is : (s : State) (v : Part) → s.at ≡ 0 → s.next ≡ step.Tag → s.parents ≡ [] → s.now ≡ v → s ≡ started v s.scope
 unfolding started
 state_is s v at tag none part =
-    ap (λ (z : ℕ). record s { at = z }) at ∙ ap (λ (z : Part). record s { at = 0; now = z }) part ∙ ap (λ (z : List Frame). record s { at = 0; now = v; frames = z }) none
-    ∙ ap (λ (z : Step). record s { at = 0; now = v; frames = []; next = z }) tag
+    ap (λ (z : ℕ). record s { at = z }) at ∙ ap (λ (z : Part). record s { at = 0; now = z }) part ∙ ap (λ (z : List Parent). record s { at = 0; now = v; parents = z }) none
+    ∙ ap (λ (z : Step). record s { at = 0; now = v; parents = []; next = z }) tag
 
 left_at_start : (end : Option ℕ) → option_map (λ (e : ℕ). e - 0) end ≡ end
 left_at_start None = refl
@@ -125,7 +125,7 @@ ends_at_start (Some e) = (e, refl, omega arith)
 begins_there :
     {pool : Types} {m depth levels : ℕ} {base : List Record} {p0 : Place} {now : Part} {o : Open Context} {depth_left inner : ℕ} {path : List PathStep} {p : Place} {earlier : List Record} (n : ℕ)
     → Held pool m depth levels base p0 [] now o depth_left inner path p earlier → Begins o (given_at 0 (Some (suc n)) [])
-begins_there n (at_top v form is_open is_room is_inner is_path is_place is_base goes_on) =
+begins_there n (at_top v form is_open is_depth is_inner is_path is_place is_base goes_on) =
     subst (λ (z : Open Context). Begins z (given_at 0 (Some (suc n)) [])) (sym is_open) ((λ e. let same : Some (suc n) ≡ Some 0 = e in absurd (cc)), (λ e. let same : Some (suc n) ≡ None = e in absurd (cc)))
 
 stops_at_start :
@@ -134,7 +134,7 @@ stops_at_start :
 unfolding started
 stops_at_start k depth base v scope None is stands = over refl refl (inr (ap (option_map (λ (e : ℕ). e - 0)) is, refl))
 stops_at_start k depth base v scope (Some zero) is stands = over refl refl (inl (ap (option_map (λ (e : ℕ). e - 0)) is))
-stops_at_start k depth base v scope (Some (suc n)) is stands = cut (cut_told stands (begins_there n stands.held) refl (λ e. let same : Some (suc n) ≡ Some 0 = e in absurd (cc)))
+stops_at_start k depth base v scope (Some (suc n)) is stands = cut (cut_reported stands (begins_there n stands.held) refl (λ e. let same : Some (suc n) ≡ Some 0 = e in absurd (cc)))
 
 took_started :
     (pool : Types) (k depth : ℕ) (base : List Record) (end : Option ℕ) (v : Message) (scope : Scope) → scope.depth_left ≡ depth → scope.end ≡ end → ((n : ℕ) → scope.counts n ≡ 0) → depth ≤ 100 → k < length pool.messages
@@ -155,7 +155,7 @@ took_started pool k depth base end v scope depth_left is_end counts deep within 
     placed = ap (λ (z : Option ℕ). given_at 0 z []) (sym (left_at_start end) ∙ ap (option_map (λ (e : ℕ). e - 0)) (sym is_end))
 
 pub took_origin :
-    (pool : Types) (k depth : ℕ) (base : List Record) (end : Option ℕ) (v : Message) (s : State) (held : List ℕ) → s.at ≡ 0 → s.next ≡ step.Tag → s.frames ≡ [] → s.now ≡ message_part k v → s.scope.depth_left ≡ depth → s.scope.end ≡ end
+    (pool : Types) (k depth : ℕ) (base : List Record) (end : Option ℕ) (v : Message) (s : State) (held : List ℕ) → s.at ≡ 0 → s.next ≡ step.Tag → s.parents ≡ [] → s.now ≡ message_part k v → s.scope.depth_left ≡ depth → s.scope.end ≡ end
     → ((n : ℕ) → s.scope.counts n ≡ 0) → held ≡ [] → depth ≤ 100 → k < length pool.messages → IsWellFormed pool k v → v ≡ value pool k base → TookFrom pool (origin k depth base end) s held
 took_origin pool k depth base end v s held at tag none part depth_left is_end counts empty_held deep within good is =
     subst (λ (z : State). TookFrom pool (origin k depth base end) z held) (sym (state_is s (message_part k v) at tag none part))

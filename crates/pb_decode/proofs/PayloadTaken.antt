@@ -15,24 +15,24 @@ use Rattle.pb_schema.specs.Context.{a_message as in_message, schema_of}
 use Rattle.pb_parts.specs.declared.open.target.Target.{Target}
 use Rattle.pb_parts.specs.declared.tokens.step.Step.{Step}
 use Rattle.pb_parts.specs.declared.tokens.step.Step.TheVariants as step
-use Rattle.pb_parts.specs.Open.Frames.{CanHold, next_step, path_of}
+use Rattle.pb_parts.specs.Open.Parents.{CanHold, next_step, path_of}
 use Rattle.pb_parts.specs.declared.values.payload_value.PayloadError.{PayloadError}
 use Rattle.pb_parts.specs.declared.values.payload_value.PayloadError.TheVariants as error
 use Rattle.pb_parts.specs.Values.PayloadValue.{IsBytesTarget, IfBadText}
 use Rattle.pb_parts.specs.Tokens.After.{After}
-use Rattle.pb_decode.specs.Reader.{State, here, own_step, path_here, Reads, Stops, cut, Told}
+use Rattle.pb_decode.specs.Reader.{State, here, own_step, path_here, Reads, Stops, cut, Reported}
 use Rattle.pb_parts.proofs.AfterLemmas.{at_payload}
 use Rattle.pb_parts.proofs.PayloadSteps.{payload_cut}
 use Rattle.pb_parts.proofs.WellLemmas.{can_hold}
 use Rattle.pb_decode.proofs.FewRecords.{counts_fit}
 
 -- the step of a payload's record
-pub payload_path : (s : State) (k : ℕ) (meant : Target) (n : ℕ) → s.next ≡ step.Payload k meant n → path_of s.frames ++ next_step k s.scope ∷ [] ≡ path_here s
-payload_path s k meant n is = ap (λ (z : Step). path_of s.frames ++ own_step z s.scope) (sym is)
+pub payload_path : (s : State) (k : ℕ) (meant : Target) (n : ℕ) → s.next ≡ step.Payload k meant n → path_of s.parents ++ next_step k s.scope ∷ [] ≡ path_here s
+payload_path s k meant n is = ap (λ (z : Step). path_of s.parents ++ own_step z s.scope) (sym is)
 
 module _ {pool : Types} {m depth levels : ℕ} {base : List Record} {p0 : Place} (s : State) (rest : List ℕ) (k : ℕ) (meant : Target) (n : ℕ) (begun : Reads pool m depth levels base p0 s rest) (is : s.next ≡ step.Payload k meant n) where
-  pub payload_next : After pool m depth levels base p0 s.frames (step.Payload k meant n) s.now s.scope (here s rest)
-  payload_next = subst (λ (z : Step). After pool m depth levels base p0 s.frames z s.now s.scope (here s rest)) is begun
+  pub payload_next : After pool m depth levels base p0 s.parents (step.Payload k meant n) s.now s.scope (here s rest)
+  payload_next = subst (λ (z : Step). After pool m depth levels base p0 s.parents z s.now s.scope (here s rest)) is begun
 
   pub payload_target : IsBytesTarget meant
   payload_target = (at_payload k meant n payload_next).for_bytes
@@ -52,7 +52,7 @@ module _ {pool : Types} {m depth levels : ℕ} {base : List Record} {p0 : Place}
   pub payload_moves : n ≤ length rest → Moves (here s rest) (take n rest) (passed (here s rest) n)
   payload_moves within = moves_passed (here s rest) n within (at_payload k meant n payload_next).length_is.within
 
-  pub payload_bad : (byte : ℕ) (c : Cause) → Bad (schema_of pool) (records (in_message m)) depth p0 (fault byte (path_of s.frames ++ next_step k s.scope ∷ []) c)
+  pub payload_bad : (byte : ℕ) (c : Cause) → Bad (schema_of pool) (records (in_message m)) depth p0 (fault byte (path_of s.parents ++ next_step k s.scope ∷ []) c)
       → Bad (schema_of pool) (records (in_message m)) depth p0 (fault byte (path_here s) c)
   payload_bad byte c bad = subst (λ (z : List PathStep). Bad (schema_of pool) (records (in_message m)) depth p0 (fault byte z c)) (payload_path s k meant n is) bad
 
@@ -62,9 +62,9 @@ module _ {pool : Types} {m depth levels : ℕ} {base : List Record} {p0 : Place}
 
   -- a string that is not UTF-8 is refused at once
   pub payload_refused : (e : PayloadError) (valid : ℕ) → e ≡ error.BadText valid
-      → IfBadText e (λ v. Bad (schema_of pool) (records (in_message m)) depth p0 (fault (s.at + v) (path_of s.frames ++ next_step k s.scope ∷ []) BadText)) → Told pool m depth p0 (fault (s.at + valid) (path_here s) BadText)
-  payload_refused e valid which told =
+      → IfBadText e (λ v. Bad (schema_of pool) (records (in_message m)) depth p0 (fault (s.at + v) (path_of s.parents ++ next_step k s.scope ∷ []) BadText)) → Reported pool m depth p0 (fault (s.at + valid) (path_here s) BadText)
+  payload_refused e valid which reported =
       record {
-        bad = payload_bad (s.at + valid) BadText (subst (λ (z : PayloadError). IfBadText z (λ v. Bad (schema_of pool) (records (in_message m)) depth p0 (fault (s.at + v) (path_of s.frames ++ next_step k s.scope ∷ []) BadText))) which told);
+        bad = payload_bad (s.at + valid) BadText (subst (λ (z : PayloadError). IfBadText z (λ v. Bad (schema_of pool) (records (in_message m)) depth p0 (fault (s.at + v) (path_of s.parents ++ next_step k s.scope ∷ []) BadText))) which reported);
         settled = λ same. absurd (cc);
       }

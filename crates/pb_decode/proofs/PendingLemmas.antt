@@ -24,7 +24,7 @@ use Rattle.pb_parts.specs.declared.tokens.step.Step.{Step}
 use Rattle.pb_parts.specs.declared.tokens.step.Step.TheVariants as step
 use Rattle.pb_parts.specs.Open.Opened as opened
 use Rattle.pb_parts.specs.Open.Opened.{Begun}
-use Rattle.pb_parts.specs.Open.Frames.{Part, message_part, entry_part, group_part, IsSameForm, IsPartOf, Takes, Frame, Scope, Held, at_top, inside, Stands}
+use Rattle.pb_parts.specs.Open.Parents.{Part, message_part, entry_part, group_part, IsSameForm, IsPartOf, Takes, Parent, Scope, Held, at_top, inside, Stands}
 use Rattle.pb_parts.specs.Tokens.Numbers.{a_varint, eight_bytes, four_bytes, IsCutVarint, IsCutNumber}
 use Rattle.pb_parts.specs.Tokens.After.{tag, After}
 use Rattle.pb_decode.specs.Reader.{State}
@@ -32,8 +32,8 @@ use Rattle.pb_decode.specs.Reader.Waiting.{WaitsAt, Waits, lists_in}
 use Rattle.pb_decode.specs.Push.{Took}
 use Rattle.pb_decode.specs.Pending.{Unfinished, in_tag, in_number, in_length, in_payload, in_list, EndsInside}
 use Rattle.pb_wire.specs.Grammar.{IsAllowed}
-use Rattle.pb_parts.proofs.TokenTold.{reads_allowed}
-use Rattle.pb_parts.proofs.FrameLemmas.{held_opened, part_of_context}
+use Rattle.pb_parts.proofs.TokenReports.{reads_allowed}
+use Rattle.pb_parts.proofs.ParentLemmas.{held_opened, part_of_context}
 use Rattle.pb_parts.proofs.AfterLemmas.{at_record, at_tag, at_payload}
 use Rattle.pb_parts.proofs.ListSteps.{at_list, list_reading}
 use Rattle.pb_decode.proofs.ElementLemmas.{packs_here, element_fault}
@@ -43,19 +43,19 @@ use Rattle.pb_decode.proofs.PushLemmas.{top_known}
 
 -- AS MANY STEPS AS FRAMES
 pub path_size :
-    {pool : Types} {m depth levels : ℕ} {base : List Record} {p0 : Place} {frames : List Frame} {now : Part} {o : Open Context} {depth_left inner : ℕ} {path : List PathStep} {p : Place} {earlier : List Record}
-    → Held pool m depth levels base p0 frames now o depth_left inner path p earlier → length path ≡ length frames
-path_size (at_top v form is_open is_room is_inner is_path is_place is_base goes_on) = ap length is_path
-path_size (inside {frames = frames} {steps = steps} up h begun form can deep completes is_path counts ends goes_on takes) =
+    {pool : Types} {m depth levels : ℕ} {base : List Record} {p0 : Place} {parents : List Parent} {now : Part} {o : Open Context} {depth_left inner : ℕ} {path : List PathStep} {p : Place} {earlier : List Record}
+    → Held pool m depth levels base p0 parents now o depth_left inner path p earlier → length path ≡ length parents
+path_size (at_top v form is_open is_depth is_inner is_path is_place is_base goes_on) = ap length is_path
+path_size (inside {parents = parents} {steps = steps} up h begun form can deep completes is_path counts ends goes_on takes) =
     let outer = path_size up in
     let e = ap length is_path ∙ length-append steps _ in
     omega (arith, outer, e)
 
 -- WHERE THE BYTES END
 from_stands :
-    {pool : Types} {m depth held lists declared : ℕ} {b : List ℕ} {frames : List Frame} {now : Part} {scope : Scope} {q : Place} → (s : Stands pool m depth 101 [] (text_at b) frames now scope q)
-    → Unfinished (schema_of pool) (context_of s.open_now) scope.depth_left q held lists declared → EndsInside (schema_of pool) (in_message m) depth b held (suc (length frames) + lists) declared
-from_stands {lists = lists} {frames = frames} {scope = scope} {q = q} s h = record {
+    {pool : Types} {m depth held lists declared : ℕ} {b : List ℕ} {parents : List Parent} {now : Part} {scope : Scope} {q : Place} → (s : Stands pool m depth 101 [] (text_at b) parents now scope q)
+    → Unfinished (schema_of pool) (context_of s.open_now) scope.depth_left q held lists declared → EndsInside (schema_of pool) (in_message m) depth b held (suc (length parents) + lists) declared
+from_stands {lists = lists} {parents = parents} {scope = scope} {q = q} s h = record {
   open_now = s.open_now;
   depth_left = scope.depth_left;
   path = s.path;
@@ -64,7 +64,7 @@ from_stands {lists = lists} {frames = frames} {scope = scope} {q = q} s h = reco
   place = q;
   lists = lists;
   opened = held_opened s.held;
-  behind = s.behind;
+  so_far = s.so_far;
   unfinished = h;
   contexts_are = ap (λ (n : ℕ). suc n + lists) (sym (path_size s.held));
 }
@@ -77,10 +77,10 @@ nothing_cut u none empty = subst IsCutVarint same (VarintFault.cut_short (omega 
     same = ap (λ (k : Option ℕ). let p : Place = record { at = u.at; known = k; rest = [] } in p) (sym none) ∙ ap (λ (z : List ℕ). let p : Place = record { at = u.at; known = u.known; rest = z } in p) (sym empty)
 
 tag_cut :
-    {pool : Types} {m depth : ℕ} {b : List ℕ} {frames : List Frame} {now : Part} {scope : Scope} {u : Place} → Stands pool m depth 101 [] (text_at b) frames now scope u
-    → IsCutVarint u ⊎ ((frames ≡ []) × IsOver u) → IsCutVarint u
+    {pool : Types} {m depth : ℕ} {b : List ℕ} {parents : List Parent} {now : Part} {scope : Scope} {u : Place} → Stands pool m depth 101 [] (text_at b) parents now scope u
+    → IsCutVarint u ⊎ ((parents ≡ []) × IsOver u) → IsCutVarint u
 tag_cut s (inl h) = h
-tag_cut {pool} {m} {depth} {b} {frames} {now} {scope} {u} s (inr (none, over)) = by_end over (top_known (subst (λ (z : List Frame). Stands pool m depth 101 [] (text_at b) z now scope u) none s))
+tag_cut {pool} {m} {depth} {b} {parents} {now} {scope} {u} s (inr (none, over)) = by_end over (top_known (subst (λ (z : List Parent). Stands pool m depth 101 [] (text_at b) z now scope u) none s))
   where
     by_end : IsOver u → u.known ≡ None → IsCutVarint u
     by_end (inl ended) open_end = absurd (cc)
@@ -96,8 +96,8 @@ declared_in (step.Length n p) = 0
 declared_in (step.Elements n k outer) = 0
 
 ends_at :
-    {pool : Types} {m depth : ℕ} {b : List ℕ} (ok : IsPool pool) (next : Step) {frames : List Frame} {now : Part} {scope : Scope} {u : Place} → After pool m depth 101 [] (text_at b) frames next now scope u
-    → WaitsAt next frames u → EndsInside (schema_of pool) (in_message m) depth b (length u.rest) (suc (length frames) + lists_in next) (declared_in next)
+    {pool : Types} {m depth : ℕ} {b : List ℕ} (ok : IsPool pool) (next : Step) {parents : List Parent} {now : Part} {scope : Scope} {u : Place} → After pool m depth 101 [] (text_at b) parents next now scope u
+    → WaitsAt next parents u → EndsInside (schema_of pool) (in_message m) depth b (length u.rest) (suc (length parents) + lists_in next) (declared_in next)
 ends_at ok step.Tag a w = let s = at_record a in from_stands s (in_tag (tag_cut s w) refl refl refl)
 ends_at ok (step.Varint n p) a w = let at = at_tag (tag n 0 p) a refl in from_stands at.stands (in_number at.has w refl refl refl)
 ends_at ok (step.I64 n p) a w = let at = at_tag (tag n 1 p) a refl in from_stands at.stands (in_number at.has w refl refl refl)
@@ -106,7 +106,7 @@ ends_at {pool} ok (step.Length n p) {now = now} {scope = scope} a w =
     let at = at_tag (tag n 2 p) a refl in
     from_stands at.stands
     (in_length at.has
-    (subst (λ (c : Context). IsAllowed scope.depth_left ((schema_of pool).reading c n)) (sym (part_of_context now (context_of at.stands.open_now) at.stands.form)) (reads_allowed pool now n scope.depth_left p at.means at.room_for))
+    (subst (λ (c : Context). IsAllowed scope.depth_left ((schema_of pool).reading c n)) (sym (part_of_context now (context_of at.stands.open_now) at.stands.form)) (reads_allowed pool now n scope.depth_left p at.means at.has_level))
     w refl refl refl)
 ends_at ok (step.Payload n p size) {now = now} a w =
     let at = at_payload n p size a in
@@ -119,7 +119,7 @@ ends_at {pool} ok (step.Elements n k outer) a w =
 
 pub ends_inside :
     {pool : Types} {m : ℕ} {limits : Bounds} (b : List ℕ) (s : State) (held : List ℕ) → IsPool pool → Took pool m limits b s held → Waits s held
-    → EndsInside (schema_of pool) (in_message m) limits.depth b (length held) (suc (length s.frames) + lists_in s.next) (declared_in s.next)
+    → EndsInside (schema_of pool) (in_message m) limits.depth b (length held) (suc (length s.parents) + lists_in s.next) (declared_in s.next)
 ends_inside b s held ok took w = ends_at ok s.next took.reads w
 
 -- A TOKEN has few bytes
@@ -145,7 +145,7 @@ few_in_number w p (eight_bytes is h) = few_in_fixed 8 p (omega arith) h
 few_in_number w p (four_bytes is h) = few_in_fixed 4 p (omega arith) h
 
 few_at :
-    {pool : Types} {m depth : ℕ} {b : List ℕ} (next : Step) {frames : List Frame} {now : Part} {scope : Scope} {u : Place} → After pool m depth 101 [] (text_at b) frames next now scope u → WaitsAt next frames u
+    {pool : Types} {m depth : ℕ} {b : List ℕ} (next : Step) {parents : List Parent} {now : Part} {scope : Scope} {u : Place} → After pool m depth 101 [] (text_at b) parents next now scope u → WaitsAt next parents u
     → length u.rest ≤ max 10 (declared_in next)
 few_at step.Tag {u = u} a w = let few = few_in_varint u (tag_cut (at_record a) w) in omega (arith, few)
 few_at (step.Varint n p) {u = u} a w = let few = few_in_number 0 u w in omega (arith, few)
@@ -216,22 +216,22 @@ no_entry_inside (slot.Map n) (entry_part key k x d) (entry_part key2 k2 x2 d2) t
 no_entry_inside slot.Entry (entry_part key k x d) (entry_part key2 k2 x2 d2) takes one = absurd takes
 no_entry_inside (slot.Unknown n) (entry_part key k x d) (entry_part key2 k2 x2 d2) takes one = absurd takes
 
-few_frames :
-    {pool : Types} {m depth levels : ℕ} {base : List Record} {p0 : Place} {frames : List Frame} {now : Part} {o : Open Context} {depth_left inner : ℕ} {path : List PathStep} {p : Place} {earlier : List Record}
-    → Held pool m depth levels base p0 frames now o depth_left inner path p earlier → length frames + entries now + 2 * depth_left ≤ 2 * depth
-few_frames {m = m} {now = now} (at_top v form is_open is_room is_inner is_path is_place is_base goes_on) = let none = none_at_top now m v form in omega (arith, none, is_room)
-few_frames {pool} {depth = depth} (inside {frame = frame} {frames = frames} {now = now} {o = o} {a = a} {below = below} {q = q} {u = u} up h begun form can deep completes is_path counts ends goes_on takes) = by_begun (few_frames up) begun
+few_parents :
+    {pool : Types} {m depth levels : ℕ} {base : List Record} {p0 : Place} {parents : List Parent} {now : Part} {o : Open Context} {depth_left inner : ℕ} {path : List PathStep} {p : Place} {earlier : List Record}
+    → Held pool m depth levels base p0 parents now o depth_left inner path p earlier → length parents + entries now + 2 * depth_left ≤ 2 * depth
+few_parents {m = m} {now = now} (at_top v form is_open is_depth is_inner is_path is_place is_base goes_on) = let none = none_at_top now m v form in omega (arith, none, is_depth)
+few_parents {pool} {depth = depth} (inside {parent = parent} {parents = parents} {now = now} {o = o} {a = a} {below = below} {q = q} {u = u} up h begun form can deep completes is_path counts ends goes_on takes) = by_begun (few_parents up) begun
   where
-    by_begun : length frames + entries frame.part + 2 * frame.scope.depth_left ≤ 2 * depth → Begun (schema_of pool) a frame.scope.depth_left frame.number q o below u → length (frame ∷ frames) + entries now + 2 * below ≤ 2 * depth
+    by_begun : length parents + entries parent.part + 2 * parent.scope.depth_left ≤ 2 * depth → Begun (schema_of pool) a parent.scope.depth_left parent.number q o below u → length (parent ∷ parents) + entries now + 2 * below ≤ 2 * depth
     by_begun outer (opened.a_message levels tag re l is_open is_place) = let low = one_at_most now in omega (arith, outer, low, levels)
     by_begun outer (opened.a_group levels tag is_open is_place) = let low = one_at_most now in omega (arith, outer, low, levels)
     by_begun outer (opened.a_value {d = d} levels tag re l is_open is_place) =
-        let one = value_in_entry pool frame.part (context_of a) frame.number d form re in
-        let none = no_entry_inside frame.slot frame.part now takes.0 one in
+        let one = value_in_entry pool parent.part (context_of a) parent.number d form re in
+        let none = no_entry_inside parent.slot parent.part now takes.0 one in
         omega (arith, outer, one, none, levels)
 
-pub few_open : {pool : Types} {m : ℕ} {limits : Bounds} (b : List ℕ) (s : State) (held : List ℕ) → Took pool m limits b s held → suc (length s.frames) + lists_in s.next ≤ 2 * limits.depth + 2
-few_open b s held took = let few = few_frames took.reads.stands.held in let low = one_list s.next in omega (arith, few, low)
+pub few_open : {pool : Types} {m : ℕ} {limits : Bounds} (b : List ℕ) (s : State) (held : List ℕ) → Took pool m limits b s held → suc (length s.parents) + lists_in s.next ≤ 2 * limits.depth + 2
+few_open b s held took = let few = few_parents took.reads.stands.held in let low = one_list s.next in omega (arith, few, low)
   where
     one_list : (next : Step) → lists_in next ≤ 1
     one_list (step.Elements n k outer) = omega arith

@@ -8,13 +8,13 @@ use Rattle.pb_wire.specs.Fault.{Fault, Place}
 use Rattle.pb_wire.specs.Exact.{longer}
 use Rattle.pb_wire.proofs.Longer.{bad_longer}
 use Rattle.pb_schema.specs.Types.{Types}
-use Rattle.pb_decode.specs.Reader.{State, Reads, Told}
+use Rattle.pb_decode.specs.Reader.{State, Reads, Reported}
 use Rattle.pb_decode.proofs.PushLemmas.{reads_more, no_bytes}
 use Rattle.pb_parts.proofs.PlaceLemmas.{slice_from}
 
 -- a fault that is settled is that of every longer input
-pub told_longer : {pool : Types} {m depth : ℕ} {p : Place} (more : List ℕ) (f : Fault) → Told pool m depth p f → Told pool m depth (longer p more) f
-told_longer more f h = record { bad = bad_longer more h.bad h.settled; settled = h.settled }
+pub reported_longer : {pool : Types} {m depth : ℕ} {p : Place} (more : List ℕ) (f : Fault) → Reported pool m depth p f → Reported pool m depth (longer p more) f
+reported_longer more f h = record { bad = bad_longer more h.bad h.settled; settled = h.settled }
 
 -- WHAT IS GIVEN part by part
 both_given : (p : Place) (a b c : List ℕ) → a ++ b ≡ c → longer (longer p a) b ≡ longer p c
@@ -57,9 +57,9 @@ part_bytes n m l h = first n (drop m l) (others m l h)
     first (suc n) (x ∷ l) h = (h.0, first n l h.1)
 
 -- what is reported of a part is reported of the whole piece
-pub told_on :
-    {pool : Types} {m depth : ℕ} (p : Place) (here more : ℕ) (l : List ℕ) (f : Fault) → Told pool m depth (longer (longer p (take here l)) (take ((here + more) - here) (drop here l))) f
-    → Told pool m depth (longer p l) f
-told_on {pool} {m} {depth} p here more l f h =
-    subst (λ (z : Place). Told pool m depth z f) (both_given p (take (here + more) l) (drop (here + more) l) l (take-append-drop (here + more) l))
-    (told_longer (drop (here + more) l) f (subst (λ (z : Place). Told pool m depth z f) (next_given p here more l) h))
+pub reported_on :
+    {pool : Types} {m depth : ℕ} (p : Place) (here more : ℕ) (l : List ℕ) (f : Fault) → Reported pool m depth (longer (longer p (take here l)) (take ((here + more) - here) (drop here l))) f
+    → Reported pool m depth (longer p l) f
+reported_on {pool} {m} {depth} p here more l f h =
+    subst (λ (z : Place). Reported pool m depth z f) (both_given p (take (here + more) l) (drop (here + more) l) l (take-append-drop (here + more) l))
+    (reported_longer (drop (here + more) l) f (subst (λ (z : Place). Reported pool m depth z f) (next_given p here more l) h))

@@ -16,9 +16,9 @@ use Rattle.pb_value.specs.Data.{Message, empty}
 use Rattle.pb_value.specs.Derives.{Text}
 use Rattle.pb_parts.specs.declared.tokens.step.Step.{Step}
 use Rattle.pb_parts.specs.declared.tokens.step.Step.TheVariants as step
-use Rattle.pb_parts.specs.Open.Frames.{Part, message_part, Frame, Scope, Held, at_top, Stands}
+use Rattle.pb_parts.specs.Open.Parents.{Part, message_part, Parent, Scope, Held, at_top, Stands}
 use Rattle.pb_parts.specs.Tokens.After.{After}
-use Rattle.pb_decode.specs.Reader.{State, here, path_here, Reads, IsReading, Stops, over, cut, Told}
+use Rattle.pb_decode.specs.Reader.{State, here, path_here, Reads, IsReading, Stops, over, cut, Reported}
 use Rattle.pb_decode.specs.Push.{Took, IsSettled}
 use Rattle.pb_parts.proofs.AfterLemmas.{after_longer, at_record}
 use Rattle.pb_whole.proofs.Top.{is_top, text_read}
@@ -57,8 +57,8 @@ no_bytes [] none = refl
 no_bytes (x ∷ l) none = absurd (omega (arith, none))
 
 -- after nothing
-pub held_behind : (n : ℕ) (held l : List ℕ) → length held ≡ 0 → held ++ take (length l - n) (drop n l) ≡ drop n l
-held_behind n held l none = ap (λ (z : List ℕ). z ++ take (length l - n) (drop n l)) (no_bytes held none) ∙ slice_from n l
+pub held_after : (n : ℕ) (held l : List ℕ) → length held ≡ 0 → held ++ take (length l - n) (drop n l) ≡ drop n l
+held_after n held l none = ap (λ (z : List ℕ). z ++ take (length l - n) (drop n l)) (no_bytes held none) ∙ slice_from n l
 
 -- what is taken of an encoding, with the next piece after it
 pub took_more :
@@ -74,29 +74,29 @@ took_more b piece s t held rest h fits at there = record {
 
 -- no end is known of the whole input
 pub top_known : {pool : Types} {m depth levels : ℕ} {b : List ℕ} {now : Part} {scope : Scope} {q : Place} → Stands pool m depth levels [] (text_at b) [] now scope q → q.known ≡ None
-top_known {pool} {m} {depth} {levels} {b} {now} {q = q} s = from_held (length s.behind.front) s.held s.behind.moves.known
+top_known {pool} {m} {depth} {levels} {b} {now} {q = q} s = from_held (length s.so_far.front) s.held s.so_far.moves.known
   where
     from_held :
         {o : Open Context} {depth_left inner : ℕ} {path : _} {p : Place} {earlier : List Record} (n : ℕ) → Held pool m depth levels [] (text_at b) [] now o depth_left inner path p earlier
         → q.known ≡ option_map (λ (e : ℕ). e - n) p.known → q.known ≡ None
-    from_held n (at_top v form is_open is_room is_inner is_path is_place is_base goes_on) known = known ∙ ap (λ (z : Place). option_map (λ (e : ℕ). e - n) z.known) is_place
+    from_held n (at_top v form is_open is_depth is_inner is_path is_place is_base goes_on) known = known ∙ ap (λ (z : Place). option_map (λ (e : ℕ). e - n) z.known) is_place
 
 -- at the top, and after a whole record
 pub stands_top :
-    {pool : Types} {m depth levels : ℕ} {b : List ℕ} (s : State) (held : List ℕ) → s.frames ≡ [] → s.next ≡ step.Tag → Reads pool m depth levels [] (text_at b) s held
+    {pool : Types} {m depth levels : ℕ} {b : List ℕ} (s : State) (held : List ℕ) → s.parents ≡ [] → s.next ≡ step.Tag → Reads pool m depth levels [] (text_at b) s held
     → Stands pool m depth levels [] (text_at b) [] s.now s.scope (here s held)
 stands_top {pool} {m} {depth} {levels} {b} s held none tag h =
     at_record
     (subst (λ (z : Step). After pool m depth levels [] (text_at b) [] z s.now s.scope (here s held)) tag
-    (subst (λ (z : List Frame). After pool m depth levels [] (text_at b) z s.next s.now s.scope (here s held)) none h))
+    (subst (λ (z : List Parent). After pool m depth levels [] (text_at b) z s.next s.now s.scope (here s held)) none h))
 
-pub top_over : {pool : Types} {m depth levels : ℕ} {b : List ℕ} (s : State) (held : List ℕ) → s.frames ≡ [] → s.next ≡ step.Tag → Reads pool m depth levels [] (text_at b) s held → IsOver (here s held) → held ≡ []
+pub top_over : {pool : Types} {m depth levels : ℕ} {b : List ℕ} (s : State) (held : List ℕ) → s.parents ≡ [] → s.next ≡ step.Tag → Reads pool m depth levels [] (text_at b) s held → IsOver (here s held) → held ≡ []
 top_over s held none tag h (inl ended) = let open_end = top_known (stands_top s held none tag h) in absurd (cc)
 top_over s held none tag h (inr ended) = ended.1
 
 -- a whole input, at the end of its bytes
 pub text_there :
-    {pool : Types} {m : ℕ} {limits : Bounds} (b : List ℕ) (s : State) (held : List ℕ) → length b ≤ limits.bytes → s.frames ≡ [] → s.next ≡ step.Tag → held ≡ []
+    {pool : Types} {m : ℕ} {limits : Bounds} (b : List ℕ) (s : State) (held : List ℕ) → length b ≤ limits.bytes → s.parents ≡ [] → s.next ≡ step.Tag → held ≡ []
     → Reads pool m limits.depth 101 [] (text_at b) s held → (v : Message) × (s.now ≡ message_part m v) × Text pool m limits b v
 text_there {pool} {m} {limits} b s held size none tag empty h = from_top (is_top refl stands.held)
   where
@@ -108,7 +108,7 @@ text_there {pool} {m} {limits} b s held size none tag empty h = from_top (is_top
 
 -- TOO MANY BYTES: those within the limit are read first
 pub front_bad :
-    {pool : Types} {m : ℕ} {limits : Bounds} (b piece : List ℕ) (depth_left : ℕ) (f : Fault) → length b + depth_left ≡ limits.bytes → depth_left < length piece → Told pool m limits.depth (longer (text_at b) (take depth_left piece)) f
+    {pool : Types} {m : ℕ} {limits : Bounds} (b piece : List ℕ) (depth_left : ℕ) (f : Fault) → length b + depth_left ≡ limits.bytes → depth_left < length piece → Reported pool m limits.depth (longer (text_at b) (take depth_left piece)) f
     → IsSettled pool m limits (b ++ piece) f
 front_bad {pool} {m} {limits} b piece depth_left f is more h = record {
   fault =
@@ -118,7 +118,7 @@ front_bad {pool} {m} {limits} b piece depth_left f is more h = record {
 }
 
 pub whole_bad :
-    {pool : Types} {m : ℕ} {limits : Bounds} (b piece : List ℕ) (f : Fault) → length b + length piece ≤ limits.bytes → Told pool m limits.depth (longer (text_at b) piece) f → IsSettled pool m limits (b ++ piece) f
+    {pool : Types} {m : ℕ} {limits : Bounds} (b piece : List ℕ) (f : Fault) → length b + length piece ≤ limits.bytes → Reported pool m limits.depth (longer (text_at b) piece) f → IsSettled pool m limits (b ++ piece) f
 whole_bad b piece f size h = record { fault = HasFault.bad (let e = length-append b piece in omega (arith, e, size)) h.bad; settled = h.settled }
 
 pub too_large :

@@ -14,12 +14,12 @@ use Rattle.pb_schema.specs.Types.{Types}
 use Rattle.pb_schema.specs.Context.{a_message as in_message, schema_of}
 use Rattle.pb_parts.specs.declared.tokens.step.Step.{Step}
 use Rattle.pb_parts.specs.declared.tokens.step.Step.TheVariants as step
-use Rattle.pb_parts.specs.Open.Frames.{Scope, path_of, next_step}
+use Rattle.pb_parts.specs.Open.Parents.{Scope, path_of, next_step}
 use Rattle.pb_parts.specs.Tokens.Numbers.{NumberFault}
 use Rattle.pb_parts.specs.Tokens.After.{Tag, tag, awaited, After}
 use Rattle.pb_parts.specs.declared.open.target.Target.{Target}
-use Rattle.pb_decode.specs.Reader.{State, here, own_step, path_here, Reads, Stops, cut, Taken, Told, StandsAt, IfFault}
-use Rattle.pb_parts.proofs.AfterLemmas.{after_record, number_told}
+use Rattle.pb_decode.specs.Reader.{State, here, own_step, path_here, Reads, Stops, cut, Taken, Reported, StandsAt, IfFault}
+use Rattle.pb_parts.proofs.AfterLemmas.{after_record, number_reported}
 use Rattle.pb_parts.proofs.PlaceLemmas.{slice_from}
 
 pub reads_slice :
@@ -67,14 +67,14 @@ own_awaited (step.Payload n p size) t scope is = absurd (cc)
 own_awaited (step.Elements n k outer) t scope is = absurd (cc)
 
 -- a fault that ends what is begun after a tag
-path_awaited : (s : State) (t : Tag) → awaited s.next ≡ Some t → path_of s.frames ++ next_step t.number s.scope ∷ [] ≡ path_here s
-path_awaited s t is = ap (λ (z : List PathStep). path_of s.frames ++ z) (sym (own_awaited s.next t s.scope is))
+path_awaited : (s : State) (t : Tag) → awaited s.next ≡ Some t → path_of s.parents ++ next_step t.number s.scope ∷ [] ≡ path_here s
+path_awaited s t is = ap (λ (z : List PathStep). path_of s.parents ++ z) (sym (own_awaited s.next t s.scope is))
 
 pub number_bad :
     {pool : Types} {m depth levels : ℕ} {base : List Record} {p0 : Place} (s : State) (rest : List ℕ) (t : Tag) (byte : ℕ) (c : Cause) → Reads pool m depth levels base p0 s rest → awaited s.next ≡ Some t
     → NumberFault t.type (here s rest) (fault byte [] c) → Bad (schema_of pool) (records (in_message m)) depth p0 (fault byte (path_here s) c)
 number_bad {pool} {m} {depth} {p0 = p0} s rest t byte c begun is bad =
-    subst (λ (z : List PathStep). Bad (schema_of pool) (records (in_message m)) depth p0 (fault byte z c)) (path_awaited s t is) (number_told t (fault byte [] c) begun is bad)
+    subst (λ (z : List PathStep). Bad (schema_of pool) (records (in_message m)) depth p0 (fault byte z c)) (path_awaited s t is) (number_reported t (fault byte [] c) begun is bad)
 
 pub number_short :
     {pool : Types} {m depth levels : ℕ} {base : List Record} {p0 : Place} (s : State) (rest : List ℕ) (t : Tag) → Reads pool m depth levels base p0 s rest → awaited s.next ≡ Some t
@@ -83,7 +83,7 @@ number_short s rest t begun is bad = cut (number_bad s rest t (s.at + length res
 
 pub number_refused :
     {pool : Types} {m depth levels : ℕ} {base : List Record} {p0 : Place} (s : State) (rest : List ℕ) (t : Tag) (c : Cause) → Reads pool m depth levels base p0 s rest → awaited s.next ≡ Some t → c ≢ Truncated
-    → NumberFault t.type (here s rest) (fault s.at [] c) → Told pool m depth p0 (fault s.at (path_here s) c)
+    → NumberFault t.type (here s rest) (fault s.at [] c) → Reported pool m depth p0 (fault s.at (path_here s) c)
 number_refused s rest t c begun is not_cut bad = record { bad = number_bad s rest t s.at c begun is bad; settled = not_cut }
 
 -- AFTER A WHOLE RECORD a tag comes next
@@ -91,7 +91,7 @@ pub stands_reads :
     {pool : Types} {m depth levels : ℕ} {base : List Record} {p0 : Place} (s t : State) (size : ℕ) (rest : List ℕ) → t.at ≡ s.at + size → t.scope.end ≡ s.scope.end → t.next ≡ step.Tag
     → StandsAt pool m depth levels base p0 t (passed (here s rest) size) → Reads pool m depth levels base p0 t (drop size rest)
 stands_reads {pool} {m} {depth} {levels} {base} {p0} s t size rest at end tag h =
-    subst (λ (z : Step). After pool m depth levels base p0 t.frames z t.now t.scope (here t (drop size rest))) (sym tag)
+    subst (λ (z : Step). After pool m depth levels base p0 t.parents z t.now t.scope (here t (drop size rest))) (sym tag)
     (after_record (subst (StandsAt pool m depth levels base p0 t) (passed_here s t size rest at end) h))
 
 -- what is reported of an error
@@ -101,5 +101,5 @@ if_fault_weaker error.Memory P Q h is = tt
 if_fault_weaker error.Device P Q h is = is
 if_fault_weaker error.Finished P Q h is = is
 
-pub fault_told : {pool : Types} {m depth : ℕ} {p0 : Place} (e : DecodeError) (f : Fault) → IfFault e (λ g. g ≡ f) → Told pool m depth p0 f → IfFault e (Told pool m depth p0)
-fault_told {pool} {m} {depth} {p0} e f is told = if_fault_weaker e (λ g. g ≡ f) (Told pool m depth p0) (λ g same. subst (Told pool m depth p0) (sym same) told) is
+pub fault_reported : {pool : Types} {m depth : ℕ} {p0 : Place} (e : DecodeError) (f : Fault) → IfFault e (λ g. g ≡ f) → Reported pool m depth p0 f → IfFault e (Reported pool m depth p0)
+fault_reported {pool} {m} {depth} {p0} e f is reported = if_fault_weaker e (λ g. g ≡ f) (Reported pool m depth p0) (λ g same. subst (Reported pool m depth p0) (sym same) reported) is

@@ -14,7 +14,7 @@ use Rattle.pb_parts.specs.declared.open.target.Target.TheVariants as target
 use Rattle.pb_parts.specs.declared.tokens.record_tag.RecordTag.{RecordTag}
 use Rattle.pb_parts.specs.declared.tokens.step.Step.{Step}
 use Rattle.pb_parts.specs.declared.tokens.step.Step.TheVariants as step
-use Rattle.pb_parts.specs.Open.Frames.{Part, message_part, entry_part, frame_of, CanHold, up_to, Stands}
+use Rattle.pb_parts.specs.Open.Parents.{Part, message_part, entry_part, parent_of, CanHold, up_to, Stands}
 use Rattle.pb_parts.specs.Open.Openings.{taken_message, without_message, depth_left_in}
 use Rattle.pb_parts.specs.Open.Targets.{Means, part_context}
 use Rattle.pb_parts.specs.Tokens.After.{HasLevelFor, After}
@@ -31,8 +31,8 @@ use Rattle.pb_decode.proofs.FewRecords.{counts_fit}
 
 -- AFTER A WHOLE RECORD, where a tag may come
 pub tag_stands :
-    {pool : Types} {m depth levels : ℕ} {base : List Record} {p0 : Place} (s : State) (rest : List ℕ) → Reads pool m depth levels base p0 s rest → s.next ≡ step.Tag → Stands pool m depth levels base p0 s.frames s.now s.scope (here s rest)
-tag_stands s rest begun tag = standing s rest s.frames s.now begun tag refl refl
+    {pool : Types} {m depth levels : ℕ} {base : List Record} {p0 : Place} (s : State) (rest : List ℕ) → Reads pool m depth levels base p0 s rest → s.next ≡ step.Tag → Stands pool m depth levels base p0 s.parents s.now s.scope (here s rest)
+tag_stands s rest begun tag = standing s rest s.parents s.now begun tag refl refl
 
 pub tag_can : {pool : Types} {m depth levels : ℕ} {base : List Record} {p0 : Place} (s : State) (rest : List ℕ) → IsPool pool → Reads pool m depth levels base p0 s rest → s.next ≡ step.Tag → CanHold pool s.now
 tag_can s rest ok begun tag = can_hold ok s.now (tag_stands s rest begun tag)
@@ -44,12 +44,12 @@ tag_few s rest k begun tag = counts_fit k (tag_stands s rest begun tag)
 pub at_tag :
     {pool : Types} (reader : Reader) (rest : List ℕ) (tag : RecordTag) (left : Option ℕ) → IsPool pool → IsReading pool (state_view reader) rest → reader.step ≡ step.Tag → left ≡ left_of (state_view reader) → tag.size ≤ length rest
     → ((at : ℕ) → HasTag (given_at at left rest) tag.number tag.wire_type (passed (given_at at left rest) tag.size)) → IsAtTag pool reader rest tag
-at_tag reader rest tag left ok reading is left_is within told = record {
+at_tag reader rest tag left ok reading is left_is within reported = record {
   rules = ok;
   reading = reading;
   step = is;
   within = within;
-  there = subst (λ (z : Option ℕ). HasTag (given_at reader.at z rest) tag.number tag.wire_type (passed (given_at reader.at z rest) tag.size)) left_is (told reader.at);
+  there = subst (λ (z : Option ℕ). HasTag (given_at reader.at z rest) tag.number tag.wire_type (passed (given_at reader.at z rest) tag.size)) left_is (reported reader.at);
 }
 
 -- A LENGTH after a tag
@@ -57,9 +57,9 @@ pub length_here :
     (s : State) (rest : List ℕ) (number type used start size : ℕ) {left : Option ℕ} → left ≡ left_of s
     → ((at number type : ℕ) → HasTag (given_at at left rest) number type (passed (given_at at left rest) used) → HasLength (passed (given_at at left rest) used) size (passed (given_at at left rest) start))
     → HasTag (here s rest) number type (passed (here s rest) used) → HasLength (passed (here s rest) used) size (passed (here s rest) start)
-length_here s rest number type used start size is told has =
+length_here s rest number type used start size is reported has =
     subst (λ (z : Option ℕ). HasLength (passed (given_at s.at z rest) used) size (passed (given_at s.at z rest) start)) is
-    (told s.at number type (subst (λ (z : Option ℕ). HasTag (given_at s.at z rest) number type (passed (given_at s.at z rest) used)) (sym is) has))
+    (reported s.at number type (subst (λ (z : Option ℕ). HasTag (given_at s.at z rest) number type (passed (given_at s.at z rest) used)) (sym is) has))
 
 -- WHAT A RECORD OPENS after its length, as in a frame
 pub entry_in_reader :
@@ -73,7 +73,7 @@ entry_in_reader s rest number tag_size start size key kd ok from tag has l means
   at = s.at + start;
   base = from.base;
   p0 = from.p0;
-  frames = frame_of s.now number (slot.Map number) false s.scope ∷ s.frames;
+  parents = parent_of s.now number (slot.Map number) false s.scope ∷ s.parents;
   stands = entry_begun s.at (left_of s) rest number tag_size start size s.scope.depth_left key kd ok (tag_stands s rest from.reads tag) refl has l means some;
 }
 
@@ -89,7 +89,7 @@ message_in_reader s rest number tag_size start size below j t outer w ok from is
   at = s.at + start;
   base = from.base;
   p0 = from.p0;
-  frames = frame_of outer number t false s.scope ∷ s.frames;
+  parents = parent_of outer number t false s.scope ∷ s.parents;
   stands = message_begun s.at (left_of s) rest number tag_size start size s.scope.depth_left below j t outer w ok (tag_stands s rest from.reads tag) refl is_below has l means some is_outer is_taken;
 }
 
@@ -98,7 +98,7 @@ pub inner_passed :
     {pool : Types} {m depth levels : ℕ} {base : List Record} {p0 : Place} (s t : State) (rest : List ℕ) (start size : ℕ) → t.at ≡ s.at + (start + size) → t.next ≡ step.Tag → t.scope.end ≡ s.scope.end
     → StandsAt pool m depth levels base p0 t (up_to s.scope.end (passed (given_at (s.at + start) (Some size) (take (length rest - start) (drop start rest))) size)) → Reads pool m depth levels base p0 t (drop (start + size) rest)
 inner_passed {pool} {m} {depth} {levels} {base} {p0} s t rest start size at tag end there =
-    subst (λ (z : Step). After pool m depth levels base p0 t.frames z t.now t.scope (here t (drop (start + size) rest))) (sym tag)
+    subst (λ (z : Step). After pool m depth levels base p0 t.parents z t.now t.scope (here t (drop (start + size) rest))) (sym tag)
     (after_record (subst (StandsAt pool m depth levels base p0 t) place there))
   where
     at_is : (s.at + start) + size ≡ t.at

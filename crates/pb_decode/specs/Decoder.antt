@@ -9,7 +9,7 @@ use Rattle.pb_value.specs.Data.{Datum}
 use Rattle.pb_value.specs.Code.{to_datum, from_datum, from_datum-to_datum, to_payload, from_payload, from_payload-to_payload}
 use Rattle.pb_parts.specs.declared.open.part.Slot.{Slot}
 use Rattle.pb_parts.specs.declared.tokens.step.Step.{Step}
-use Rattle.pb_parts.specs.Open.Frames.{Part, Scope, Frame}
+use Rattle.pb_parts.specs.Open.Parents.{Part, Scope, Parent}
 use Rattle.pb_parts.specs.Open.Occurrences.{counts_view}
 use Rattle.pb_decode.specs.Reader.{State}
 
@@ -20,7 +20,7 @@ pub record OpenScope : Type 0 where
   pub counts : List (ℕ × ℕ)
 
 -- a part around the innermost one, with the number of the record that is open in it, where that goes, and whether an end tag ends it
-pub record OpenFrame : Type 0 where
+pub record OpenParent : Type 0 where
   pub part : Part
   pub number : ℕ
   pub slot : Slot
@@ -33,7 +33,7 @@ pub record Reading : Type 0 where
   pub at : ℕ
   pub now : Part
   pub scope : OpenScope
-  pub frames : List OpenFrame
+  pub parents : List OpenParent
   pub next : Step
   pub held : List ℕ
 
@@ -47,11 +47,11 @@ pub record Decoder : Type 0 where
 abbrev pub scope_of : OpenScope → Scope
 scope_of s = record { depth_left = s.depth_left; end = s.end; counts = counts_view s.counts }
 
-abbrev pub frame_of : OpenFrame → Frame
-frame_of f = record { part = f.part; number = f.number; slot = f.slot; group = f.group; scope = scope_of f.scope }
+abbrev pub parent_of : OpenParent → Parent
+parent_of f = record { part = f.part; number = f.number; slot = f.slot; group = f.group; scope = scope_of f.scope }
 
 abbrev pub state_of : Reading → State
-state_of r = record { at = r.at; now = r.now; scope = scope_of r.scope; frames = reverse (map frame_of r.frames); next = r.next }
+state_of r = record { at = r.at; now = r.now; scope = scope_of r.scope; parents = reverse (map parent_of r.parents); next = r.next }
 
 -- how a proof distinguishes two of them
 abbrev pub datum_code : Coded Datum

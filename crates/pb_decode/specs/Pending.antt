@@ -7,7 +7,7 @@ use Rattle.pb_wire.specs.Schema.{Schema, Element, unread, text, packed, Open, re
 use Rattle.pb_wire.specs.Sound.{AreElements}
 use Rattle.pb_wire.specs.Grammar.{payload_at, IsAllowed, ElementFault}
 use Rattle.pb_wire.specs.declared.fault.Cause.TheVariants.{Truncated}
-use Rattle.pb_parts.specs.Open.Opened.{Behind, Opened}
+use Rattle.pb_parts.specs.Open.Opened.{SoFar, Opened}
 use Rattle.pb_parts.specs.Tokens.Numbers.{IsCutVarint, IsCutNumber}
 
 -- With this many levels left the bytes end inside the record that comes next at q, or before it: this many of its open token or payload
@@ -38,7 +38,7 @@ pub record EndsInside (S : Schema) (c : S.Context) (depth : ℕ) (b : List ℕ) 
   pub place : Place
   pub lists : ℕ
   pub opened : Opened S (records c) depth (text_at b) open_now depth_left path begin
-  pub behind : Behind S open_now depth_left begin before place
+  pub so_far : SoFar S open_now depth_left begin before place
   pub unfinished : Unfinished S (context_of open_now) depth_left place held lists declared
   pub contexts_are : contexts ≡ suc (length path) + lists
 

@@ -18,12 +18,12 @@ use Rattle.pb_schema.specs.Types.{Types}
 use Rattle.pb_schema.specs.Context.{a_message, schema_of}
 use Rattle.pb_decode.specs.declared.error.DecodeError.{DecodeError}
 use Rattle.pb_decode.specs.declared.error.DecodeError.TheVariants as error
-use Rattle.pb_parts.specs.declared.open.part.Frame.{Frame as FrameKept}
+use Rattle.pb_parts.specs.declared.open.part.Parent.{Parent as ParentKept}
 use Rattle.pb_decode.specs.declared.reader.state.Reader.{Reader}
 use Rattle.pb_parts.specs.declared.tokens.step.Step.{Step}
 use Rattle.pb_parts.specs.declared.tokens.step.Step.TheVariants as step
-use Rattle.pb_parts.specs.Open.Frames.{Part, Scope, Frame, path_of, path_to, next_step, Stands}
-use Rattle.pb_parts.specs.Open.PartView.{part_view, scope_view, frame_view}
+use Rattle.pb_parts.specs.Open.Parents.{Part, Scope, Parent, path_of, path_to, next_step, Stands}
+use Rattle.pb_parts.specs.Open.PartView.{part_view, scope_view, parent_view}
 use Rattle.pb_parts.specs.Tokens.After.{After}
 
 -- where a reader is: the innermost part with its scope, the frames around it, innermost first, and what comes next at a position
@@ -31,15 +31,15 @@ pub record State : Type 0 where
   pub at : ℕ
   pub now : Part
   pub scope : Scope
-  pub frames : List Frame
+  pub parents : List Parent
   pub next : Step
 
 -- frames are kept outermost first
-abbrev pub frames_view : List FrameKept → List Frame
-frames_view fs = reverse (map frame_view fs)
+abbrev pub parents_view : List ParentKept → List Parent
+parents_view fs = reverse (map parent_view fs)
 
 abbrev pub state_view : Reader → State
-state_view r = record { at = r.at; now = part_view r.part; scope = scope_view r.scope; frames = frames_view r.frames.items; next = r.step }
+state_view r = record { at = r.at; now = part_view r.part; scope = scope_view r.scope; parents = parents_view r.parents.items; next = r.step }
 
 -- how many bytes are left before the known end of the part
 abbrev pub left_of : State → Option ℕ
@@ -61,23 +61,23 @@ own_step (step.Elements n k outer) scope = next_step n scope ∷ []
 
 -- the steps to where a reader is
 abbrev pub path_here : State → List PathStep
-path_here s = path_of s.frames ++ own_step s.next s.scope
+path_here s = path_of s.parents ++ own_step s.next s.scope
 
 -- the steps to the record of a number that comes next at its position
 abbrev pub path_inside : State → ℕ → List PathStep
-path_inside s n = path_to s.frames s.scope n
+path_inside s n = path_to s.parents s.scope n
 
 -- the reader has read everything from p0 up to these bytes
 abbrev pub Reads : Types → ℕ → ℕ → ℕ → List Record → Place → State → List ℕ → Type 0
-Reads pool m depth levels base p0 s rest = After pool m depth levels base p0 s.frames s.next s.now s.scope (here s rest)
+Reads pool m depth levels base p0 s rest = After pool m depth levels base p0 s.parents s.next s.now s.scope (here s rest)
 
 -- a whole record ends at this place, and the reader is after it
 abbrev pub StandsAt : Types → ℕ → ℕ → ℕ → List Record → Place → State → Place → Type 0
-StandsAt pool m depth levels base p0 s w = Stands pool m depth levels base p0 s.frames s.now s.scope w
+StandsAt pool m depth levels base p0 s w = Stands pool m depth levels base p0 s.parents s.now s.scope w
 
 -- what the reader has begun goes on at this place
 abbrev pub AfterAt : Types → ℕ → ℕ → ℕ → List Record → Place → State → Place → Type 0
-AfterAt pool m depth levels base p0 s w = After pool m depth levels base p0 s.frames s.next s.now s.scope w
+AfterAt pool m depth levels base p0 s w = After pool m depth levels base p0 s.parents s.next s.now s.scope w
 
 -- it has read some input up to these bytes, whose positions are small
 pub record IsReading (pool : Types) (s : State) (rest : List ℕ) : Type 0 where
@@ -91,7 +91,7 @@ pub record IsReading (pool : Types) (s : State) (rest : List ℕ) : Type 0 where
 
 -- no more of these bytes can be taken: nothing is open and nothing is left, or the input ends too early
 pub data Stops (pool : Types) (m depth : ℕ) (p0 : Place) (s : State) (rest : List ℕ) : Type 0 where
-  over : s.frames ≡ [] → s.next ≡ step.Tag → IsOver (here s rest) → Stops pool m depth p0 s rest
+  over : s.parents ≡ [] → s.next ≡ step.Tag → IsOver (here s rest) → Stops pool m depth p0 s rest
   cut : Bad (schema_of pool) (records (a_message m)) depth p0 (fault (s.at + length rest) (path_here s) Truncated) → Stops pool m depth p0 s rest
 
 -- a payload may take no byte
@@ -122,6 +122,6 @@ IfFault error.Device P = ⊥
 IfFault error.Finished P = ⊥
 
 -- a fault of the bytes from p0 on that no more bytes change
-pub record Told (pool : Types) (m depth : ℕ) (p0 : Place) (f : Fault) : Type 0 where
+pub record Reported (pool : Types) (m depth : ℕ) (p0 : Place) (f : Fault) : Type 0 where
   pub bad : Bad (schema_of pool) (records (a_message m)) depth p0 f
   pub settled : f.cause ≡ Truncated → ⊥

@@ -4,7 +4,7 @@ use Rattle.pb_wire.specs.Limits.{Bounds}
 use Rattle.pb_schema.specs.Types.{Types}
 use Rattle.pb_schema.specs.Rules.{IsPool}
 use Rattle.pb_parts.specs.declared.open.part.Scope.{Scope}
-use Rattle.pb_parts.specs.declared.open.part.Frame.{Frame}
+use Rattle.pb_parts.specs.declared.open.part.Parent.{Parent}
 use Rattle.pb_decode.specs.declared.push.Reading.{Reading}
 use Rattle.pb_decode.specs.Decoder as decoder
 use Rattle.pb_parts.specs.Open.PartView.{part_view}
@@ -15,15 +15,15 @@ use Rattle.pb_decode.specs.Reader.Waiting.{Waits}
 abbrev pub open_scope : Scope → decoder.OpenScope
 open_scope s = record { depth_left = s.depth_left; end = s.end; counts = s.occurrences }
 
-abbrev pub open_frame : Frame → decoder.OpenFrame
-open_frame f = record { part = part_view f.part; number = f.number; slot = f.slot; group = f.group; scope = open_scope f.scope }
+abbrev pub open_parent : Parent → decoder.OpenParent
+open_parent f = record { part = part_view f.part; number = f.number; slot = f.slot; group = f.group; scope = open_scope f.scope }
 
 abbrev pub reading_view : Reading → decoder.Reading
 reading_view r = record {
   at = r.reader.at;
   now = part_view r.reader.part;
   scope = open_scope r.reader.scope;
-  frames = map open_frame r.reader.frames.items;
+  parents = map open_parent r.reader.parents.items;
   next = r.reader.step;
   held = r.held.items;
 }

@@ -8,7 +8,7 @@ ghost use Rattle.pb_value.specs.Data.{Message};
 ghost use Rattle.pb_value.specs.Derives.{Text};
 ghost use Rattle.pb_decode.specs.declared.error.DecodeError.TheVariants.{Device};
 ghost use Rattle.pb_decode.specs.FromDevice.{IfRefused, TellsFailures, TakesAtMost, GivesOrFails, TellsOrFails};
-ghost use Rattle.pb_decode.specs.Loops.{ReadsOn, ToldOf};
+ghost use Rattle.pb_decode.specs.Loops.{ReadsOn, ReportedOf};
 ghost use Rattle.pb_decode.specs.Reader.Origin.{Origin};
 ghost use Rattle.pb_decode.specs.Reader.Pieces.{received, ReadFrom};
 ghost use Rattle.pb_decode.specs.Frame.{IsFrameOf, BadFrame, error_later};
@@ -97,7 +97,7 @@ fn take_frame<I: Input>(
         → IfOk result (λ n. ReadsOn pool.now reading.old reading.new x (I.left input.new) n) }
     ensures ends { IfOk result (λ n. (n ≡ size) ⊎ IsAtEnd (I.left input.new)) }
     ensures fault { (x : Option (List ℕ)) (o : Origin) → Consumes x (I.left input.old) first.now → ReadFrom pool.now o reading.old
-        → IfErr result (λ e. IfRefused e (ToldOf pool.now o x (I.left input.new) size)) }
+        → IfErr result (λ e. IfRefused e (ReportedOf pool.now o x (I.left input.new) size)) }
     ensures taken { (x : Option (List ℕ)) → Consumes x (I.left input.old) first.now → TakesAtMost size x (I.left input.new) }
     ensures failures { TellsFailures result (I.failures input.old) (I.failures input.new) }
     ensures steady { I.is_steady input.old ≡ true → result ≢ Err Device }

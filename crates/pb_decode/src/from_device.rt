@@ -10,7 +10,7 @@ ghost use Rattle.pb_value.specs.Derives.{Text};
 ghost use Rattle.pb_decode.specs.declared.error.DecodeError.TheVariants.{Device};
 ghost use Rattle.pb_decode.specs.Reader.Origin.{Origin, origin};
 ghost use Rattle.pb_decode.specs.FromDevice.{IfRefused, TellsFailures, TakesAtMost, GivesOrFails, TellsOrFails};
-ghost use Rattle.pb_decode.specs.Loops.{ReadsOn, ToldOf};
+ghost use Rattle.pb_decode.specs.Loops.{ReadsOn, ReportedOf};
 ghost use Rattle.pb_decode.specs.Reader.Pieces.{received, ReadFrom};
 ghost use Rattle.pb_decode.specs.Push.{IsFaultOf};
 
@@ -41,7 +41,7 @@ fn read_piece<I: Input>(
     ensures read { IfOk result (λ n. ReadsOn pool.now reading.old reading.new (I.left input.old) (I.left input.new) n) }
     ensures ends { IfOk result (λ n. n ≡ 0 → 0 < length buffer.old → IsAtEnd (I.left input.new)) }
     ensures fault { (o : Origin) → ReadFrom pool.now o reading.old
-        → IfErr result (λ e. IfRefused e (ToldOf pool.now o (I.left input.old) (I.left input.new) (length buffer.old))) }
+        → IfErr result (λ e. IfRefused e (ReportedOf pool.now o (I.left input.old) (I.left input.new) (length buffer.old))) }
     ensures most { TakesAtMost (length buffer.old) (I.left input.old) (I.left input.new) }
     ensures failures { TellsFailures result (I.failures input.old) (I.failures input.new) }
     ensures steady { I.is_steady input.old ≡ true → result ≢ Err Device }
@@ -70,7 +70,7 @@ pub(crate) fn read_pieces<I: Input>(
     ensures read { IfOk result (λ n. ReadsOn pool.now reading.old reading.new (I.left input.old) (I.left input.new) n) }
     ensures ends { IfOk result (λ n. (n ≡ most) ⊎ IsAtEnd (I.left input.new)) }
     ensures fault { (o : Origin) → ReadFrom pool.now o reading.old
-        → IfErr result (λ e. IfRefused e (ToldOf pool.now o (I.left input.old) (I.left input.new) most)) }
+        → IfErr result (λ e. IfRefused e (ReportedOf pool.now o (I.left input.old) (I.left input.new) most)) }
     ensures taken { TakesAtMost most (I.left input.old) (I.left input.new) }
     ensures failures { TellsFailures result (I.failures input.old) (I.failures input.new) }
     ensures steady { I.is_steady input.old ≡ true → result ≢ Err Device }

@@ -195,9 +195,9 @@ fn open_lists(step: Step) -> usize
 
 /// How many messages, map entries, groups and packed lists are open, the top one too.
 pub(crate) fn open_contexts(reading: &Reading) -> usize
-    ensures { result ≡ vec_len reading.now.reader.frames + lists_in reading.now.reader.step + 1 }
+    ensures { result ≡ vec_len reading.now.reader.parents + lists_in reading.now.reader.step + 1 }
 {
-    reading.reader.frames.len() + open_lists(reading.reader.step) + 1
+    reading.reader.parents.len() + open_lists(reading.reader.step) + 1
 }
 
 /// The fault that the input ends too early.

@@ -4,8 +4,8 @@ use Rattle.std.specs.Prelude.{◌==◌}
 use Rattle.std.proofs.lemmas.Bool.{eqb-true}
 
 -- what is reported of one that is there
-pub told_of : {A : Type 0} (P : A → Type 0) (o : Option A) (x : A) → o ≡ Some x → IfSome o P → P x
-told_of {A} P o x is told = subst (λ (z : Option A). IfSome z P) is told
+pub reported_of : {A : Type 0} (P : A → Type 0) (o : Option A) (x : A) → o ≡ Some x → IfSome o P → P x
+reported_of {A} P o x is reported = subst (λ (z : Option A). IfSome z P) is reported
 
 pub not_yes : (b : Bool) → not b ≡ true → b ≡ false
 not_yes true h = absurd (cc)

@@ -8,7 +8,7 @@ use Rattle.pb_value.specs.Data.{message, empty}
 use Rattle.pb_value.specs.Value.{missing}
 use Rattle.pb_value.specs.Oneof.{default_value}
 use Rattle.pb_parts.specs.declared.open.part.Slot.TheVariants as slot
-use Rattle.pb_parts.specs.Open.Frames.{Part, message_part, entry_part, group_part, put_group}
+use Rattle.pb_parts.specs.Open.Parents.{Part, message_part, entry_part, group_part, put_group}
 use Rattle.pb_parts.specs.Values.Put.{put_record}
 
 -- a kind with no default is that of a message, which is then the empty one, or a closed enum

@@ -48,9 +48,9 @@ pub none_in_gap : (l : List (ℕ × ℕ)) (k i : ℕ) → IsGapFor l k i → Non
 none_in_gap l k i gap j lt same = grind (arith, gap.less_before j, gap.greater_after j)
 
 -- after a list without the number comes what the rest has
-pub found_behind : (l rest : List (ℕ × ℕ)) (k : ℕ) → NoneBefore l k (length l) → found k (l ++ rest) ≡ found k rest
-found_behind [] rest k none = refl
-found_behind (x ∷ l) rest k none = grind (arith, nat_tests, none 0 (omega arith), found_behind l rest k (none_before_tail x l k (length l) none))
+pub found_after : (l rest : List (ℕ × ℕ)) (k : ℕ) → NoneBefore l k (length l) → found k (l ++ rest) ≡ found k rest
+found_after [] rest k none = refl
+found_after (x ∷ l) rest k none = grind (arith, nat_tests, none 0 (omega arith), found_after l rest k (none_before_tail x l k (length l) none))
 
 pub found_at : (l rest : List (ℕ × ℕ)) (k i : ℕ) → IsAt l k i → NoneBefore l k i → found k (l ++ rest) ≡ Some (get_or l i (0, 0)).1
 found_at [] rest k i is_at none = absurd (omega (arith, is_at.in_range))

@@ -19,12 +19,12 @@ use Rattle.pb_parts.specs.declared.open.part.Slot.TheVariants as slot
 use Rattle.pb_parts.specs.declared.open.target.Target.{Target}
 use Rattle.pb_parts.specs.declared.open.target.Target.TheVariants as target
 use Rattle.pb_parts.specs.Open.Targets.{OfShape, AtField, Means, part_context}
-use Rattle.pb_parts.specs.Open.Frames.{Part, message_part, entry_part, group_part, Scope, Frame, path_of, next_step, Stands}
+use Rattle.pb_parts.specs.Open.Parents.{Part, message_part, entry_part, group_part, Scope, Parent, path_of, next_step, Stands}
 use Rattle.pb_parts.specs.Tokens.After.{goes_down}
 use Rattle.pb_parts.proofs.NumberSteps.{number_is}
 use Rattle.pb_parts.proofs.KindLemmas.{never_packed}
-use Rattle.pb_parts.proofs.AfterLemmas.{told_inside}
-use Rattle.pb_parts.proofs.FrameLemmas.{part_of_context}
+use Rattle.pb_parts.proofs.AfterLemmas.{reported_inside}
+use Rattle.pb_parts.proofs.ParentLemmas.{part_of_context}
 
 -- the record has a payload, which is read as a message
 abbrev pub ReadsBelow : Types → Context → ℕ → ℕ → Type 0
@@ -100,11 +100,11 @@ reads_below pool (entry_part key k2 x d) k w meant h deep start = absurd (false�
 reads_below pool (group_part us) k w meant h deep start = absurd (let no : goes_down target.Unknown ≡ true = ap goes_down (sym h) ∙ deep in false≢true no)
 
 -- NO LEVEL IS LEFT
-pub too_deep_told :
-    {pool : Types} {m depth levels : ℕ} {base : List Record} {p0 : Place} {frames : List Frame} {scope : Scope} {now : Part} {q u : Place} (k w : ℕ) (meant : Target)
-    → Stands pool m depth levels base p0 frames now scope q → HasTag q k w u → Means pool (part_context now) k w meant → goes_down meant ≡ true → (w ≡ 3 → ⊥) → scope.depth_left ≡ 0
-    → Bad (schema_of pool) (records (in_message m)) depth p0 (fault q.at (path_of frames ++ next_step k scope ∷ []) TooDeep)
-too_deep_told {pool} {scope = scope} {now = now} {q = q} {u = u} k w meant s has means deep start none =
+pub too_deep_reported :
+    {pool : Types} {m depth levels : ℕ} {base : List Record} {p0 : Place} {parents : List Parent} {scope : Scope} {now : Part} {q u : Place} (k w : ℕ) (meant : Target)
+    → Stands pool m depth levels base p0 parents now scope q → HasTag q k w u → Means pool (part_context now) k w meant → goes_down meant ≡ true → (w ≡ 3 → ⊥) → scope.depth_left ≡ 0
+    → Bad (schema_of pool) (records (in_message m)) depth p0 (fault q.at (path_of parents ++ next_step k scope ∷ []) TooDeep)
+too_deep_reported {pool} {scope = scope} {now = now} {q = q} {u = u} k w meant s has means deep start none =
     let (two, (d, reads)) = reads_below pool now k w meant means deep start in
-    told_inside k w (fault q.at [] TooDeep) s has
+    reported_inside k w (fault q.at [] TooDeep) s has
     (RecordFault.message_too_deep (subst (λ (z : ℕ). HasTag q k z u) two has) (ap (λ (c : Context). (schema_of pool).reading c k) (part_of_context now (context_of s.open_now) s.form) ∙ reads) none refl)

@@ -17,9 +17,9 @@ use Rattle.pb_schema.specs.Context.{Context, a_message as in_message, an_entry, 
 use Rattle.pb_value.specs.Data.{Message}
 use Rattle.pb_parts.specs.Open.Opened.{Begun}
 use Rattle.pb_parts.specs.Open.Opened as opened
-use Rattle.pb_parts.specs.Open.Frames.{Part, message_part, group_part, put_message, put_group, open_type, one_more_in, Scope, Frame, path_of, Held, inside, Stands}
+use Rattle.pb_parts.specs.Open.Parents.{Part, message_part, group_part, put_message, put_group, open_type, one_more_in, Scope, Parent, path_of, Held, inside, Stands}
 use Rattle.pb_parts.proofs.OpenedLemmas.{lift}
-use Rattle.pb_parts.proofs.FrameLemmas.{held_opened, is_payload, is_group}
+use Rattle.pb_parts.proofs.ParentLemmas.{held_opened, is_payload, is_group}
 use Rattle.pb_parts.proofs.StepsOfParts.{ends_at_tag}
 use Rattle.pb_parts.proofs.AfterLemmas.{path_held}
 
@@ -55,53 +55,53 @@ field_no_group c (Some f) = shaped_no_group c f.shape f.kind
 
 -- what a group's records are in is the group that was begun
 pub group_is_open :
-    {pool : Types} {m depth levels : ℕ} {base : List Record} {p0 : Place} {frame : Frame} {frames : List Frame} {scope : Scope} {us : List Record} {q : Place}
-    (s : Stands pool m depth levels base p0 (frame ∷ frames) (group_part us) scope q) → s.open_now ≡ in_group frame.number unknown_group
-group_is_open {pool} {m} {depth} {levels} {base} {p0} {frame} {frames} {us = us} s = from_held s.held s.form
+    {pool : Types} {m depth levels : ℕ} {base : List Record} {p0 : Place} {parent : Parent} {parents : List Parent} {scope : Scope} {us : List Record} {q : Place}
+    (s : Stands pool m depth levels base p0 (parent ∷ parents) (group_part us) scope q) → s.open_now ≡ in_group parent.number unknown_group
+group_is_open {pool} {m} {depth} {levels} {base} {p0} {parent} {parents} {us = us} s = from_held s.held s.form
   where
-    from_begun : {a o : Open Context} {depth_left below : ℕ} {q u : Place} → Begun (schema_of pool) a depth_left frame.number q o below u → context_of o ≡ unknown_group → o ≡ in_group frame.number unknown_group
+    from_begun : {a o : Open Context} {depth_left below : ℕ} {q u : Place} → Begun (schema_of pool) a depth_left parent.number q o below u → context_of o ≡ unknown_group → o ≡ in_group parent.number unknown_group
     from_begun {a = a} (opened.a_message {d = d} levels tag re l is_open is_place) f =
-        absurd (subst IsNoGroup (re ∙ ap message_reading (ap context_of (sym is_open) ∙ f)) (field_no_group (context_of a) (field_numbered frame.number (fields_in pool (context_of a)))))
+        absurd (subst IsNoGroup (re ∙ ap message_reading (ap context_of (sym is_open) ∙ f)) (field_no_group (context_of a) (field_numbered parent.number (fields_in pool (context_of a)))))
     from_begun {a = a} (opened.a_value {d = d} levels tag re l is_open is_place) f =
-        absurd (subst IsNoGroup (re ∙ ap same_level (ap context_of (sym is_open) ∙ f)) (field_no_group (context_of a) (field_numbered frame.number (fields_in pool (context_of a)))))
-    from_begun (opened.a_group levels tag is_open is_place) f = is_open ∙ ap (in_group frame.number) (sym (ap context_of is_open) ∙ f)
+        absurd (subst IsNoGroup (re ∙ ap same_level (ap context_of (sym is_open) ∙ f)) (field_no_group (context_of a) (field_numbered parent.number (fields_in pool (context_of a)))))
+    from_begun (opened.a_group levels tag is_open is_place) f = is_open ∙ ap (in_group parent.number) (sym (ap context_of is_open) ∙ f)
 
-    from_held : {o : Open Context} {depth_left inner : ℕ} {path : List PathStep} {p : Place} {earlier : List Record} → Held pool m depth levels base p0 (frame ∷ frames) (group_part us) o depth_left inner path p earlier
-        → context_of o ≡ unknown_group → o ≡ in_group frame.number unknown_group
+    from_held : {o : Open Context} {depth_left inner : ℕ} {path : List PathStep} {p : Place} {earlier : List Record} → Held pool m depth levels base p0 (parent ∷ parents) (group_part us) o depth_left inner path p earlier
+        → context_of o ≡ unknown_group → o ≡ in_group parent.number unknown_group
     from_held (inside up h begun form can deep completes is_path counts ends goes_on takes) f = from_begun begun f
 
 -- an end tag ends a group's records
 pub records_in_group :
-    {pool : Types} {m depth levels : ℕ} {base : List Record} {p0 : Place} {frame : Frame} {frames : List Frame} {scope : Scope} {us : List Record} {q : Place}
-    (s : Stands pool m depth levels base p0 (frame ∷ frames) (group_part us) scope q) → frame.group ≡ false → ⊥
-records_in_group {frame = frame} s none =
+    {pool : Types} {m depth levels : ℕ} {base : List Record} {p0 : Place} {parent : Parent} {parents : List Parent} {scope : Scope} {us : List Record} {q : Place}
+    (s : Stands pool m depth levels base p0 (parent ∷ parents) (group_part us) scope q) → parent.group ≡ false → ⊥
+records_in_group {parent = parent} s none =
     let typed : open_type s.open_now ≡ 2 = ap open_type (is_payload s none) in
     let flag : open_type s.open_now ≡ 3 = ap open_type (group_is_open s) in
     omega (arith, typed, flag)
 
 -- THE KNOWN END of what holds the group comes before its end tag
-pub past_end_told :
-    {pool : Types} {m depth levels : ℕ} {base : List Record} {p0 : Place} {frame : Frame} {frames : List Frame} {scope : Scope} {now : Part} {q : Place}
-    → Stands pool m depth levels base p0 (frame ∷ frames) now scope q → frame.group ≡ true → q.known ≡ Some 0 → Bad (schema_of pool) (records (in_message m)) depth p0 (fault q.at (path_of (frame ∷ frames)) PastEnd)
-past_end_told {pool} {m} {depth} {p0 = p0} {frame} {frames} {scope} {q = q} s some end =
+pub past_end_reported :
+    {pool : Types} {m depth levels : ℕ} {base : List Record} {p0 : Place} {parent : Parent} {parents : List Parent} {scope : Scope} {now : Part} {q : Place}
+    → Stands pool m depth levels base p0 (parent ∷ parents) now scope q → parent.group ≡ true → q.known ≡ Some 0 → Bad (schema_of pool) (records (in_message m)) depth p0 (fault q.at (path_of (parent ∷ parents)) PastEnd)
+past_end_reported {pool} {m} {depth} {p0 = p0} {parent} {parents} {scope} {q = q} s some end =
     subst (λ (z : List PathStep). Bad (schema_of pool) (records (in_message m)) depth p0 (fault q.at z PastEnd)) (append-nil s.path ∙ path_held s.held)
     (lift (fault q.at [] PastEnd) (held_opened s.held)
-    (Bad.at_end (is_group s some) (s.records_so_far, s.behind.spelled, s.behind.sound) s.behind.moves end refl))
+    (Bad.at_end (is_group s some) (s.records_so_far, s.so_far.spelled, s.so_far.sound) s.so_far.moves end refl))
 
 -- A GROUP THAT ENDS at its end tag, as its slot says: unknown records
 pub group_closes :
-    {pool : Types} {m depth levels : ℕ} {base : List Record} {p0 : Place} {frame : Frame} {frames : List Frame} {scope : Scope} {us : List Record} {q w : Place} (next : Part)
-    → Stands pool m depth levels base p0 (frame ∷ frames) (group_part us) scope q → frame.group ≡ true → HasTag q frame.number 4 w → next ≡ put_group frame.slot frame.part us
-    → Stands pool m depth levels base p0 frames next (one_more_in frame.number frame.scope) w
-group_closes {pool} {m} {depth} {levels} {base} {p0} {frame} {frames} {scope} {us} {q} {w} next s some end is =
-    subst (λ (z : Part). Stands pool m depth levels base p0 frames z (one_more_in frame.number frame.scope) w) (sym is)
+    {pool : Types} {m depth levels : ℕ} {base : List Record} {p0 : Place} {parent : Parent} {parents : List Parent} {scope : Scope} {us : List Record} {q w : Place} (next : Part)
+    → Stands pool m depth levels base p0 (parent ∷ parents) (group_part us) scope q → parent.group ≡ true → HasTag q parent.number 4 w → next ≡ put_group parent.slot parent.part us
+    → Stands pool m depth levels base p0 parents next (one_more_in parent.number parent.scope) w
+group_closes {pool} {m} {depth} {levels} {base} {p0} {parent} {parents} {scope} {us} {q} {w} next s some end is =
+    subst (λ (z : Part). Stands pool m depth levels base p0 parents z (one_more_in parent.number parent.scope) w) (sym is)
     (ends_at_tag s (is_group s some) some end)
 
 -- and the message of a field
 pub message_group_closes :
-    {pool : Types} {m depth levels : ℕ} {base : List Record} {p0 : Place} {frame : Frame} {frames : List Frame} {scope : Scope} {k : ℕ} {v : Message} {q w : Place} (next : Part)
-    → Stands pool m depth levels base p0 (frame ∷ frames) (message_part k v) scope q → frame.group ≡ true → HasTag q frame.number 4 w → next ≡ put_message pool frame.slot frame.part v
-    → Stands pool m depth levels base p0 frames next (one_more_in frame.number frame.scope) w
-message_group_closes {pool} {m} {depth} {levels} {base} {p0} {frame} {frames} {scope} {k} {v} {q} {w} next s some end is =
-    subst (λ (z : Part). Stands pool m depth levels base p0 frames z (one_more_in frame.number frame.scope) w) (sym is)
+    {pool : Types} {m depth levels : ℕ} {base : List Record} {p0 : Place} {parent : Parent} {parents : List Parent} {scope : Scope} {k : ℕ} {v : Message} {q w : Place} (next : Part)
+    → Stands pool m depth levels base p0 (parent ∷ parents) (message_part k v) scope q → parent.group ≡ true → HasTag q parent.number 4 w → next ≡ put_message pool parent.slot parent.part v
+    → Stands pool m depth levels base p0 parents next (one_more_in parent.number parent.scope) w
+message_group_closes {pool} {m} {depth} {levels} {base} {p0} {parent} {parents} {scope} {k} {v} {q} {w} next s some end is =
+    subst (λ (z : Part). Stands pool m depth levels base p0 parents z (one_more_in parent.number parent.scope) w) (sym is)
     (ends_at_tag s (is_group s some) some end)

@@ -27,12 +27,12 @@ use Rattle.pb_parts.specs.declared.open.target.Target.TheVariants as target
 use Rattle.pb_parts.specs.Open.Opened as opened
 use Rattle.pb_parts.specs.Values.Put.{put_record}
 use Rattle.pb_parts.specs.Open.Targets.{OfShape, AtField, IsNoMessage, Means, part_context}
-use Rattle.pb_parts.specs.Open.Frames.{Part, message_part, entry_part, group_part, put_group, CanHold, IsWorth, Frame, Completes, inside, Scope, next_step, path_of, EndsAt, Stands, Takes}
+use Rattle.pb_parts.specs.Open.Parents.{Part, message_part, entry_part, group_part, put_group, CanHold, IsWorth, Parent, Completes, inside, Scope, next_step, path_of, EndsAt, Stands, Takes}
 use Rattle.pb_parts.proofs.StepCounts.{counts_of_none}
-use Rattle.pb_parts.proofs.OpenedLemmas.{behind_nothing}
-use Rattle.pb_parts.proofs.FrameLemmas.{ends_along, part_of_context}
+use Rattle.pb_parts.proofs.OpenedLemmas.{so_far_nothing}
+use Rattle.pb_parts.proofs.ParentLemmas.{ends_along, part_of_context}
 use Rattle.pb_parts.proofs.UnknownSteps.{not_both, unfit_unknown}
-use Rattle.pb_parts.proofs.AfterLemmas.{told_inside}
+use Rattle.pb_parts.proofs.AfterLemmas.{reported_inside}
 
 -- A GROUP THAT FITS NO FIELD holds unknown records
 
@@ -171,20 +171,20 @@ unknown_group_means pool now n meant can means never = subst (Means pool (part_c
 
 -- A GROUP IS OPENED
 pub group_opened :
-    {pool : Types} {m depth levels : ℕ} {base : List Record} {p0 : Place} {frames : List Frame} {scope : Scope} {now : Part} {q u : Place} (k : ℕ) (inner : Scope) (content : List Record) → IsPool pool → CanHold pool now → Means pool (part_context now) k 3 target.Unknown
-    → Stands pool m depth levels base p0 frames now scope q → 0 < scope.depth_left → HasTag q k 3 u → content ≡ [] → inner.depth_left ≡ scope.depth_left - 1 → inner.end ≡ scope.end → ((i : ℕ) → inner.counts i ≡ 0)
-    → Stands pool m depth levels base p0 (record { part = now; number = k; slot = slot.Unknown k; group = true; scope = scope } ∷ frames) (group_part content) inner u
-group_opened {pool} {m} {depth} {levels} {base} {p0} {frames} {scope} {now} {q} {u} k inner content ok can means s some tag nothing is_room is_end none = record {
+    {pool : Types} {m depth levels : ℕ} {base : List Record} {p0 : Place} {parents : List Parent} {scope : Scope} {now : Part} {q u : Place} (k : ℕ) (inner : Scope) (content : List Record) → IsPool pool → CanHold pool now → Means pool (part_context now) k 3 target.Unknown
+    → Stands pool m depth levels base p0 parents now scope q → 0 < scope.depth_left → HasTag q k 3 u → content ≡ [] → inner.depth_left ≡ scope.depth_left - 1 → inner.end ≡ scope.end → ((i : ℕ) → inner.counts i ≡ 0)
+    → Stands pool m depth levels base p0 (record { part = now; number = k; slot = slot.Unknown k; group = true; scope = scope } ∷ parents) (group_part content) inner u
+group_opened {pool} {m} {depth} {levels} {base} {p0} {parents} {scope} {now} {q} {u} k inner content ok can means s some tag nothing is_depth is_end none = record {
   open_now = in_group k unknown_group;
   inner = s.inner;
   path = s.path ++ step_into k s.records_so_far ∷ [];
   begin = u;
   earlier = [];
   records_so_far = [];
-  held = inside s.held s.behind (opened.a_group level tag (ap (in_group k) (sym (ap (λ (c : Context). (schema_of pool).group_context c k) (part_of_context now (context_of s.open_now) s.form) ∙ group_unknown pool now k means))) refl) s.form can s.deep completes refl s.counted s.ends refl (group_goes k now content, refl);
+  held = inside s.held s.so_far (opened.a_group level tag (ap (in_group k) (sym (ap (λ (c : Context). (schema_of pool).group_context c k) (part_of_context now (context_of s.open_now) s.form) ∙ group_unknown pool now k means))) refl) s.form can s.deep completes refl s.counted s.ends refl (group_goes k now content, refl);
   form = refl;
-  deep = (let deep = s.deep in omega (arith, deep, is_room));
-  behind = behind_nothing u;
+  deep = (let deep = s.deep in omega (arith, deep, is_depth));
+  so_far = so_far_nothing u;
   counted = counts_of_none inner.counts none;
   ends = subst (λ (z : Option ℕ). EndsAt u z) (sym is_end) (ends_along tag.tag.0 scope.end tag.tag.2 s.ends);
   bytes = s.bytes;
@@ -192,7 +192,7 @@ group_opened {pool} {m} {depth} {levels} {base} {p0} {frames} {scope} {now} {q} 
 }
   where
     level : scope.depth_left ≡ suc inner.depth_left
-    level = omega (arith, some, is_room)
+    level = omega (arith, some, is_depth)
 
     completes : Completes pool s.inner s.inner (record { part = now; number = k; slot = slot.Unknown k; group = true; scope = scope }) (s.earlier ++ s.records_so_far) (group_part content) []
     completes (group g) (group_part us) type form worth =
@@ -208,6 +208,6 @@ group_opened {pool} {m} {depth} {levels} {base} {p0} {frames} {scope} {now} {q} 
 
 -- NO LEVEL IS LEFT for a group
 pub group_too_deep :
-    {pool : Types} {m depth levels : ℕ} {base : List Record} {p0 : Place} {frames : List Frame} {scope : Scope} {now : Part} {q u : Place} (k : ℕ) → Stands pool m depth levels base p0 frames now scope q → HasTag q k 3 u → scope.depth_left ≡ 0
-    → Bad (schema_of pool) (records (in_message m)) depth p0 (fault q.at (path_of frames ++ next_step k scope ∷ []) TooDeep)
-group_too_deep {q = q} k s tag full = told_inside k 3 (fault q.at [] TooDeep) s tag (RecordFault.group_too_deep tag full refl)
+    {pool : Types} {m depth levels : ℕ} {base : List Record} {p0 : Place} {parents : List Parent} {scope : Scope} {now : Part} {q u : Place} (k : ℕ) → Stands pool m depth levels base p0 parents now scope q → HasTag q k 3 u → scope.depth_left ≡ 0
+    → Bad (schema_of pool) (records (in_message m)) depth p0 (fault q.at (path_of parents ++ next_step k scope ∷ []) TooDeep)
+group_too_deep {q = q} k s tag full = reported_inside k 3 (fault q.at [] TooDeep) s tag (RecordFault.group_too_deep tag full refl)

@@ -11,7 +11,7 @@ pub mod StepCounts
 -- for the open part: a fault inside is the fault of the whole, and a payload that ends is one more record of its parent
 pub mod OpenedLemmas
 -- for the frames of the open part: what is reported from them, and how they change
-pub mod FrameLemmas
+pub mod ParentLemmas
 -- for the same wherever the reader is: it is well formed
 pub mod WellLemmas
 -- ---- what is opened, and what a whole record makes of its part
@@ -54,7 +54,7 @@ pub mod GroupLemmas
 -- for groups of which no schema knows, opened in a message, in an entry, in a group
 pub mod GroupSteps
 -- for tags, ends of groups and lengths that are refused: that is the fault of the whole
-pub mod TokenTold
+pub mod TokenReports
 -- for entries and groups that close: what the part that holds them is then
 pub mod ClosingLemmas
 -- for runs of packed elements that are taken at once

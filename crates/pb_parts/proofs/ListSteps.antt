@@ -34,12 +34,12 @@ use Rattle.pb_parts.specs.Tokens.Numbers.{Follows}
 use Rattle.pb_parts.specs.Values.Put.{put_datum, put_record}
 use Rattle.pb_parts.specs.Open.Opened.{below}
 use Rattle.pb_parts.specs.Open.Targets.{OfShape, AtField, Means, part_context}
-use Rattle.pb_parts.specs.Open.Frames.{Part, message_part, entry_part, group_part, CanHold, up_to, next_step, Frame, path_of, Stands, Scope, one_more_in}
+use Rattle.pb_parts.specs.Open.Parents.{Part, message_part, entry_part, group_part, CanHold, up_to, next_step, Parent, path_of, Stands, Scope, one_more_in}
 use Rattle.pb_parts.specs.Tokens.After.{tag, awaited, Elements, with_elements, Underway, nothing, a_tag, a_length, some_elements, After}
-use Rattle.pb_parts.proofs.PackedLemmas.{elements_more, element_told, list_ends}
+use Rattle.pb_parts.proofs.PackedLemmas.{elements_more, element_reported, list_ends}
 use Rattle.pb_parts.proofs.PackedNumbers.{element_type, number_of, type_of_element}
 use Rattle.pb_parts.proofs.AfterLemmas.{at_tag, with_no_elements, with_next_element, with_next_undeclared}
-use Rattle.pb_parts.proofs.FrameLemmas.{ends_along}
+use Rattle.pb_parts.proofs.ParentLemmas.{ends_along}
 use Rattle.pb_parts.proofs.NumberSteps.{fits_is}
 
 -- an element's bytes are those of its number
@@ -97,25 +97,25 @@ packs pool (group_part us) k kd means = absurd (cc)
 
 -- A LENGTH OF A PACKED LIST: its elements come next, up to their known end
 pub list_begins :
-    {pool : Types} {m depth levels : ℕ} {base : List Record} {p0 : Place} {frames : List Frame} {scope : Scope} {next : Step} {now : Part} {u t : Place} (k : ℕ) (kd : Kind) (n : ℕ)
-    → After pool m depth levels base p0 frames next now scope u → awaited next ≡ Some (tag k 2 (target.Packed kd)) → HasLength u n t
-    → After pool m depth levels base p0 frames (step.Elements k kd scope.end) now (record scope { end = Some (t.at + n) }) (payload_at t n)
+    {pool : Types} {m depth levels : ℕ} {base : List Record} {p0 : Place} {parents : List Parent} {scope : Scope} {next : Step} {now : Part} {u t : Place} (k : ℕ) (kd : Kind) (n : ℕ)
+    → After pool m depth levels base p0 parents next now scope u → awaited next ≡ Some (tag k 2 (target.Packed kd)) → HasLength u n t
+    → After pool m depth levels base p0 parents (step.Elements k kd scope.end) now (record scope { end = Some (t.at + n) }) (payload_at t n)
 list_begins {pool} {now = now} {t = t} k kd n a is l =
-    let behind = at_tag (tag k 2 (target.Packed kd)) a is in
-    let list = packs pool now k kd behind.means in
+    let after = at_tag (tag k 2 (target.Packed kd)) a is in
+    let list = packs pool now k kd after.means in
     let at = list.0 in
     record {
       before = now;
-      place = behind.place;
-      stands = behind.stands;
+      place = after.place;
+      stands = after.stands;
       begun =
-          some_elements refl behind.has l behind.means (record { whole = no_elements; moves = moves_nothing (payload_at t n) }) at.2
+          some_elements refl after.has l after.means (record { whole = no_elements; moves = moves_nothing (payload_at t n) }) at.2
           (at.2 ∙ ap (message_part at.0) (sym (with_no_elements pool k kd at.1 list.1)));
       ends = (n, refl, refl);
     }
 
 -- inside the payload of a packed list
-pub record AtList (pool : Types) (m depth levels : ℕ) (base : List Record) (p0 : Place) (frames : List Frame) (now : Part) (scope : Scope) (k : ℕ) (kd : Kind) (outer : Option ℕ) (u : Place) : Type 0 where
+pub record AtList (pool : Types) (m depth levels : ℕ) (base : List Record) (p0 : Place) (parents : List Parent) (now : Part) (scope : Scope) (k : ℕ) (kd : Kind) (outer : Option ℕ) (u : Place) : Type 0 where
   pub message_type : ℕ
   pub before : Message
   pub place : Place
@@ -123,7 +123,7 @@ pub record AtList (pool : Types) (m depth levels : ℕ) (base : List Record) (p0
   pub payload : Place
   pub size : ℕ
   pub front : List ℕ
-  pub stands : Stands pool m depth levels base p0 frames (message_part message_type before) (record scope { end = outer }) place
+  pub stands : Stands pool m depth levels base p0 parents (message_part message_type before) (record scope { end = outer }) place
   pub has : HasTag place k 2 length_at
   pub length_is : HasLength length_at size payload
   pub means : Means pool (in_message message_type) k 2 (target.Packed kd)
@@ -131,14 +131,14 @@ pub record AtList (pool : Types) (m depth levels : ℕ) (base : List Record) (p0
   pub now_is : now ≡ message_part message_type (with_elements pool k kd front before)
 
 pub at_list :
-    {pool : Types} {m depth levels : ℕ} {base : List Record} {p0 : Place} {frames : List Frame} {scope : Scope} {now : Part} {u : Place} (k : ℕ) (kd : Kind) (outer : Option ℕ)
-    → After pool m depth levels base p0 frames (step.Elements k kd outer) now scope u → AtList pool m depth levels base p0 frames now scope k kd outer u
-at_list {pool} {m} {depth} {levels} {base} {p0} {frames} {scope} {now} {u} k kd outer a = from_underway a.before a.place a.stands a.begun
+    {pool : Types} {m depth levels : ℕ} {base : List Record} {p0 : Place} {parents : List Parent} {scope : Scope} {now : Part} {u : Place} (k : ℕ) (kd : Kind) (outer : Option ℕ)
+    → After pool m depth levels base p0 parents (step.Elements k kd outer) now scope u → AtList pool m depth levels base p0 parents now scope k kd outer u
+at_list {pool} {m} {depth} {levels} {base} {p0} {parents} {scope} {now} {u} k kd outer a = from_underway a.before a.place a.stands a.begun
   where
-    from_underway : (v : Part) (q : Place) → Stands pool m depth levels base p0 frames v (record scope { end = outer }) q → Underway pool scope.depth_left v q (step.Elements k kd outer) now u → AtList pool m depth levels base p0 frames now scope k kd outer u
+    from_underway : (v : Part) (q : Place) → Stands pool m depth levels base p0 parents v (record scope { end = outer }) q → Underway pool scope.depth_left v q (step.Elements k kd outer) now u → AtList pool m depth levels base p0 parents now scope k kd outer u
     from_underway v q s (nothing at same place) = absurd (cc)
-    from_underway v q s (a_tag t at has means room_for same) = absurd (cc)
-    from_underway v q s (a_length at has l means room_for bytes same) = absurd (cc)
+    from_underway v q s (a_tag t at has means has_level same) = absurd (cc)
+    from_underway v q s (a_length at has l means has_level bytes same) = absurd (cc)
     from_underway v q s (some_elements {r = r} {t = t} {k = k2} {n = n} {m = j} {kd = kd2} {w = w} {front = front} at has l means h was same) =
         let own : k2 ≡ k = cc in
         let kind_is : kd2 ≡ kd = cc in
@@ -150,7 +150,7 @@ at_list {pool} {m} {depth} {levels} {base} {p0} {frames} {scope} {now} {u} k kd 
           payload = t;
           size = n;
           front = front;
-          stands = subst (λ (z : Part). Stands pool m depth levels base p0 frames z (record scope { end = outer }) q) was s;
+          stands = subst (λ (z : Part). Stands pool m depth levels base p0 parents z (record scope { end = outer }) q) was s;
           has = subst (λ (z : ℕ). HasTag q z 2 r) own has;
           length_is = l;
           means =
@@ -162,10 +162,10 @@ at_list {pool} {m} {depth} {levels} {base} {p0} {frames} {scope} {now} {u} k kd 
 
 -- ONE MORE ELEMENT: it goes to the end of the list, and the reader is after it
 pub list_goes_on :
-    {pool : Types} {m depth levels : ℕ} {base : List Record} {p0 : Place} {frames : List Frame} {scope : Scope} {now : Part} {u w : Place} (k : ℕ) (kd : Kind) (outer : Option ℕ) (a : Number) (x : Scalar)
-    → After pool m depth levels base p0 frames (step.Elements k kd outer) now scope u → wire_type (number_view a) ≡ wire_type_of kd → read kd (number_view a) ≡ Some x → is_undeclared pool (closed_enum kd) (number_view a) ≡ false
-    → Follows u (number_view a) w → After pool m depth levels base p0 frames (step.Elements k kd outer) (put_datum pool k (target.Element kd) now (scalar x)) scope w
-list_goes_on {pool} {m} {depth} {levels} {base} {p0} {frames} {scope} {now} {u} {w} k kd outer a x begun type value declared (first, spelled, moves) =
+    {pool : Types} {m depth levels : ℕ} {base : List Record} {p0 : Place} {parents : List Parent} {scope : Scope} {now : Part} {u w : Place} (k : ℕ) (kd : Kind) (outer : Option ℕ) (a : Number) (x : Scalar)
+    → After pool m depth levels base p0 parents (step.Elements k kd outer) now scope u → wire_type (number_view a) ≡ wire_type_of kd → read kd (number_view a) ≡ Some x → is_undeclared pool (closed_enum kd) (number_view a) ≡ false
+    → Follows u (number_view a) w → After pool m depth levels base p0 parents (step.Elements k kd outer) (put_datum pool k (target.Element kd) now (scalar x)) scope w
+list_goes_on {pool} {m} {depth} {levels} {base} {p0} {parents} {scope} {now} {u} {w} k kd outer a x begun type value declared (first, spelled, moves) =
     let list = at_list k kd outer begun in
     let can = (packs pool (message_part list.message_type list.before) k kd list.means).1 in
     let one = element_spelled (element_of kd) a first (type ∙ type_of_element kd can) spelled in
@@ -182,10 +182,10 @@ list_goes_on {pool} {m} {depth} {levels} {base} {p0} {frames} {scope} {now} {u} 
 
 -- one that a closed enum doesn't declare goes among the unknown records
 list_passes :
-    {pool : Types} {m depth levels : ℕ} {base : List Record} {p0 : Place} {frames : List Frame} {scope : Scope} {now : Part} {u w : Place} (k : ℕ) (kd : Kind) (outer : Option ℕ) (a : Number)
-    → After pool m depth levels base p0 frames (step.Elements k kd outer) now scope u → wire_type (number_view a) ≡ wire_type_of kd → is_undeclared pool (closed_enum kd) (number_view a) ≡ true
-    → Follows u (number_view a) w → After pool m depth levels base p0 frames (step.Elements k kd outer) (put_record k (number_view a) now) scope w
-list_passes {pool} {m} {depth} {levels} {base} {p0} {frames} {scope} {now} {u} {w} k kd outer a begun type undeclared (first, spelled, moves) =
+    {pool : Types} {m depth levels : ℕ} {base : List Record} {p0 : Place} {parents : List Parent} {scope : Scope} {now : Part} {u w : Place} (k : ℕ) (kd : Kind) (outer : Option ℕ) (a : Number)
+    → After pool m depth levels base p0 parents (step.Elements k kd outer) now scope u → wire_type (number_view a) ≡ wire_type_of kd → is_undeclared pool (closed_enum kd) (number_view a) ≡ true
+    → Follows u (number_view a) w → After pool m depth levels base p0 parents (step.Elements k kd outer) (put_record k (number_view a) now) scope w
+list_passes {pool} {m} {depth} {levels} {base} {p0} {parents} {scope} {now} {u} {w} k kd outer a begun type undeclared (first, spelled, moves) =
     let list = at_list k kd outer begun in
     let can = (packs pool (message_part list.message_type list.before) k kd list.means).1 in
     let one = element_spelled (element_of kd) a first (type ∙ type_of_element kd can) spelled in
@@ -210,10 +210,10 @@ list_reading pool c t k kd is means =
 
 -- THE END OF THE LIST: the record is whole, and the reader is after it in the part
 pub list_over :
-    {pool : Types} {m depth levels : ℕ} {base : List Record} {p0 : Place} {frames : List Frame} {scope : Scope} {now : Part} {u : Place} (k : ℕ) (kd : Kind) (outer : Option ℕ) → IsPool pool → CanHold pool now
-    → After pool m depth levels base p0 frames (step.Elements k kd outer) now scope u → u.known ≡ Some 0
-    → Stands pool m depth levels base p0 frames now (one_more_in k (record scope { end = outer })) (up_to outer u)
-list_over {pool} {m} {depth} {levels} {base} {p0} {frames} {scope} {now} {u} k kd outer ok can begun over =
+    {pool : Types} {m depth levels : ℕ} {base : List Record} {p0 : Place} {parents : List Parent} {scope : Scope} {now : Part} {u : Place} (k : ℕ) (kd : Kind) (outer : Option ℕ) → IsPool pool → CanHold pool now
+    → After pool m depth levels base p0 parents (step.Elements k kd outer) now scope u → u.known ≡ Some 0
+    → Stands pool m depth levels base p0 parents now (one_more_in k (record scope { end = outer })) (up_to outer u)
+list_over {pool} {m} {depth} {levels} {base} {p0} {parents} {scope} {now} {u} k kd outer ok can begun over =
     let list = at_list k kd outer begun in
     let (f, found, e, is_kind, (p, is_shape), none, packable) = packed_field (field_numbered k (message_fields pool list.message_type)) k 2 kd list.means in
     let within : CanHold pool (message_part list.message_type (with_elements pool k kd list.front list.before)) = subst (CanHold pool) list.now_is can in
@@ -222,30 +222,30 @@ list_over {pool} {m} {depth} {levels} {base} {p0} {frames} {scope} {now} {u} k k
     let ended = list_ends list.message_type list.before list.stands (pool_differ pool list.message_type ok within.0) f there p is_shape (ap message_of_kind is_kind ∙ none) (fits_is f f.number (len list.front) refl e)
     (subst (λ (z : ℕ). HasTag list.place z 2 list.length_at) (sym own) list.has)
     (ap ((schema_of pool).reading (context_of list.stands.open_now)) own ∙ list_reading pool (context_of list.stands.open_now) list.message_type k kd list.stands.form list.means) list.length_is list.elements_are over in
-    subst (λ (z : Part). Stands pool m depth levels base p0 frames z (one_more_in k (record scope { end = outer })) (up_to outer u)) (sym list.now_is)
-    (subst (λ (z : Kind). Stands pool m depth levels base p0 frames (message_part list.message_type (with_elements pool k z list.front list.before)) (one_more_in k (record scope { end = outer })) (up_to outer u)) is_kind
-    (subst (λ (z : ℕ). Stands pool m depth levels base p0 frames (message_part list.message_type (with_elements pool z f.kind list.front list.before)) (one_more_in z (record scope { end = outer })) (up_to outer u)) own ended))
+    subst (λ (z : Part). Stands pool m depth levels base p0 parents z (one_more_in k (record scope { end = outer })) (up_to outer u)) (sym list.now_is)
+    (subst (λ (z : Kind). Stands pool m depth levels base p0 parents (message_part list.message_type (with_elements pool k z list.front list.before)) (one_more_in k (record scope { end = outer })) (up_to outer u)) is_kind
+    (subst (λ (z : ℕ). Stands pool m depth levels base p0 parents (message_part list.message_type (with_elements pool z f.kind list.front list.before)) (one_more_in z (record scope { end = outer })) (up_to outer u)) own ended))
 
 -- THE FAULT OF AN ELEMENT is the fault of the whole
-pub list_told :
-    {pool : Types} {m depth levels : ℕ} {base : List Record} {p0 : Place} {frames : List Frame} {scope : Scope} {now : Part} {u : Place} (k : ℕ) (kd : Kind) (outer : Option ℕ) (g : Fault)
-    → After pool m depth levels base p0 frames (step.Elements k kd outer) now scope u → u.known ≢ Some 0 → ElementFault (element_of kd) u g
-    → Bad (schema_of pool) (records (in_message m)) depth p0 (below (path_of frames) (inside (next_step k scope) g))
-list_told {pool} {m} {depth} {p0 = p0} k kd outer g begun open_end bad =
+pub list_reported :
+    {pool : Types} {m depth levels : ℕ} {base : List Record} {p0 : Place} {parents : List Parent} {scope : Scope} {now : Part} {u : Place} (k : ℕ) (kd : Kind) (outer : Option ℕ) (g : Fault)
+    → After pool m depth levels base p0 parents (step.Elements k kd outer) now scope u → u.known ≢ Some 0 → ElementFault (element_of kd) u g
+    → Bad (schema_of pool) (records (in_message m)) depth p0 (below (path_of parents) (inside (next_step k scope) g))
+list_reported {pool} {m} {depth} {p0 = p0} k kd outer g begun open_end bad =
     let list = at_list k kd outer begun in
-    element_told g list.stands list.has (list_reading pool (context_of list.stands.open_now) list.message_type k kd list.stands.form list.means) list.length_is list.elements_are open_end bad
+    element_reported g list.stands list.has (list_reading pool (context_of list.stands.open_now) list.message_type k kd list.stands.form list.means) list.length_is list.elements_are open_end bad
 
 -- where the part holds the element too, the reader is after it
 pub element_put :
-    {pool : Types} {m depth levels : ℕ} {base : List Record} {p0 : Place} {frames : List Frame} {scope : Scope} {now : Part} {u w : Place} (k : ℕ) (kd : Kind) (outer : Option ℕ) (a : Number) (x : Scalar) (put : Part)
-    → After pool m depth levels base p0 frames (step.Elements k kd outer) now scope u → wire_type (number_view a) ≡ wire_type_of kd → read kd (number_view a) ≡ Some x → is_undeclared pool (closed_enum kd) (number_view a) ≡ false
-    → Follows u (number_view a) w → put ≡ put_datum pool k (target.Element kd) now (scalar x) → After pool m depth levels base p0 frames (step.Elements k kd outer) put scope w
-element_put {pool} {m} {depth} {levels} {base} {p0} {frames} {scope} {now} {u} {w} k kd outer a x put begun type value declared follows made =
-    subst (λ (z : Part). After pool m depth levels base p0 frames (step.Elements k kd outer) z scope w) (sym made) (list_goes_on k kd outer a x begun type value declared follows)
+    {pool : Types} {m depth levels : ℕ} {base : List Record} {p0 : Place} {parents : List Parent} {scope : Scope} {now : Part} {u w : Place} (k : ℕ) (kd : Kind) (outer : Option ℕ) (a : Number) (x : Scalar) (put : Part)
+    → After pool m depth levels base p0 parents (step.Elements k kd outer) now scope u → wire_type (number_view a) ≡ wire_type_of kd → read kd (number_view a) ≡ Some x → is_undeclared pool (closed_enum kd) (number_view a) ≡ false
+    → Follows u (number_view a) w → put ≡ put_datum pool k (target.Element kd) now (scalar x) → After pool m depth levels base p0 parents (step.Elements k kd outer) put scope w
+element_put {pool} {m} {depth} {levels} {base} {p0} {parents} {scope} {now} {u} {w} k kd outer a x put begun type value declared follows made =
+    subst (λ (z : Part). After pool m depth levels base p0 parents (step.Elements k kd outer) z scope w) (sym made) (list_goes_on k kd outer a x begun type value declared follows)
 
 pub element_passed :
-    {pool : Types} {m depth levels : ℕ} {base : List Record} {p0 : Place} {frames : List Frame} {scope : Scope} {now : Part} {u w : Place} (k : ℕ) (kd : Kind) (outer : Option ℕ) (a : Number) (put : Part)
-    → After pool m depth levels base p0 frames (step.Elements k kd outer) now scope u → wire_type (number_view a) ≡ wire_type_of kd → is_undeclared pool (closed_enum kd) (number_view a) ≡ true
-    → Follows u (number_view a) w → put ≡ put_record k (number_view a) now → After pool m depth levels base p0 frames (step.Elements k kd outer) put scope w
-element_passed {pool} {m} {depth} {levels} {base} {p0} {frames} {scope} {now} {u} {w} k kd outer a put begun type undeclared follows made =
-    subst (λ (z : Part). After pool m depth levels base p0 frames (step.Elements k kd outer) z scope w) (sym made) (list_passes k kd outer a begun type undeclared follows)
+    {pool : Types} {m depth levels : ℕ} {base : List Record} {p0 : Place} {parents : List Parent} {scope : Scope} {now : Part} {u w : Place} (k : ℕ) (kd : Kind) (outer : Option ℕ) (a : Number) (put : Part)
+    → After pool m depth levels base p0 parents (step.Elements k kd outer) now scope u → wire_type (number_view a) ≡ wire_type_of kd → is_undeclared pool (closed_enum kd) (number_view a) ≡ true
+    → Follows u (number_view a) w → put ≡ put_record k (number_view a) now → After pool m depth levels base p0 parents (step.Elements k kd outer) put scope w
+element_passed {pool} {m} {depth} {levels} {base} {p0} {parents} {scope} {now} {u} {w} k kd outer a put begun type undeclared follows made =
+    subst (λ (z : Part). After pool m depth levels base p0 parents (step.Elements k kd outer) z scope w) (sym made) (list_passes k kd outer a begun type undeclared follows)

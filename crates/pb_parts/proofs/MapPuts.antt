@@ -21,7 +21,7 @@ use Rattle.pb_value.proofs.FieldExtent.{get_field-put_same, get_field-put_other,
 use Rattle.pb_value.proofs.ChangeLemmas.{RisesFrom-put_field}
 use Rattle.pb_value.proofs.ShapeSteps.{put_twice}
 use Rattle.pb_parts.specs.Close.Mapped.{pairs_view, put_pairs, FitInTurn, insert_in_turn, insert_pairs, put_mapped, put_all_mapped, FitsMapped, FitMapped}
-use Rattle.pb_parts.specs.Open.Frames.{Part, message_part, entry_part, group_part}
+use Rattle.pb_parts.specs.Open.Parents.{Part, message_part, entry_part, group_part}
 use Rattle.pb_parts.specs.Open.Targets.{part_context}
 use Rattle.pb_parts.proofs.MapLemmas.{at_once, by_way}
 

@@ -70,13 +70,13 @@ follows_on x at size used bytes rest is within (front, spelled, moves) = (front,
     whole : rest ++ drop size bytes ≡ bytes
     whole = ap (λ (z : List ℕ). z ++ drop size bytes) is ∙ take-append-drop size bytes
 
-    behind : drop used rest ++ drop size bytes ≡ drop used bytes
-    behind = sym (drop-append-le used rest (drop size bytes) within) ∙ ap (drop used) whole
+    after : drop used rest ++ drop size bytes ≡ drop used bytes
+    so_far = sym (drop-append-le used rest (drop size bytes) within) ∙ ap (drop used) whole
 
     given : bytes ≡ front ++ drop used bytes
     given =
         sym whole ∙ ap (λ (z : List ℕ). z ++ drop size bytes) moves.given ∙ append_assoc front (drop used rest) (drop size bytes)
-        ∙ ap (λ (z : List ℕ). front ++ z) behind
+        ∙ ap (λ (z : List ℕ). front ++ z) after
 
     short : length rest ≤ size
     short = let all = ap length is ∙ length-take size bytes in omega (arith, all)

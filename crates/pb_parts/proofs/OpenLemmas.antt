@@ -32,14 +32,14 @@ use Rattle.pb_value.proofs.MessageSteps.{earlier, message_within, message_before
 use Rattle.pb_parts.specs.declared.open.part.Slot.TheVariants as slot
 use Rattle.pb_parts.specs.Open.Opened.{Begun}
 use Rattle.pb_parts.specs.Open.Opened as opened
-use Rattle.pb_parts.specs.Open.Frames.{message_part, entry_part, group_part, opening_type, open_type, Frame, EndsAt, Completes, Held, inside, Stands, Scope}
+use Rattle.pb_parts.specs.Open.Parents.{message_part, entry_part, group_part, opening_type, open_type, Parent, EndsAt, Completes, Held, inside, Stands, Scope}
 use Rattle.pb_schema.specs.Kinds.{message_of_kind}
 use Rattle.pb_value.proofs.KnownLemmas.{IsKnown}
 use Rattle.pb_parts.proofs.KindLemmas.{message_open, open_known}
 use Rattle.pb_parts.proofs.StepCounts.{counts_of_none}
 use Rattle.pb_parts.proofs.WellLemmas.{type_in_pool, message_good, held_good}
-use Rattle.pb_parts.proofs.OpenedLemmas.{behind_nothing}
-use Rattle.pb_parts.proofs.FrameLemmas.{held_as_well}
+use Rattle.pb_parts.proofs.OpenedLemmas.{so_far_nothing}
+use Rattle.pb_parts.proofs.ParentLemmas.{held_as_well}
 
 -- PUTTING A MESSAGE BACK
 
@@ -142,12 +142,12 @@ group_opens pool {a = a} {k = k} inner context tag level ends none = record {
 
 -- THE MESSAGE OF A FIELD OF ONE VALUE IS OPENED: what the field held is taken out, and goes on
 pub opens_message :
-    {pool : Types} {m depth levels : ℕ} {base : List Record} {p0 : Place} {frames : List Frame} {scope : Scope} {q : Place} (k : ℕ) (v : Message) (s : Stands pool m depth levels base p0 frames (message_part k v) scope q)
+    {pool : Types} {m depth levels : ℕ} {base : List Record} {p0 : Place} {parents : List Parent} {scope : Scope} {q : Place} (k : ℕ) (v : Message) (s : Stands pool m depth levels base p0 parents (message_part k v) scope q)
     → IsPool pool → (f : FieldView) (j : MessageId) (group : Bool) → field_numbered f.number (message_fields pool k) ≡ Some f → message_of_kind f.kind ≡ Some j.0 → IsSingle f.shape → fits_type f (opening_type group) ≡ true
     → (inner : Scope) (u : Place) → Opens pool s.open_now scope.depth_left f.number q j.0 group inner u
-    → Stands pool m depth levels base p0 (record { part = message_part k (with_fields v (drop_field f.number (fields_of v))); number = f.number; slot = slot.One f.shape f.number; group = group; scope = scope } ∷ frames)
+    → Stands pool m depth levels base p0 (record { part = message_part k (with_fields v (drop_field f.number (fields_of v))); number = f.number; slot = slot.One f.shape f.number; group = group; scope = scope } ∷ parents)
     (message_part j.0 (held_message (get_field f.number (fields_of v)))) inner u
-opens_message {pool} {m} {depth} {levels} {base} {p0} {frames} {scope} {q} k v s ok f j group found is single fitted inner u opens = by_level s.inner s.deep s.held s.worth (message_good ok k v s)
+opens_message {pool} {m} {depth} {levels} {base} {p0} {parents} {scope} {q} k v s ok f j group found is single fitted inner u opens = by_level s.inner s.deep s.held s.worth (message_good ok k v s)
   where
     all : List FieldView
     all = message_fields pool k
@@ -161,15 +161,15 @@ opens_message {pool} {m} {depth} {levels} {base} {p0} {frames} {scope} {q} k v s
     taken : Message
     taken = with_fields v (drop_field f.number (fields_of v))
 
-    frame : Frame
-    frame = record { part = message_part k taken; number = f.number; slot = slot.One f.shape f.number; group = group; scope = scope }
+    parent : Parent
+    parent = record { part = message_part k taken; number = f.number; slot = slot.One f.shape f.number; group = group; scope = scope }
 
     level : scope.depth_left ≡ suc inner.depth_left
     level = opens.level
 
-    by_level : (inside_levels : ℕ) → scope.depth_left < inside_levels → Held pool m depth levels base p0 frames (message_part k v) s.open_now scope.depth_left inside_levels s.path s.begin s.earlier → v ≡ value_within pool inside_levels k (s.earlier ++ s.records_so_far)
+    by_level : (inside_levels : ℕ) → scope.depth_left < inside_levels → Held pool m depth levels base p0 parents (message_part k v) s.open_now scope.depth_left inside_levels s.path s.begin s.earlier → v ≡ value_within pool inside_levels k (s.earlier ++ s.records_so_far)
         → IsBody pool k v × (message_depth v < inside_levels)
-        → Stands pool m depth levels base p0 (frame ∷ frames) (message_part j.0 (held_message (get_field f.number (fields_of v)))) inner u
+        → Stands pool m depth levels base p0 (parent ∷ parents) (message_part j.0 (held_message (get_field f.number (fields_of v)))) inner u
     by_level zero h held w good = absurd (omega (arith, h))
     by_level (suc i) h held w good = record {
       open_now = opens.what;
@@ -179,12 +179,12 @@ opens_message {pool} {m} {depth} {levels} {base} {p0} {frames} {scope} {q} k v s
       earlier = before;
       records_so_far = [];
       held =
-          inside (held_as_well (message_part k taken) refl held) s.behind opens.begun s.form can h completes refl s.counted s.ends
+          inside (held_as_well (message_part k taken) refl held) s.so_far opens.begun s.form can h completes refl s.counted s.ends
           (let good_inside = held_good pool k i v f j found is (omega (arith, h, level)) good.0 good.1 in
           subst (λ (z : Message). (j.0 < length pool.messages) × IsBody pool j.0 z × (message_depth z < i)) goes_on (message_in_pool pool k f j ok found is, good_inside.0, good_inside.1)) (tt, opens.typed);
       form = opens.of_type;
       deep = omega (arith, h, level);
-      behind = behind_nothing u;
+      so_far = so_far_nothing u;
       counted = counts_of_none inner.counts opens.none;
       ends = opens.ends;
       bytes = s.bytes;
@@ -225,7 +225,7 @@ opens_message {pool} {m} {depth} {levels} {base} {p0} {frames} {scope} {q} k v s
             ap (λ (y : Message). held_message (get_field f.number (fields_of y))) w
             ∙ message_before pool i k differ rs the_record f found the_fit the_known.whole the_known.counting j.0 is single
 
-        completes : Completes pool (suc i) i frame rs (message_part j.0 (held_message (get_field f.number (fields_of v)))) before
+        completes : Completes pool (suc i) i parent rs (message_part j.0 (held_message (get_field f.number (fields_of v)))) before
         completes p (message_part l x) type form worth =
             let e : fits f (record { number = f.number; payload = p }) ≡ true = fits_by_type f p (opening_type group) type fitted in
             let counting = open_known pool all f p found (message_open f.shape f.kind j.0 is) e in

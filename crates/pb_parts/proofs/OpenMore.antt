@@ -28,11 +28,11 @@ use Rattle.pb_value.proofs.MessageSteps.{message_listed, message_entry, value_of
 use Rattle.pb_parts.specs.declared.open.part.Slot.TheVariants as slot
 use Rattle.pb_parts.specs.Open.Opened.{Begun}
 use Rattle.pb_parts.specs.Open.Opened as opened
-use Rattle.pb_parts.specs.Open.Frames.{message_part, entry_part, group_part, opening_type, Frame, Completes, Held, inside, Stands, Scope}
+use Rattle.pb_parts.specs.Open.Parents.{message_part, entry_part, group_part, opening_type, Parent, Completes, Held, inside, Stands, Scope}
 use Rattle.pb_parts.proofs.KindLemmas.{message_open, map_open, open_known}
 use Rattle.pb_parts.proofs.StepCounts.{counts_of_none}
 use Rattle.pb_parts.proofs.WellLemmas.{type_in_pool, message_good, keys_good}
-use Rattle.pb_parts.proofs.OpenedLemmas.{behind_nothing}
+use Rattle.pb_parts.proofs.OpenedLemmas.{so_far_nothing}
 use Rattle.pb_parts.proofs.OpenLemmas.{fits_by_type, message_in_pool, payload_scope, Opens}
 use Rattle.std.specs.Ordering.{match_ordering}
 use Rattle.pb_parts.proofs.RunLemmas.{same_message}
@@ -47,7 +47,7 @@ one_missing a b (kind.Message j) = refl
 one_missing a b (kind.Group j) = refl
 one_missing a b k = refl
 
-module _ {pool : Types} {m depth levels : ℕ} {base : List Record} {p0 : Place} {frames : List Frame} {scope : Scope} {q : Place} (k : ℕ) (v : Message) (s : Stands pool m depth levels base p0 frames (message_part k v) scope q) (ok : IsPool pool) where
+module _ {pool : Types} {m depth levels : ℕ} {base : List Record} {p0 : Place} {parents : List Parent} {scope : Scope} {q : Place} (k : ℕ) (v : Message) (s : Stands pool m depth levels base p0 parents (message_part k v) scope q) (ok : IsPool pool) where
   in_pool : k < length pool.messages
   in_pool = type_in_pool k v s
 
@@ -58,17 +58,17 @@ module _ {pool : Types} {m depth levels : ℕ} {base : List Record} {p0 : Place}
   pub opens_listed :
       (f : FieldView) (j : MessageId) (p : Bool) (group : Bool) → field_numbered f.number (message_fields pool k) ≡ Some f → message_of_kind f.kind ≡ Some j.0 → f.shape ≡ shape.List p → fits_type f (opening_type group) ≡ true
       → (inner : Scope) (u : Place) → Opens pool s.open_now scope.depth_left f.number q j.0 group inner u
-      → Stands pool m depth levels base p0 (record { part = message_part k v; number = f.number; slot = slot.List f.number; group = group; scope = scope } ∷ frames) (message_part j.0 empty) inner u
+      → Stands pool m depth levels base p0 (record { part = message_part k v; number = f.number; slot = slot.List f.number; group = group; scope = scope } ∷ parents) (message_part j.0 empty) inner u
   opens_listed f j p group found is at fitted inner u opens = by_level s.inner s.deep s.held s.worth
     where
-      frame : Frame
-      frame = record { part = message_part k v; number = f.number; slot = slot.List f.number; group = group; scope = scope }
+      parent : Parent
+      parent = record { part = message_part k v; number = f.number; slot = slot.List f.number; group = group; scope = scope }
 
       level : scope.depth_left ≡ suc inner.depth_left
       level = opens.level
 
-      by_level : (inside_levels : ℕ) → scope.depth_left < inside_levels → Held pool m depth levels base p0 frames (message_part k v) s.open_now scope.depth_left inside_levels s.path s.begin s.earlier → v ≡ value_within pool inside_levels k (s.earlier ++ s.records_so_far)
-          → Stands pool m depth levels base p0 (frame ∷ frames) (message_part j.0 empty) inner u
+      by_level : (inside_levels : ℕ) → scope.depth_left < inside_levels → Held pool m depth levels base p0 parents (message_part k v) s.open_now scope.depth_left inside_levels s.path s.begin s.earlier → v ≡ value_within pool inside_levels k (s.earlier ++ s.records_so_far)
+          → Stands pool m depth levels base p0 (parent ∷ parents) (message_part j.0 empty) inner u
       by_level zero h held w = absurd (omega (arith, h))
       by_level (suc i) h held w = record {
         open_now = opens.what;
@@ -77,10 +77,10 @@ module _ {pool : Types} {m depth levels : ℕ} {base : List Record} {p0 : Place}
         begin = u;
         earlier = [];
         records_so_far = [];
-        held = inside held s.behind opens.begun s.form can h completes refl s.counted s.ends (subst (λ (z : Message). (j.0 < length pool.messages) × IsBody pool j.0 z × (message_depth z < i)) (sym (value_of_nothing pool i j.0)) (message_in_pool pool k f j ok found is, (tt, tt, tt, tt), omega (arith, h, level))) (tt, opens.typed);
+        held = inside held s.so_far opens.begun s.form can h completes refl s.counted s.ends (subst (λ (z : Message). (j.0 < length pool.messages) × IsBody pool j.0 z × (message_depth z < i)) (sym (value_of_nothing pool i j.0)) (message_in_pool pool k f j ok found is, (tt, tt, tt, tt), omega (arith, h, level))) (tt, opens.typed);
         form = opens.of_type;
         deep = omega (arith, h, level);
-        behind = behind_nothing u;
+        so_far = so_far_nothing u;
         counted = counts_of_none inner.counts opens.none;
         ends = opens.ends;
         bytes = s.bytes;
@@ -93,7 +93,7 @@ module _ {pool : Types} {m depth levels : ℕ} {base : List Record} {p0 : Place}
           can : (k < length pool.messages) × HasOneMemberEach (message_fields pool k) (fields_of v)
           can = (in_pool, subst (λ (y : Message). HasOneMemberEach (message_fields pool k) (fields_of y)) (sym w) (value_members pool i k rs differ))
 
-          completes : Completes pool (suc i) i frame rs (message_part j.0 empty) []
+          completes : Completes pool (suc i) i parent rs (message_part j.0 empty) []
           completes pl (message_part o x) type form worth =
               let made : x ≡ value_within pool i j.0 (records_inside pl) = worth ∙ ap (λ (z : ℕ). value_within pool i z (records_inside pl)) (sym form) in
               ap (λ (y : Message). with_fields y (push_at f.number (message x) (fields_of y))) w
@@ -109,17 +109,17 @@ module _ {pool : Types} {m depth levels : ℕ} {base : List Record} {p0 : Place}
       (r t : Place) (below n : ℕ) (counts : ℕ → ℕ) → scope.depth_left ≡ suc below → ((i : ℕ) → counts i ≡ 0)
       → (f : FieldView) (key : Kind) → field_numbered f.number (message_fields pool k) ≡ Some f → f.shape ≡ shape.Map key → fits_type f 2 ≡ true
       → (schema_of pool).reading (in_message k) f.number ≡ message_reading (an_entry key f.kind) → HasTag q f.number 2 r → HasLength r n t
-      → Stands pool m depth levels base p0 (record { part = message_part k v; number = f.number; slot = slot.Map f.number; group = false; scope = scope } ∷ frames) (entry_part key f.kind None None) (payload_scope below t n counts) (payload_at t n)
+      → Stands pool m depth levels base p0 (record { part = message_part k v; number = f.number; slot = slot.Map f.number; group = false; scope = scope } ∷ parents) (entry_part key f.kind None None) (payload_scope below t n counts) (payload_at t n)
   opens_entry r t below n counts depth_left none f key found at two reading tag l = by_level s.inner s.deep s.held s.worth (message_good ok k v s)
     where
-      frame : Frame
-      frame = record { part = message_part k v; number = f.number; slot = slot.Map f.number; group = false; scope = scope }
+      parent : Parent
+      parent = record { part = message_part k v; number = f.number; slot = slot.Map f.number; group = false; scope = scope }
 
       begun : Begun (schema_of pool) s.open_now scope.depth_left f.number q (records (an_entry key f.kind)) below (payload_at t n)
       begun = opened.a_message depth_left tag (subst (λ (c : Context). (schema_of pool).reading c f.number ≡ message_reading (an_entry key f.kind)) (sym s.form) reading) l refl refl
 
-      by_level : (inner : ℕ) → scope.depth_left < inner → Held pool m depth levels base p0 frames (message_part k v) s.open_now scope.depth_left inner s.path s.begin s.earlier → v ≡ value_within pool inner k (s.earlier ++ s.records_so_far)
-          → IsBody pool k v × (message_depth v < inner) → Stands pool m depth levels base p0 (frame ∷ frames) (entry_part key f.kind None None) (payload_scope below t n counts) (payload_at t n)
+      by_level : (inner : ℕ) → scope.depth_left < inner → Held pool m depth levels base p0 parents (message_part k v) s.open_now scope.depth_left inner s.path s.begin s.earlier → v ≡ value_within pool inner k (s.earlier ++ s.records_so_far)
+          → IsBody pool k v × (message_depth v < inner) → Stands pool m depth levels base p0 (parent ∷ parents) (entry_part key f.kind None None) (payload_scope below t n counts) (payload_at t n)
       by_level zero h held w good = absurd (omega (arith, h))
       by_level (suc i) h held w good = record {
         open_now = records (an_entry key f.kind);
@@ -128,10 +128,10 @@ module _ {pool : Types} {m depth levels : ℕ} {base : List Record} {p0 : Place}
         begin = payload_at t n;
         earlier = [];
         records_so_far = [];
-        held = inside held s.behind begun s.form can h completes refl s.counted s.ends (let rules = found_field pool k (λ g. g.number == f.number) f ok found in (refl, subst HasKeyKind at rules.key, rules.kind, subst (λ (z : Shape). MayBeValue z f.kind) at rules.value)) (keys_good pool k i v f key found at good.0 good.1, refl);
+        held = inside held s.so_far begun s.form can h completes refl s.counted s.ends (let rules = found_field pool k (λ g. g.number == f.number) f ok found in (refl, subst HasKeyKind at rules.key, rules.kind, subst (λ (z : Shape). MayBeValue z f.kind) at rules.value)) (keys_good pool k i v f key found at good.0 good.1, refl);
         form = refl;
         deep = omega (arith, h, depth_left);
-        behind = behind_nothing (payload_at t n);
+        so_far = so_far_nothing (payload_at t n);
         counted = counts_of_none counts none;
         ends = (n, refl, refl);
         bytes = s.bytes;
@@ -147,7 +147,7 @@ module _ {pool : Types} {m depth levels : ℕ} {base : List Record} {p0 : Place}
           put : Message → Scalar → Datum → Message
           put y a b = with_fields y (insert_at f.number a b (fields_of y))
 
-          completes : Completes pool (suc i) i frame rs (entry_part key f.kind None None) []
+          completes : Completes pool (suc i) i parent rs (entry_part key f.kind None None) []
           completes pl (entry_part key2 kind2 x d) type form worth =
               let first : unwrap_or x (default_of key2) ≡ (entry_of (value_within pool i) key f.kind (record { number = f.number; payload = pl })).0 =
               ap (λ (z : Option Scalar). unwrap_or z (default_of key2)) worth.0

@@ -17,7 +17,7 @@ use Rattle.pb_wire.proofs.Tokens.{ends_some}
 use Rattle.pb_wire.proofs.ReadingLemmas.{moves_both, AreRecords-push, AllSound-push, SpellsGroup-from_records}
 use Rattle.pb_wire.specs.declared.fault.Cause.TheVariants.{Truncated}
 use Rattle.std.proofs.lemmas.List.Elements.{All-nil}
-use Rattle.pb_parts.specs.Open.Opened.{Behind, Begun, a_message, a_value, a_group, Opened, at_top, inner, below, outside}
+use Rattle.pb_parts.specs.Open.Opened.{SoFar, Begun, a_message, a_value, a_group, Opened, at_top, inner, below, outside}
 
 -- WHERE THERE IS A TAG A RECORD BEGINS
 
@@ -31,8 +31,8 @@ begins_at_tag (in_group k c) t = λ e. no_tag_at_end e t
 -- A FAULT INSIDE
 
 -- after whole records, a record that has a fault gives it to the open part
-pub bad_behind : {S : Schema} {o : Open S.Context} {depth_left : ℕ} {p q : Place} {rs : List Record} {f : Fault} → Behind S o depth_left p rs q → Begins o q → RecordFault S o rs depth_left q f → Bad S o depth_left p f
-bad_behind {rs = rs} h goes bad = Bad.at_record (rs, h.spelled, h.sound) h.moves goes bad
+pub bad_after : {S : Schema} {o : Open S.Context} {depth_left : ℕ} {p q : Place} {rs : List Record} {f : Fault} → SoFar S o depth_left p rs q → Begins o q → RecordFault S o rs depth_left q f → Bad S o depth_left p f
+bad_after {rs = rs} h goes bad = Bad.at_record (rs, h.spelled, h.sound) h.moves goes bad
 
 one_step : (steps : List PathStep) (s : PathStep) (f : Fault) → below steps (inside s f) ≡ below (steps ++ s ∷ []) f
 one_step steps s f = ap (λ (z : List PathStep). record f { path = z }) (sym (append_assoc steps (s ∷ []) f.path))
@@ -65,12 +65,12 @@ lift {S} {top} {depth} {p0} f (at_top {o = o} {depth_left = depth_left} {path = 
     (subst (λ (z : ℕ). Bad S top z p f) b (subst (λ (z : Open S.Context). Bad S z depth_left p f) a bad)))
 lift {S} {top} {depth} {p0} f (inner {k = k} {path = path} {steps = steps} {rs = rs} up h begun is_path) bad =
     subst (Bad S top depth p0) (one_step steps (step k rs) f ∙ ap (λ (z : List PathStep). below z f) (sym is_path))
-    (lift (inside (step k rs) f) up (bad_behind h (begun_begins begun) (bad_begun rs begun bad)))
+    (lift (inside (step k rs) f) up (bad_after h (begun_begins begun) (bad_begun rs begun bad)))
 
 -- MORE BYTES
 
-pub behind_longer : {S : Schema} {o : Open S.Context} {depth_left : ℕ} {p q : Place} {rs : List Record} (more : List ℕ) → Behind S o depth_left p rs q → Behind S o depth_left (longer p more) rs (longer q more)
-behind_longer more h = record { front = h.front; spelled = h.spelled; sound = h.sound; moves = moves_longer h.front more h.moves }
+pub so_far_longer : {S : Schema} {o : Open S.Context} {depth_left : ℕ} {p q : Place} {rs : List Record} (more : List ℕ) → SoFar S o depth_left p rs q → SoFar S o depth_left (longer p more) rs (longer q more)
+so_far_longer more h = record { front = h.front; spelled = h.spelled; sound = h.sound; moves = moves_longer h.front more h.moves }
 
 pub begun_longer :
     {S : Schema} {a o : Open S.Context} {depth_left below k : ℕ} {q u : Place} (more : List ℕ) → Begun S a depth_left k q o below u → Begun S a depth_left k (longer q more) o below (longer u more)
@@ -80,8 +80,8 @@ begun_longer more (a_group levels tag is_open is_place) = a_group levels (tag_lo
 
 -- ONE MORE RECORD
 
-pub behind_nothing : {S : Schema} {o : Open S.Context} {depth_left : ℕ} (p : Place) → Behind S o depth_left p [] p
-behind_nothing p = record { front = []; spelled = refl; sound = AllSound.none; moves = moves_nothing p }
+pub so_far_nothing : {S : Schema} {o : Open S.Context} {depth_left : ℕ} (p : Place) → SoFar S o depth_left p [] p
+so_far_nothing p = record { front = []; spelled = refl; sound = AllSound.none; moves = moves_nothing p }
 
 -- this sound record leads from p to q
 pub record RecordTo (S : Schema) (c : S.Context) (depth_left : ℕ) (p : Place) (r : Record) (q : Place) : Type 0 where
@@ -90,10 +90,10 @@ pub record RecordTo (S : Schema) (c : S.Context) (depth_left : ℕ) (p : Place) 
   pub sound : Sound S c depth_left r.number r.payload
   pub moves : Moves p first q
 
-pub behind_more :
-    {S : Schema} {o : Open S.Context} {depth_left : ℕ} {p q u : Place} {rs : List Record} {r : Record} → Behind S o depth_left p rs q → RecordTo S (context_of o) depth_left q r u
-    → Behind S o depth_left p (rs ++ r ∷ []) u
-behind_more {rs = rs} {r = r} b h = record {
+pub so_far_more :
+    {S : Schema} {o : Open S.Context} {depth_left : ℕ} {p q u : Place} {rs : List Record} {r : Record} → SoFar S o depth_left p rs q → RecordTo S (context_of o) depth_left q r u
+    → SoFar S o depth_left p (rs ++ r ∷ []) u
+so_far_more {rs = rs} {r = r} b h = record {
   front = b.front ++ h.first;
   spelled = AreRecords-push rs r b.front h.first b.spelled h.spelled;
   sound = AllSound-push rs r b.sound h.sound;
@@ -137,7 +137,7 @@ len_record c depth_left k n s tag l size m sound =
 -- a message or an entry that ends is one more record of its parent
 pub message_ends :
     {S : Schema} (c : S.Context) (depth_left k n : ℕ) {d : S.Context} {q r t u : Place} {ss : List Record}
-    → HasTag q k 2 r → S.reading c k ≡ message d → HasLength r n t → (h : Behind S (records d) depth_left (payload_at t n) ss u) → u.known ≡ Some 0
+    → HasTag q k 2 r → S.reading c k ≡ message d → HasLength r n t → (h : SoFar S (records d) depth_left (payload_at t n) ss u) → u.known ≡ Some 0
     → RecordTo S c (suc depth_left) q (record { number = k; payload = len h.front }) (outside t n u)
 message_ends c depth_left k n {ss = ss} tag re l h end =
     let parts = payload_bytes h.front l h.moves end in
@@ -145,7 +145,7 @@ message_ends c depth_left k n {ss = ss} tag re l h end =
 
 pub value_ends :
     {S : Schema} (c : S.Context) (depth_left k n : ℕ) {d : S.Context} {q r t u : Place} {ss : List Record}
-    → HasTag q k 2 r → S.reading c k ≡ same_level d → HasLength r n t → (h : Behind S (records d) depth_left (payload_at t n) ss u) → u.known ≡ Some 0
+    → HasTag q k 2 r → S.reading c k ≡ same_level d → HasLength r n t → (h : SoFar S (records d) depth_left (payload_at t n) ss u) → u.known ≡ Some 0
     → RecordTo S c depth_left q (record { number = k; payload = len h.front }) (outside t n u)
 value_ends c depth_left k n {ss = ss} tag re l h end =
     let parts = payload_bytes h.front l h.moves end in
@@ -154,17 +154,17 @@ value_ends c depth_left k n {ss = ss} tag re l h end =
 -- a group that ends
 pub group_ends :
     {S : Schema} (c : S.Context) (depth_left k : ℕ) {q r u v : Place} {ss : List Record}
-    → HasTag q k 3 r → Behind S (in_group k (S.group_context c k)) depth_left r ss u → HasTag u k 4 v → RecordTo S c (suc depth_left) q (record { number = k; payload = group (group_of ss) }) v
+    → HasTag q k 3 r → SoFar S (in_group k (S.group_context c k)) depth_left r ss u → HasTag u k 4 v → RecordTo S c (suc depth_left) q (record { number = k; payload = group (group_of ss) }) v
 group_ends c depth_left k {ss = ss} tag h end =
     record_to c (suc depth_left) k 3 (group (group_of ss)) (h.front ++ end.tag.0) tag refl (h.front, end.tag.0, SpellsGroup-from_records ss h.front h.spelled, end.tag.1, refl)
     (Sound.a_group refl h.sound) (moves_both h.front end.tag.0 h.moves end.tag.2)
 
 -- what was begun ends at its known end, and is one more record of its parent
 pub begun_ends :
-    {S : Schema} (a o : Open S.Context) (depth_left below k : ℕ) {q u v : Place} {ss : List Record} → Begun S a depth_left k q o below u → (e : o ≡ records (context_of o)) → (h : Behind S o below u ss v) → v.known ≡ Some 0
+    {S : Schema} (a o : Open S.Context) (depth_left below k : ℕ) {q u v : Place} {ss : List Record} → Begun S a depth_left k q o below u → (e : o ≡ records (context_of o)) → (h : SoFar S o below u ss v) → v.known ≡ Some 0
     → (t : Place) × (n : ℕ) × RecordTo S (context_of a) depth_left q (record { number = k; payload = len h.front }) (outside t n v)
 begun_ends {S} a o depth_left below k {q} {u} {v} {ss} (a_message {n = n} {d = d} {t = t} levels tag re l is_open is_place) e h end =
-    let there : Behind S (records d) below (payload_at t n) ss v = record {
+    let there : SoFar S (records d) below (payload_at t n) ss v = record {
       front = h.front;
       spelled = h.spelled;
       sound = subst (λ (z : Open S.Context). AllSound S (context_of z) below ss) is_open h.sound;
@@ -172,7 +172,7 @@ begun_ends {S} a o depth_left below k {q} {u} {v} {ss} (a_message {n = n} {d = d
     } in
     (t, n, subst (λ (z : ℕ). RecordTo S (context_of a) z q (record { number = k; payload = len h.front }) (outside t n v)) (sym levels) (message_ends (context_of a) below k n tag re l there end))
 begun_ends {S} a o depth_left below k {q} {u} {v} {ss} (a_value {n = n} {d = d} {t = t} levels tag re l is_open is_place) e h end =
-    let there : Behind S (records d) depth_left (payload_at t n) ss v = record {
+    let there : SoFar S (records d) depth_left (payload_at t n) ss v = record {
       front = h.front;
       spelled = h.spelled;
       sound = subst (λ (z : ℕ). AllSound S d z ss) (sym levels) (subst (λ (z : Open S.Context). AllSound S (context_of z) below ss) is_open h.sound);
@@ -182,7 +182,7 @@ begun_ends {S} a o depth_left below k {q} {u} {v} {ss} (a_value {n = n} {d = d} 
 begun_ends {S} a o depth_left below k (a_group levels tag is_open is_place) e h end = absurd (cc)
 
 pub begun_short :
-    {S : Schema} {a o : Open S.Context} {depth_left below k : ℕ} {q u v : Place} {ss : List Record} → Begun S a depth_left k q o below u → o ≡ records (context_of o) → (h : Behind S o below u ss v) → length h.front < 2 ^ 64
+    {S : Schema} {a o : Open S.Context} {depth_left below k : ℕ} {q u v : Place} {ss : List Record} → Begun S a depth_left k q o below u → o ≡ records (context_of o) → (h : SoFar S o below u ss v) → length h.front < 2 ^ 64
 begun_short {v = v} (a_message {n = n} {t = t} levels tag re l is_open is_place) e h =
     let m = subst (λ (z : Place). Moves z h.front v) is_place h.moves in let w = m.within in let s = l.small in omega (arith, w, s)
 begun_short {v = v} (a_value {n = n} {t = t} levels tag re l is_open is_place) e h =

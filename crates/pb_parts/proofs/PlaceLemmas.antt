@@ -28,5 +28,5 @@ passed_twice p a b =
     ∙ ap (λ (z : List ℕ). record { at = p.at + (a + b); known = option_map (λ (e : ℕ). e - (a + b)) p.known; rest = z }) (drop-drop b a p.rest)
 
 -- the bytes after this many of those at a place
-pub place_behind : (at : ℕ) (left behind : Option ℕ) (rest : List ℕ) (used : ℕ) → behind ≡ option_map (λ (e : ℕ). e - used) left → passed (given_at at left rest) used ≡ given_at (at + used) behind (take (length rest - used) (drop used rest))
-place_behind at left behind rest used is = ap (λ (z : Option ℕ). given_at (at + used) z (drop used rest)) (sym is) ∙ ap (given_at (at + used) behind) (sym (slice_from used rest))
+pub place_after : (at : ℕ) (left after : Option ℕ) (rest : List ℕ) (used : ℕ) → after ≡ option_map (λ (e : ℕ). e - used) left → passed (given_at at left rest) used ≡ given_at (at + used) after (take (length rest - used) (drop used rest))
+place_after at left after rest used is = ap (λ (z : Option ℕ). given_at (at + used) z (drop used rest)) (sym is) ∙ ap (given_at (at + used) after) (sym (slice_from used rest))

@@ -23,7 +23,7 @@ use Rattle.pb_value.proofs.FieldViews.{get_field-some}
 use Rattle.pb_value.proofs.ShapeSteps.{put_twice}
 use Rattle.pb_value.proofs.Views.{body_view-out}
 use Rattle.pb_parts.specs.declared.open.target.Target.TheVariants as target
-use Rattle.pb_parts.specs.Open.Frames.{Part, message_part, entry_part, group_part}
+use Rattle.pb_parts.specs.Open.Parents.{Part, message_part, entry_part, group_part}
 use Rattle.pb_parts.specs.declared.values.run.Run.{Run}
 use Rattle.pb_parts.specs.Values.Put.{put_datum, put_record}
 use Rattle.pb_parts.specs.Values.Run.{put_listed, put_each, put_records, put_run}
@@ -114,14 +114,14 @@ records_next rs n x (entry_part key kd x2 e) = refl
 records_next rs n x (group_part us) = ap group_part (sym (append_assoc us rs (record { number = n; payload = x } ∷ [])))
 
 -- a value and a record change different parts of a message
-listed_behind : (n k : ℕ) (x : Payload) (d : Datum) (p : Part) → put_listed n d (put_record k x p) ≡ put_record k x (put_listed n d p)
-listed_behind n k x d (message_part m (body fs us)) = refl
-listed_behind n k x d (entry_part key kd x2 e) = refl
-listed_behind n k x d (group_part us) = refl
+listed_after : (n k : ℕ) (x : Payload) (d : Datum) (p : Part) → put_listed n d (put_record k x p) ≡ put_record k x (put_listed n d p)
+listed_after n k x d (message_part m (body fs us)) = refl
+listed_after n k x d (entry_part key kd x2 e) = refl
+listed_after n k x d (group_part us) = refl
 
-each_behind : (n k : ℕ) (x : Payload) (ds : List Datum) (p : Part) → put_each n ds (put_record k x p) ≡ put_record k x (put_each n ds p)
-each_behind n k x [] p = refl
-each_behind n k x (d ∷ ds) p = ap (put_each n ds) (listed_behind n k x d p) ∙ each_behind n k x ds (put_listed n d p)
+each_after : (n k : ℕ) (x : Payload) (ds : List Datum) (p : Part) → put_each n ds (put_record k x p) ≡ put_record k x (put_each n ds p)
+each_after n k x [] p = refl
+each_after n k x (d ∷ ds) p = ap (put_each n ds) (listed_after n k x d p) ∙ each_after n k x ds (put_listed n d p)
 
 -- a run without elements
 pub run_begins : (n : ℕ) (run : Run) (p : Part) → run.values.items ≡ [] → run.undeclared.items ≡ [] → put_run n run p ≡ p
@@ -139,7 +139,7 @@ pub record_added :
     → put_each n ds (put_records (records_of new) p) ≡ put_record n (payload_of u) (put_each n ds (put_records (records_of old) p))
 record_added n ds old new u p is =
     ap (λ (z : List (ℕ × Unknown)). put_each n ds (put_records (records_of z) p)) is ∙ ap (λ (z : List Record). put_each n ds (put_records z p)) (records_of-push old (n, u))
-    ∙ ap (put_each n ds) (records_next (records_of old) n (payload_of u) p) ∙ each_behind n n (payload_of u) ds (put_records (records_of old) p)
+    ∙ ap (put_each n ds) (records_next (records_of old) n (payload_of u) p) ∙ each_after n n (payload_of u) ds (put_records (records_of old) p)
 
 -- where there are no records, others are them
 pub only_others : (rs us : List (ℕ × Unknown)) → length rs ≡ 0 → us ≡ rs ++ us

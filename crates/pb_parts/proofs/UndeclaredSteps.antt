@@ -27,7 +27,7 @@ use Rattle.pb_parts.specs.Tokens.Number.{number_view}
 use Rattle.pb_parts.specs.Tokens.Numbers.{Follows}
 use Rattle.pb_parts.specs.Values.Put.{scalar_kind, put_record}
 use Rattle.pb_parts.specs.Open.Targets.{Means, part_context}
-use Rattle.pb_parts.specs.Open.Frames.{Part, message_part, entry_part, group_part, CanHold, Frame, Stands, Scope, one_more_in}
+use Rattle.pb_parts.specs.Open.Parents.{Part, message_part, entry_part, group_part, CanHold, Parent, Stands, Scope, one_more_in}
 use Rattle.pb_parts.specs.Tokens.After.{tag, awaited, After}
 use Rattle.pb_parts.proofs.OpenedLemmas.{RecordTo}
 use Rattle.pb_parts.proofs.StepsOfParts.{unknown_stands}
@@ -61,10 +61,10 @@ never_counts false = refl
 own_type : (p : Payload) (f : FieldView) (k2 kd : Kind) → f.kind ≡ k2 → k2 ≡ kd → wire_type p ≡ wire_type_of kd → (wire_type p == wire_type_of f.kind) ≡ true
 own_type p f k2 kd is same type = ap (λ (z : Kind). wire_type p == wire_type_of z) (is ∙ same) ∙ ap (λ (z : ℕ). z == wire_type_of kd) type ∙ self_equal (wire_type_of kd)
 
-module _ {pool : Types} {m depth levels : ℕ} {base : List Record} {p0 : Place} {frames : List Frame} {scope : Scope} (ok : IsPool pool) (k : ℕ) (p : Payload) {q w : Place} where
-  in_field : (t : ℕ) (v : Message) (f : FieldView) → t < length pool.messages → (st : Stands pool m depth levels base p0 frames (message_part t v) scope q)
+module _ {pool : Types} {m depth levels : ℕ} {base : List Record} {p0 : Place} {parents : List Parent} {scope : Scope} (ok : IsPool pool) (k : ℕ) (p : Payload) {q w : Place} where
+  in_field : (t : ℕ) (v : Message) (f : FieldView) → t < length pool.messages → (st : Stands pool m depth levels base p0 parents (message_part t v) scope q)
       → RecordTo (schema_of pool) (context_of st.open_now) scope.depth_left q (record { number = k; payload = p }) w → field_numbered k (message_fields pool t) ≡ Some f → (wire_type p == wire_type_of f.kind) ≡ true
-      → closed_shaped f.shape f.kind ≡ closed_enum f.kind → is_undeclared pool (closed_enum f.kind) p ≡ true → Stands pool m depth levels base p0 frames (put_record k p (message_part t v)) (one_more_in k scope) w
+      → closed_shaped f.shape f.kind ≡ closed_enum f.kind → is_undeclared pool (closed_enum f.kind) p ≡ true → Stands pool m depth levels base p0 parents (put_record k p (message_part t v)) (one_more_in k scope) w
   in_field t v f within st to found own closed undeclared =
       let fs = message_fields pool t in
       unknown_stands t v st (pool_differ pool t ok within) (record { number = k; payload = p }) to (own_whole fs k f p found own)
@@ -72,9 +72,9 @@ module _ {pool : Types} {m depth levels : ℕ} {base : List Record} {p0 : Place}
       ∙ ap (λ (e : Option ℕ). fits_any fs (record { number = k; payload = p }) && not (is_undeclared pool e p)) closed
       ∙ ap (λ (b : Bool). fits_any fs (record { number = k; payload = p }) && not b) undeclared ∙ never_counts (fits_any fs (record { number = k; payload = p })))
 
-  pub undeclared_record_stands : (now : Part) (meant : Target) (kd : Kind) → CanHold pool now → (st : Stands pool m depth levels base p0 frames now scope q)
+  pub undeclared_record_stands : (now : Part) (meant : Target) (kd : Kind) → CanHold pool now → (st : Stands pool m depth levels base p0 parents now scope q)
       → RecordTo (schema_of pool) (context_of st.open_now) scope.depth_left q (record { number = k; payload = p }) w → Means pool (part_context now) k (wire_type p) meant → scalar_kind meant ≡ Some kd → wire_type p ≡ wire_type_of kd
-      → is_undeclared pool (closed_enum kd) p ≡ true → Stands pool m depth levels base p0 frames (put_record k p now) (one_more_in k scope) w
+      → is_undeclared pool (closed_enum kd) p ≡ true → Stands pool m depth levels base p0 parents (put_record k p now) (one_more_in k scope) w
   undeclared_record_stands (message_part t v) (target.One k2 s) kd can st to means of type undeclared =
       let (f, found, e, is_kind, is_shape, single, none) = single_field (field_numbered k (message_fields pool t)) k (wire_type p) k2 s means in
       let same : k2 ≡ kd = cc in
@@ -108,11 +108,11 @@ module _ {pool : Types} {m depth levels : ℕ} {base : List Record} {p0 : Place}
 
 -- THE STEP: where the part holds the undeclared number, the reader is after it
 pub undeclared_put :
-    {pool : Types} {m depth levels : ℕ} {base : List Record} {p0 u w : Place} {frames : List Frame} {scope : Scope} {next : Step} {now : Part} (k : ℕ) (a : Number) (meant : Target) (kd : Kind) (put : Part)
-    → After pool m depth levels base p0 frames next now scope u → awaited next ≡ Some (tag k (wire_type (number_view a)) meant) → scalar_kind meant ≡ Some kd → IsPool pool → CanHold pool now
-    → is_undeclared pool (closed_enum kd) (number_view a) ≡ true → Follows u (number_view a) w → put ≡ put_record k (number_view a) now → Stands pool m depth levels base p0 frames put (one_more_in k scope) w
-undeclared_put {pool} {m} {depth} {levels} {base} {p0} {u} {w} {frames} {scope} {next} {now} k a meant kd put begun is of ok can undeclared follows made =
-    let behind = at_tag (tag k (wire_type (number_view a)) meant) begun is in
-    subst (λ (z : Part). Stands pool m depth levels base p0 frames z (one_more_in k scope) w) (sym made)
-    (undeclared_record_stands ok k (number_view a) now meant kd can behind.stands (number_record (context_of behind.stands.open_now) scope.depth_left k a behind.has follows) behind.means of
-    (meant_type pool now k (wire_type (number_view a)) meant kd behind.means of) undeclared)
+    {pool : Types} {m depth levels : ℕ} {base : List Record} {p0 u w : Place} {parents : List Parent} {scope : Scope} {next : Step} {now : Part} (k : ℕ) (a : Number) (meant : Target) (kd : Kind) (put : Part)
+    → After pool m depth levels base p0 parents next now scope u → awaited next ≡ Some (tag k (wire_type (number_view a)) meant) → scalar_kind meant ≡ Some kd → IsPool pool → CanHold pool now
+    → is_undeclared pool (closed_enum kd) (number_view a) ≡ true → Follows u (number_view a) w → put ≡ put_record k (number_view a) now → Stands pool m depth levels base p0 parents put (one_more_in k scope) w
+undeclared_put {pool} {m} {depth} {levels} {base} {p0} {u} {w} {parents} {scope} {next} {now} k a meant kd put begun is of ok can undeclared follows made =
+    let after = at_tag (tag k (wire_type (number_view a)) meant) begun is in
+    subst (λ (z : Part). Stands pool m depth levels base p0 parents z (one_more_in k scope) w) (sym made)
+    (undeclared_record_stands ok k (number_view a) now meant kd can after.stands (number_record (context_of after.stands.open_now) scope.depth_left k a after.has follows) after.means of
+    (meant_type pool now k (wire_type (number_view a)) meant kd after.means of) undeclared)

@@ -35,7 +35,7 @@ use Rattle.pb_parts.specs.declared.open.part.Slot.{Slot}
 use Rattle.pb_parts.specs.declared.open.part.Slot.TheVariants as slot
 use Rattle.pb_parts.specs.Open.Opened.{Begun}
 use Rattle.pb_parts.specs.Open.Opened as opened
-use Rattle.pb_parts.specs.Open.Frames.{Part, message_part, entry_part, group_part, CanHold, Scope, Frame, GoesOnFrom, Takes, Held, at_top, inside, Stands}
+use Rattle.pb_parts.specs.Open.Parents.{Part, message_part, entry_part, group_part, CanHold, Scope, Parent, GoesOnFrom, Takes, Held, at_top, inside, Stands}
 
 -- THE BYTES
 
@@ -55,30 +55,30 @@ begun_bytes (opened.a_group levels tag is_open is_place) h = subst (λ (z : Plac
 
 -- the bytes of the open part
 pub held_bytes :
-    {pool : Types} {m depth levels : ℕ} {base : List Record} {p0 : Place} {frames : List Frame} {now : Part} {o : Open Context} {depth_left inner : ℕ} {path : List PathStep} {p : Place} {earlier : List Record}
-    → Held pool m depth levels base p0 frames now o depth_left inner path p earlier → AreBytes p0.rest → AreBytes p.rest
-held_bytes (at_top v form is_open is_room is_inner is_path is_place is_base goes_on) h = subst (λ (z : Place). AreBytes z.rest) (sym is_place) h
+    {pool : Types} {m depth levels : ℕ} {base : List Record} {p0 : Place} {parents : List Parent} {now : Part} {o : Open Context} {depth_left inner : ℕ} {path : List PathStep} {p : Place} {earlier : List Record}
+    → Held pool m depth levels base p0 parents now o depth_left inner path p earlier → AreBytes p0.rest → AreBytes p.rest
+held_bytes (at_top v form is_open is_depth is_inner is_path is_place is_base goes_on) h = subst (λ (z : Place). AreBytes z.rest) (sym is_place) h
 held_bytes (inside up b begun form can deep completes is_path counts ends goes_on takes) h = begun_bytes begun (moved_bytes b.front b.moves (held_bytes up h)).1
 
 pub goes_on_held :
-    {pool : Types} {m depth levels : ℕ} {base : List Record} {p0 : Place} {frames : List Frame} {now : Part} {o : Open Context} {depth_left inner : ℕ} {path : List PathStep} {p : Place} {earlier : List Record}
-    → Held pool m depth levels base p0 frames now o depth_left inner path p earlier → GoesOnFrom pool inner now earlier
-goes_on_held (at_top v form is_open is_room is_inner is_path is_place is_base goes_on) = goes_on
+    {pool : Types} {m depth levels : ℕ} {base : List Record} {p0 : Place} {parents : List Parent} {now : Part} {o : Open Context} {depth_left inner : ℕ} {path : List PathStep} {p : Place} {earlier : List Record}
+    → Held pool m depth levels base p0 parents now o depth_left inner path p earlier → GoesOnFrom pool inner now earlier
+goes_on_held (at_top v form is_open is_depth is_inner is_path is_place is_base goes_on) = goes_on
 goes_on_held (inside up b begun form can deep completes is_path counts ends goes_on takes) = goes_on
 
 -- the records so far are in range, can be written, and are sound
 records_good :
-    {pool : Types} {m depth levels : ℕ} {base : List Record} {p0 : Place} {frames : List Frame} {scope : Scope} {now : Part} {q : Place} (s : Stands pool m depth levels base p0 frames now scope q)
+    {pool : Types} {m depth levels : ℕ} {base : List Record} {p0 : Place} {parents : List Parent} {scope : Scope} {now : Part} {q : Place} (s : Stands pool m depth levels base p0 parents now scope q)
     → AllGood pool (context_of s.open_now) scope.depth_left s.records_so_far
 records_good {pool} {scope = scope} s =
     all_good pool (context_of s.open_now) scope.depth_left s.records_so_far
-    (spelled_in_range s.records_so_far s.behind.front s.behind.spelled (moved_bytes s.behind.front s.behind.moves (held_bytes s.held s.bytes)).0)
-    (spelled_writable s.records_so_far s.behind.front s.behind.spelled) s.behind.sound
+    (spelled_in_range s.records_so_far s.so_far.front s.so_far.spelled (moved_bytes s.so_far.front s.so_far.moves (held_bytes s.held s.bytes)).0)
+    (spelled_writable s.records_so_far s.so_far.front s.so_far.spelled) s.so_far.sound
 
 -- A MESSAGE is well formed, and less deep than it may be
 pub message_good :
-    {pool : Types} {m depth levels : ℕ} {base : List Record} {p0 : Place} {frames : List Frame} {scope : Scope} {q : Place} (ok : IsPool pool) (k : ℕ) (v : Message)
-    → (s : Stands pool m depth levels base p0 frames (message_part k v) scope q) → IsBody pool k v × (message_depth v < s.inner)
+    {pool : Types} {m depth levels : ℕ} {base : List Record} {p0 : Place} {parents : List Parent} {scope : Scope} {q : Place} (ok : IsPool pool) (k : ℕ) (v : Message)
+    → (s : Stands pool m depth levels base p0 parents (message_part k v) scope q) → IsBody pool k v × (message_depth v < s.inner)
 message_good {pool} {scope = scope} ok k v s = by_level s.inner s.deep (goes_on_held s.held) s.worth
   where
     good : AllGood pool (in_message k) scope.depth_left s.records_so_far
@@ -125,25 +125,25 @@ keys_good pool k l v f key found is good low = by_holding (get_field f.number (f
 
 -- its type is one of the pool
 pub type_in_pool :
-    {pool : Types} {m depth levels : ℕ} {base : List Record} {p0 : Place} {frames : List Frame} {scope : Scope} {q : Place} (k : ℕ) (v : Message)
-    → Stands pool m depth levels base p0 frames (message_part k v) scope q → k < length pool.messages
+    {pool : Types} {m depth levels : ℕ} {base : List Record} {p0 : Place} {parents : List Parent} {scope : Scope} {q : Place} (k : ℕ) (v : Message)
+    → Stands pool m depth levels base p0 parents (message_part k v) scope q → k < length pool.messages
 type_in_pool k v s = (goes_on_held s.held).0
 
 -- as are those of an entry
 pub kinds_in_pool :
-    {pool : Types} {m depth levels : ℕ} {base : List Record} {p0 : Place} {frames : List Frame} {scope : Scope} {q : Place} (key kd : Kind) (x : Option Scalar) (d : Option Datum)
-    → Stands pool m depth levels base p0 frames (entry_part key kd x d) scope q → IsTrue (is_key_kind key) × NamesType (length pool.messages) (length pool.enums) kd
+    {pool : Types} {m depth levels : ℕ} {base : List Record} {p0 : Place} {parents : List Parent} {scope : Scope} {q : Place} (key kd : Kind) (x : Option Scalar) (d : Option Datum)
+    → Stands pool m depth levels base p0 parents (entry_part key kd x d) scope q → IsTrue (is_key_kind key) × NamesType (length pool.messages) (length pool.enums) kd
 kinds_in_pool key kd x d s = let from = goes_on_held s.held in (from.1, from.2)
 
 pub value_no_proto2 :
-    {pool : Types} {m depth levels : ℕ} {base : List Record} {p0 : Place} {frames : List Frame} {scope : Scope} {q : Place} (key kd : Kind) (x : Option Scalar) (d : Option Datum)
-    → Stands pool m depth levels base p0 frames (entry_part key kd x d) scope q → is_of_proto2 kd ≡ false
+    {pool : Types} {m depth levels : ℕ} {base : List Record} {p0 : Place} {parents : List Parent} {scope : Scope} {q : Place} (key kd : Kind) (x : Option Scalar) (d : Option Datum)
+    → Stands pool m depth levels base p0 parents (entry_part key kd x d) scope q → is_of_proto2 kd ≡ false
 value_no_proto2 key kd x d s = (goes_on_held s.held).3
 
 -- A PART MAY BE CHANGED wherever the reader is
 pub can_hold :
-    {pool : Types} {m depth levels : ℕ} {base : List Record} {p0 : Place} {frames : List Frame} {scope : Scope} {q : Place} (ok : IsPool pool) (now : Part)
-    → Stands pool m depth levels base p0 frames now scope q → CanHold pool now
+    {pool : Types} {m depth levels : ℕ} {base : List Record} {p0 : Place} {parents : List Parent} {scope : Scope} {q : Place} (ok : IsPool pool) (now : Part)
+    → Stands pool m depth levels base p0 parents now scope q → CanHold pool now
 can_hold {pool} ok (message_part k v) s = (type_in_pool k v s, one_each v (message_good ok k v s).0)
   where
     one_each : (v : Message) → IsBody pool k v → HasOneMemberEach (message_fields pool k) (fields_of v)
@@ -153,8 +153,8 @@ can_hold ok (group_part us) s = tt
 
 -- AN ENTRY
 
-module _ {pool : Types} {m depth levels : ℕ} {base : List Record} {p0 : Place} {frames : List Frame} {scope : Scope} {q : Place} (ok : IsPool pool) (key kd : Kind) (x : Option Scalar) (d : Option Datum)
-    (s : Stands pool m depth levels base p0 frames (entry_part key kd x d) scope q) where
+module _ {pool : Types} {m depth levels : ℕ} {base : List Record} {p0 : Place} {parents : List Parent} {scope : Scope} {q : Place} (ok : IsPool pool) (key kd : Kind) (x : Option Scalar) (d : Option Datum)
+    (s : Stands pool m depth levels base p0 parents (entry_part key kd x d) scope q) where
   entry_records : AllGood pool (an_entry key kd) scope.depth_left (s.earlier ++ s.records_so_far)
   entry_records =
       let none : s.earlier ≡ [] = (goes_on_held s.held).0 in
@@ -187,12 +187,12 @@ module _ {pool : Types} {m depth levels : ℕ} {base : List Record} {p0 : Place}
 
 -- AN ENTRY THAT GOES INTO A MAP: its key is of the kind of those that are there
 pub fits_keys :
-    {pool : Types} {m depth levels : ℕ} {base : List Record} {p0 : Place} {frame : Frame} {frames : List Frame} {scope : Scope} {q : Place} (ok : IsPool pool) (key kd : Kind) (x : Option Scalar) (d : Option Datum) (k n : ℕ) (v : Message)
-    → Stands pool m depth levels base p0 (frame ∷ frames) (entry_part key kd x d) scope q → frame.part ≡ message_part k v → frame.slot ≡ slot.Map n
+    {pool : Types} {m depth levels : ℕ} {base : List Record} {p0 : Place} {parent : Parent} {parents : List Parent} {scope : Scope} {q : Place} (ok : IsPool pool) (key kd : Kind) (x : Option Scalar) (d : Option Datum) (k n : ℕ) (v : Message)
+    → Stands pool m depth levels base p0 (parent ∷ parents) (entry_part key kd x d) scope q → parent.part ≡ message_part k v → parent.slot ≡ slot.Map n
     → FitsKeys (unwrap_or x (default_of key)) (entries_of (get_field n (fields_of v)))
-fits_keys {pool} {m} {depth} {levels} {base} {p0} {frame} {frames} {scope} {q} ok key kd x d k n v s is_part is_slot =
-    (key, key_good ok key kd x d s, subst (λ (z : Slot). Takes z (message_part k v) (entry_part key kd x d)) is_slot (subst (λ (z : Part). Takes frame.slot z (entry_part key kd x d)) is_part (keys_held s.held)))
+fits_keys {pool} {m} {depth} {levels} {base} {p0} {parent} {parents} {scope} {q} ok key kd x d k n v s is_part is_slot =
+    (key, key_good ok key kd x d s, subst (λ (z : Slot). Takes z (message_part k v) (entry_part key kd x d)) is_slot (subst (λ (z : Part). Takes parent.slot z (entry_part key kd x d)) is_part (keys_held s.held)))
   where
-    keys_held : {o : Open Context} {depth_left inner : ℕ} {path : List PathStep} {p : Place} {earlier : List Record} → Held pool m depth levels base p0 (frame ∷ frames) (entry_part key kd x d) o depth_left inner path p earlier
-        → Takes frame.slot frame.part (entry_part key kd x d)
+    keys_held : {o : Open Context} {depth_left inner : ℕ} {path : List PathStep} {p : Place} {earlier : List Record} → Held pool m depth levels base p0 (parent ∷ parents) (entry_part key kd x d) o depth_left inner path p earlier
+        → Takes parent.slot parent.part (entry_part key kd x d)
     keys_held (inside up b begun form can deep completes is_path counts ends goes_on takes) = takes.0

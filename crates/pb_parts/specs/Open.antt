@@ -1,6 +1,6 @@
 -- The open parts, what records are for in them, and what they open.
 pub mod Opened
-pub mod Frames
+pub mod Parents
 pub mod PartView
 pub mod Targets
 pub mod Occurrences

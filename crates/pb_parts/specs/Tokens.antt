@@ -2,4 +2,4 @@
 pub mod Number
 pub mod Numbers
 pub mod After
-pub mod Told
+pub mod Reported

@@ -49,22 +49,22 @@ pub varint_read :
     (b : List ℕ) (at n size : ℕ) (left to : Option ℕ) → at ≤ length b → left ≡ option_map (λ e. e - at) to
     → TellsVarint (given_at at left (take (length b - at) (drop at b))) (token.Whole n size)
     → (at < at + size) × (at + size ≤ length b) × Reads (here b at to) n (here b (at + size) to)
-varint_read b at n size left to within is told =
-    let here_told = subst (λ (p : Place). TellsVarint p (token.Whole n size)) (at_slice b at left to is) told in
-    let reads = subst (λ (q : Place). Reads (here b at to) n q) (here_passed b at size to) here_told.1 in
-    (reads_some reads, (let e = length-drop at b in let h = here_told.0 in omega (arith, e, h, within)), reads)
+varint_read b at n size left to within is reported =
+    let here_reported = subst (λ (p : Place). TellsVarint p (token.Whole n size)) (at_slice b at left to is) reported in
+    let reads = subst (λ (q : Place). Reads (here b at to) n q) (here_passed b at size to) here_reported.1 in
+    (reads_some reads, (let e = length-drop at b in let h = here_reported.0 in omega (arith, e, h, within)), reads)
 
 pub varint_cut :
     (b : List ℕ) (at : ℕ) (left to : Option ℕ) → at ≤ length b → left ≡ option_map (λ e. e - at) to
     → TellsVarint (given_at at left (take (length b - at) (drop at b))) token.Short → VarintFault (here b at to) (fault (length b) [] Truncated)
-varint_cut b at left to within is told =
+varint_cut b at left to within is reported =
     subst (λ (n : ℕ). VarintFault (here b at to) (fault n [] Truncated)) (here_end b at to within)
-    (subst (λ (p : Place). TellsVarint p token.Short) (at_slice b at left to is) told)
+    (subst (λ (p : Place). TellsVarint p token.Short) (at_slice b at left to is) reported)
 
 pub varint_bad :
     (b : List ℕ) (at : ℕ) (left to : Option ℕ) (c : Cause) → left ≡ option_map (λ e. e - at) to
     → TellsVarint (given_at at left (take (length b - at) (drop at b))) (token.Fault c) → VarintFault (here b at to) (fault at [] c)
-varint_bad b at left to c is told = (subst (λ (p : Place). TellsVarint p (token.Fault c)) (at_slice b at left to is) told).1
+varint_bad b at left to c is reported = (subst (λ (p : Place). TellsVarint p (token.Fault c)) (at_slice b at left to is) reported).1
 
 -- ---- four and eight bytes
 
@@ -78,43 +78,43 @@ pub eight_read :
     (b : List ℕ) (at n size : ℕ) (left to : Option ℕ) → at ≤ length b → left ≡ option_map (λ e. e - at) to → n < 2 ^ 64
     → TellsFixed64 (given_at at left (take (length b - at) (drop at b))) (token.Whole n size)
     → (at < at + size) × (at + size ≤ length b) × IsEight (here b at to) (here b (at + size) to)
-eight_read b at n size left to within is small told =
-    let here_told = subst (λ (p : Place). TellsFixed64 p (token.Whole n size)) (at_slice b at left to is) told in
-    let read = subst (λ (q : Place). IsEight (here b at to) q) (here_passed b at size to) (n, small, here_told.1) in
-    (eight_some read, (let e = length-drop at b in let h = here_told.0 in omega (arith, e, h, within)), read)
+eight_read b at n size left to within is small reported =
+    let here_reported = subst (λ (p : Place). TellsFixed64 p (token.Whole n size)) (at_slice b at left to is) reported in
+    let read = subst (λ (q : Place). IsEight (here b at to) q) (here_passed b at size to) (n, small, here_reported.1) in
+    (eight_some read, (let e = length-drop at b in let h = here_reported.0 in omega (arith, e, h, within)), read)
 
 pub eight_cut :
     (b : List ℕ) (at : ℕ) (left to : Option ℕ) → at ≤ length b → left ≡ option_map (λ e. e - at) to
     → TellsFixed64 (given_at at left (take (length b - at) (drop at b))) token.Short → FixedFault 8 (here b at to) (fault (length b) [] Truncated)
-eight_cut b at left to within is told =
+eight_cut b at left to within is reported =
     subst (λ (n : ℕ). FixedFault 8 (here b at to) (fault n [] Truncated)) (here_end b at to within)
-    (subst (λ (p : Place). TellsFixed64 p token.Short) (at_slice b at left to is) told)
+    (subst (λ (p : Place). TellsFixed64 p token.Short) (at_slice b at left to is) reported)
 
 pub eight_bad :
     (b : List ℕ) (at : ℕ) (left to : Option ℕ) (c : Cause) → left ≡ option_map (λ e. e - at) to
     → TellsFixed64 (given_at at left (take (length b - at) (drop at b))) (token.Fault c) → FixedFault 8 (here b at to) (fault at [] c)
-eight_bad b at left to c is told = (subst (λ (p : Place). TellsFixed64 p (token.Fault c)) (at_slice b at left to is) told).1
+eight_bad b at left to c is reported = (subst (λ (p : Place). TellsFixed64 p (token.Fault c)) (at_slice b at left to is) reported).1
 
 pub four_read :
     (b : List ℕ) (at n size : ℕ) (left to : Option ℕ) → at ≤ length b → left ≡ option_map (λ e. e - at) to
     → TellsFixed32 (given_at at left (take (length b - at) (drop at b))) (token.Whole n size)
     → (at < at + size) × (at + size ≤ length b) × IsFour (here b at to) (here b (at + size) to)
-four_read b at n size left to within is told =
-    let here_told = subst (λ (p : Place). TellsFixed32 p (token.Whole n size)) (at_slice b at left to is) told in
-    let read = subst (λ (q : Place). IsFour (here b at to) q) (here_passed b at size to) (n, here_told.1.0, here_told.1.1) in
-    (four_some read, (let e = length-drop at b in let h = here_told.0 in omega (arith, e, h, within)), read)
+four_read b at n size left to within is reported =
+    let here_reported = subst (λ (p : Place). TellsFixed32 p (token.Whole n size)) (at_slice b at left to is) reported in
+    let read = subst (λ (q : Place). IsFour (here b at to) q) (here_passed b at size to) (n, here_reported.1.0, here_reported.1.1) in
+    (four_some read, (let e = length-drop at b in let h = here_reported.0 in omega (arith, e, h, within)), read)
 
 pub four_cut :
     (b : List ℕ) (at : ℕ) (left to : Option ℕ) → at ≤ length b → left ≡ option_map (λ e. e - at) to
     → TellsFixed32 (given_at at left (take (length b - at) (drop at b))) token.Short → FixedFault 4 (here b at to) (fault (length b) [] Truncated)
-four_cut b at left to within is told =
+four_cut b at left to within is reported =
     subst (λ (n : ℕ). FixedFault 4 (here b at to) (fault n [] Truncated)) (here_end b at to within)
-    (subst (λ (p : Place). TellsFixed32 p token.Short) (at_slice b at left to is) told)
+    (subst (λ (p : Place). TellsFixed32 p token.Short) (at_slice b at left to is) reported)
 
 pub four_bad :
     (b : List ℕ) (at : ℕ) (left to : Option ℕ) (c : Cause) → left ≡ option_map (λ e. e - at) to
     → TellsFixed32 (given_at at left (take (length b - at) (drop at b))) (token.Fault c) → FixedFault 4 (here b at to) (fault at [] c)
-four_bad b at left to c is told = (subst (λ (p : Place). TellsFixed32 p (token.Fault c)) (at_slice b at left to is) told).1
+four_bad b at left to c is reported = (subst (λ (p : Place). TellsFixed32 p (token.Fault c)) (at_slice b at left to is) reported).1
 
 -- ---- payloads
 

@@ -54,7 +54,7 @@ refuses_map refusal.Memory steps P Q g h = (h.0, g h.0 h.1)
 -- ---- whole records
 
 mutual
-  blank_one : {S : Schema} {c : S.Context} {room k : ℕ} {p : Payload} → Sound S c room k p → Sound blank tt room k p
+  blank_one : {S : Schema} {c : S.Context} {depth_left k : ℕ} {p : Payload} → Sound S c depth_left k p → Sound blank tt depth_left k p
   blank_one Sound.is_varint = Sound.is_varint
   blank_one Sound.is_fixed64 = Sound.is_fixed64
   blank_one Sound.is_fixed32 = Sound.is_fixed32
@@ -66,17 +66,17 @@ mutual
   blank_one (Sound.a_group e s) = Sound.a_group e (blank_sound s)
 
   -- records that are sound by a schema are sound where no field is known
-  pub blank_sound : {S : Schema} {c : S.Context} {room : ℕ} {rs : List Record} → AllSound S c room rs → AllSound blank tt room rs
+  pub blank_sound : {S : Schema} {c : S.Context} {depth_left : ℕ} {rs : List Record} → AllSound S c depth_left rs → AllSound blank tt depth_left rs
   blank_sound AllSound.none = AllSound.none
   blank_sound (AllSound.one s others) = AllSound.one (blank_one s) (blank_sound others)
 
-pub front_none : (S : Schema) (c : S.Context) (room : ℕ) (p : Place) → Front S c room p [] p
-front_none S c room p = record { spelled = ([], refl, moves_nothing p); sound = AllSound.none }
+pub front_none : (S : Schema) (c : S.Context) (depth_left : ℕ) (p : Place) → Front S c depth_left p [] p
+front_none S c depth_left p = record { spelled = ([], refl, moves_nothing p); sound = AllSound.none }
 
 pub front_push :
-    {S : Schema} {c : S.Context} {room k w : ℕ} {p q s r : Place} (rs : List Record) (payload : Payload) → Front S c room p rs q → HasTag q k w s
-    → ReadsValue S c room k w s payload r → Front S c room p (rs ++ record { number = k; payload = payload } ∷ []) r
-front_push {S} {c} {room} {k} {w} {p} {q} {s} {r} rs payload f tag value =
+    {S : Schema} {c : S.Context} {depth_left k w : ℕ} {p q s r : Place} (rs : List Record) (payload : Payload) → Front S c depth_left p rs q → HasTag q k w s
+    → ReadsValue S c depth_left k w s payload r → Front S c depth_left p (rs ++ record { number = k; payload = payload } ∷ []) r
+front_push {S} {c} {depth_left} {k} {w} {p} {q} {s} {r} rs payload f tag value =
     let the_record : Record = record { number = k; payload = payload } in
     let spelled : Spells the_record (tag.tag.0 ++ value.spelled.0) = record {
       number = tag.number;
@@ -97,9 +97,9 @@ front_push {S} {c} {room} {k} {w} {p} {q} {s} {r} rs payload f tag value =
 
 -- the bytes between two places spell the records
 pub records_between :
-    {S : Schema} {c : S.Context} (room : ℕ) (b : List ℕ) (at end : ℕ) (to : Option ℕ) (rs : List Record)
-    → Front S c room (here b at to) rs (here b end to) → AreRecords rs (take (end - at) (drop at b))
-records_between room b at end to rs front =
+    {S : Schema} {c : S.Context} (depth_left : ℕ) (b : List ℕ) (at end : ℕ) (to : Option ℕ) (rs : List Record)
+    → Front S c depth_left (here b at to) rs (here b end to) → AreRecords rs (take (end - at) (drop at b))
+records_between depth_left b at end to rs front =
     let moves = front.spelled.2 in
     let size : length front.spelled.0 ≡ end - at = let e = moves.at in omega (arith, e) in
     subst (AreRecords rs) (sym (ap (take (end - at)) moves.given ∙ take_at front.spelled.0 (drop end b) (end - at) size)) front.spelled.1
@@ -362,8 +362,8 @@ pub from_front :
     (S : Schema) (c : S.Context) (limits : Bounds) (b : List ℕ) (e : RawError) (max levels : ℕ) (f : Fault) → limits.bytes < length b
     → max ≡ limits.bytes → levels ≡ limits.depth → Bad S (records c) levels (here (take max b) 0 None) f → IsFault e (λ g. g ≡ beyond max f)
     → IsRefusal e (HasFault S c limits b)
-from_front S c limits b raw.Memory max levels f long is deep bad told = absurd told
-from_front S c limits b (raw.Fault byte path cause) max levels f long is deep bad told = HasFault.bad_front long (rw (is, deep) at bad) (rw (← is) told)
+from_front S c limits b raw.Memory max levels f long is deep bad reported = absurd reported
+from_front S c limits b (raw.Fault byte path cause) max levels f long is deep bad reported = HasFault.bad_front long (rw (is, deep) at bad) (rw (← is) reported)
 
 pub some_front :
     (S : Schema) (c : S.Context) (limits : Bounds) (b : List ℕ) (max levels : ℕ) → limits.bytes < length b → max ≡ limits.bytes

@@ -8,14 +8,14 @@ use Rattle.pb_schema.specs.Types.{Types}
 use Rattle.pb_schema.specs.Rules.{IsPool}
 use Rattle.pb_value.specs.Data.{Message}
 use Rattle.pb_parts.specs.declared.open.part.Slot.{Slot}
-use Rattle.pb_parts.specs.Open.Frames.{Part, message_part, group_part, put_message, put_group, Scope, Frame, frame_of, one_more_in, Stands}
+use Rattle.pb_parts.specs.Open.Parents.{Part, message_part, group_part, put_message, put_group, Scope, Parent, parent_of, one_more_in, Stands}
 use Rattle.pb_parts.specs.Open.Openings.{taken_message, without_message}
 use Rattle.pb_parts.specs.Open.Targets.{Means, part_context}
 use Rattle.pb_whole.specs.Reads.{StandsIn, IsOpen, HasTagAt, ReadsTo}
 use Rattle.pb_whole.specs.Reads.Groups.{ReadsToEnd}
 use Rattle.pb_parts.proofs.WellLemmas.{can_hold}
-use Rattle.pb_parts.proofs.PlaceLemmas.{place_behind, passed_twice}
-use Rattle.pb_whole.proofs.Tags.{there_behind}
+use Rattle.pb_parts.proofs.PlaceLemmas.{place_after, passed_twice}
+use Rattle.pb_whole.proofs.Tags.{there_after}
 use Rattle.pb_parts.proofs.OpenSteps.{message_group_opened}
 use Rattle.pb_parts.proofs.GroupSteps.{group_opened}
 use Rattle.pb_parts.proofs.GroupLemmas.{group_closes, message_group_closes}
@@ -25,9 +25,9 @@ use Rattle.pb_parts.specs.declared.open.target.Target.TheVariants as target
 
 -- THE GROUP OF A FIELD begins after its first tag, inside its parent
 pub field_group_begun :
-    {pool : Types} {m depth levels : ℕ} {base : List Record} {p0 : Place} {frames : List Frame} {scope : Scope} {now : Part} {q u : Place} (number depth_left : ℕ) (j : MessageId) (s : Slot) (outer : Part) (w : Message)
-    → IsPool pool → Stands pool m depth levels base p0 frames now scope q → scope.depth_left ≡ depth_left → HasTag q number 3 u → Means pool (part_context now) number 3 (target.Message j s) → 0 < depth_left
-    → outer ≡ without_message s now → w ≡ taken_message s now → StandsIn pool m depth levels base p0 (frame_of outer number s true scope ∷ frames) (depth_left - 1) (message_part j.0 w) u
+    {pool : Types} {m depth levels : ℕ} {base : List Record} {p0 : Place} {parents : List Parent} {scope : Scope} {now : Part} {q u : Place} (number depth_left : ℕ) (j : MessageId) (s : Slot) (outer : Part) (w : Message)
+    → IsPool pool → Stands pool m depth levels base p0 parents now scope q → scope.depth_left ≡ depth_left → HasTag q number 3 u → Means pool (part_context now) number 3 (target.Message j s) → 0 < depth_left
+    → outer ≡ without_message s now → w ≡ taken_message s now → StandsIn pool m depth levels base p0 (parent_of outer number s true scope ∷ parents) (depth_left - 1) (message_part j.0 w) u
 field_group_begun {scope = scope} {now = now} number depth_left j s outer w ok there level has means some is_outer is_taken =
     let inner : Scope = record { depth_left = scope.depth_left - 1; end = scope.end; counts = λ _. 0 } in (
       inner,
@@ -48,42 +48,42 @@ field_group_in_part {pool} bytes left number tag_size before depth_left j s oute
       at = from.at + tag_size;
       base = from.base;
       p0 = from.p0;
-      frames = frame_of outer number s true from.stands.0 ∷ from.frames;
+      parents = parent_of outer number s true from.stands.0 ∷ from.parents;
       stands = filled_so_far from.at left bytes tag_size (field_group_begun number depth_left j s outer w ok from.stands.1 from.stands.2 (has from.at) means some is_outer is_taken);
     })
 
 -- ITS RECORDS, once they are in their part, and the end tag after them
 pub group_inside :
-    {pool : Types} {m depth levels : ℕ} {base : List Record} {p0 : Place} {frames : List Frame} (at left : ℕ) (bytes : List ℕ) (number tag_size before size depth_left : ℕ) (begun filled is_now : Part)
-    → StandsIn pool m depth levels base p0 frames depth_left begun (passed (given_at at (Some left) bytes) tag_size) → before ≡ left - tag_size
+    {pool : Types} {m depth levels : ℕ} {base : List Record} {p0 : Place} {parents : List Parent} (at left : ℕ) (bytes : List ℕ) (number tag_size before size depth_left : ℕ) (begun filled is_now : Part)
+    → StandsIn pool m depth levels base p0 parents depth_left begun (passed (given_at at (Some left) bytes) tag_size) → before ≡ left - tag_size
     → ReadsToEnd pool number begun filled (take (length bytes - tag_size) (drop tag_size bytes)) before depth_left size → filled ≡ is_now
-    → (q : Place) × StandsIn pool m depth levels base p0 frames depth_left is_now q × HasTag q number 4 (passed (given_at at (Some left) bytes) (tag_size + size))
-group_inside {pool} {m} {depth} {levels} {base} {p0} {frames} at left bytes number tag_size before size depth_left begun filled is_now there is_before fills is =
+    → (q : Place) × StandsIn pool m depth levels base p0 parents depth_left is_now q × HasTag q number 4 (passed (given_at at (Some left) bytes) (tag_size + size))
+group_inside {pool} {m} {depth} {levels} {base} {p0} {parents} at left bytes number tag_size before size depth_left begun filled is_now there is_before fills is =
     let p : Place = given_at at (Some left) bytes in
     let slice : List ℕ = take (length bytes - tag_size) (drop tag_size bytes) in
     let known : Some before ≡ Some (left - tag_size) = ap (λ (z : ℕ). Some z) is_before in
-    let behind = place_behind at (Some left) (Some before) bytes tag_size known in
-    let place = ap (λ (z : Place). passed z size) (sym behind) ∙ passed_twice p tag_size size in (
+    let after = place_after at (Some left) (Some before) bytes tag_size known in
+    let place = ap (λ (z : Place). passed z size) (sym after) ∙ passed_twice p tag_size size in (
       passed (given_at (at + tag_size) (Some before) slice) fills.0,
-      subst (λ (z : Part). StandsIn pool m depth levels base p0 frames depth_left z (passed (given_at (at + tag_size) (Some before) slice) fills.0)) is
-          (fills.1 m depth levels (at + tag_size) base p0 frames (subst (StandsIn pool m depth levels base p0 frames depth_left begun) behind there)),
+      subst (λ (z : Part). StandsIn pool m depth levels base p0 parents depth_left z (passed (given_at (at + tag_size) (Some before) slice) fills.0)) is
+          (fills.1 m depth levels (at + tag_size) base p0 parents (subst (StandsIn pool m depth levels base p0 parents depth_left begun) after there)),
       subst (HasTag (passed (given_at (at + tag_size) (Some before) slice) fills.0) number 4) place (fills.2 (at + tag_size)),
     )
 
 pub field_group_inside :
-    {pool : Types} {m depth levels : ℕ} {base : List Record} {p0 : Place} {frames : List Frame} {now : Part} (at left : ℕ) (bytes : List ℕ) (number tag_size before size depth_left : ℕ) (j : MessageId) (s : Slot) (outer : Part) (w : Message) {filled is_now : Part}
-    → IsPool pool → (there : StandsIn pool m depth levels base p0 frames depth_left now (given_at at (Some left) bytes)) → HasTagAt bytes (Some left) number 3 tag_size → Means pool (part_context now) number 3 (target.Message j s) → 0 < depth_left
+    {pool : Types} {m depth levels : ℕ} {base : List Record} {p0 : Place} {parents : List Parent} {now : Part} (at left : ℕ) (bytes : List ℕ) (number tag_size before size depth_left : ℕ) (j : MessageId) (s : Slot) (outer : Part) (w : Message) {filled is_now : Part}
+    → IsPool pool → (there : StandsIn pool m depth levels base p0 parents depth_left now (given_at at (Some left) bytes)) → HasTagAt bytes (Some left) number 3 tag_size → Means pool (part_context now) number 3 (target.Message j s) → 0 < depth_left
     → outer ≡ without_message s now → w ≡ taken_message s now → before ≡ left - tag_size
     → ReadsToEnd pool number (message_part j.0 w) filled (take (length bytes - tag_size) (drop tag_size bytes)) before (depth_left - 1) size → filled ≡ is_now
-    → (q : Place) × StandsIn pool m depth levels base p0 (frame_of outer number s true there.0 ∷ frames) (depth_left - 1) is_now q × HasTag q number 4 (passed (given_at at (Some left) bytes) (tag_size + size))
+    → (q : Place) × StandsIn pool m depth levels base p0 (parent_of outer number s true there.0 ∷ parents) (depth_left - 1) is_now q × HasTag q number 4 (passed (given_at at (Some left) bytes) (tag_size + size))
 field_group_inside at left bytes number tag_size before size depth_left j s outer w {filled} {is_now} ok there has means some is_outer is_taken is_before fills is =
     group_inside at left bytes number tag_size before size (depth_left - 1) (message_part j.0 w) filled is_now (field_group_begun number depth_left j s outer w ok there.1 there.2 (has at) means some is_outer is_taken) is_before fills is
 
 -- ONE OF NO FIELD has unknown records
 pub unknown_group_begun :
-    {pool : Types} {m depth levels : ℕ} {base : List Record} {p0 : Place} {frames : List Frame} {scope : Scope} {now : Part} {q u : Place} (number depth_left : ℕ) (content : List Record)
-    → IsPool pool → Stands pool m depth levels base p0 frames now scope q → scope.depth_left ≡ depth_left → HasTag q number 3 u → Means pool (part_context now) number 3 target.Unknown → 0 < depth_left → content ≡ []
-    → StandsIn pool m depth levels base p0 (frame_of now number (slot.Unknown number) true scope ∷ frames) (depth_left - 1) (group_part content) u
+    {pool : Types} {m depth levels : ℕ} {base : List Record} {p0 : Place} {parents : List Parent} {scope : Scope} {now : Part} {q u : Place} (number depth_left : ℕ) (content : List Record)
+    → IsPool pool → Stands pool m depth levels base p0 parents now scope q → scope.depth_left ≡ depth_left → HasTag q number 3 u → Means pool (part_context now) number 3 target.Unknown → 0 < depth_left → content ≡ []
+    → StandsIn pool m depth levels base p0 (parent_of now number (slot.Unknown number) true scope ∷ parents) (depth_left - 1) (group_part content) u
 unknown_group_begun {scope = scope} {now = now} number depth_left content ok there level has means some nothing =
     let inner : Scope = record { depth_left = scope.depth_left - 1; end = scope.end; counts = λ _. 0 } in (
       inner,
@@ -103,27 +103,27 @@ unknown_group_in_part {pool} {now} bytes left number tag_size before depth_left 
       at = from.at + tag_size;
       base = from.base;
       p0 = from.p0;
-      frames = frame_of now number (slot.Unknown number) true from.stands.0 ∷ from.frames;
+      parents = parent_of now number (slot.Unknown number) true from.stands.0 ∷ from.parents;
       stands = filled_so_far from.at left bytes tag_size (unknown_group_begun number depth_left content ok from.stands.1 from.stands.2 (has from.at) means some nothing);
     })
 
 pub unknown_group_inside :
-    {pool : Types} {m depth levels : ℕ} {base : List Record} {p0 : Place} {frames : List Frame} {now : Part} (at left : ℕ) (bytes : List ℕ) (number tag_size before size depth_left : ℕ) (content : List Record) {filled is_now : Part}
-    → IsPool pool → (there : StandsIn pool m depth levels base p0 frames depth_left now (given_at at (Some left) bytes)) → HasTagAt bytes (Some left) number 3 tag_size → Means pool (part_context now) number 3 target.Unknown → 0 < depth_left
+    {pool : Types} {m depth levels : ℕ} {base : List Record} {p0 : Place} {parents : List Parent} {now : Part} (at left : ℕ) (bytes : List ℕ) (number tag_size before size depth_left : ℕ) (content : List Record) {filled is_now : Part}
+    → IsPool pool → (there : StandsIn pool m depth levels base p0 parents depth_left now (given_at at (Some left) bytes)) → HasTagAt bytes (Some left) number 3 tag_size → Means pool (part_context now) number 3 target.Unknown → 0 < depth_left
     → content ≡ [] → before ≡ left - tag_size → ReadsToEnd pool number (group_part content) filled (take (length bytes - tag_size) (drop tag_size bytes)) before (depth_left - 1) size → filled ≡ is_now
-    → (q : Place) × StandsIn pool m depth levels base p0 (frame_of now number (slot.Unknown number) true there.0 ∷ frames) (depth_left - 1) is_now q × HasTag q number 4 (passed (given_at at (Some left) bytes) (tag_size + size))
+    → (q : Place) × StandsIn pool m depth levels base p0 (parent_of now number (slot.Unknown number) true there.0 ∷ parents) (depth_left - 1) is_now q × HasTag q number 4 (passed (given_at at (Some left) bytes) (tag_size + size))
 unknown_group_inside at left bytes number tag_size before size depth_left content {filled} {is_now} ok there has means some nothing is_before fills is =
     group_inside at left bytes number tag_size before size (depth_left - 1) (group_part content) filled is_now (unknown_group_begun number depth_left content ok there.1 there.2 (has at) means some nothing) is_before fills is
 
 -- AFTER IT the parent goes on
 pub unknown_group_over :
-    {pool : Types} {m depth levels : ℕ} {base : List Record} {p0 : Place} {frames : List Frame} {depth_left inner number : ℕ} {s : Slot} {scope : Scope} {outer : Part} {us : List Record} {q w : Place} (next : Part) → scope.depth_left ≡ depth_left
-    → StandsIn pool m depth levels base p0 (frame_of outer number s true scope ∷ frames) inner (group_part us) q → HasTag q number 4 w → next ≡ put_group s outer us → StandsIn pool m depth levels base p0 frames depth_left next w
+    {pool : Types} {m depth levels : ℕ} {base : List Record} {p0 : Place} {parents : List Parent} {depth_left inner number : ℕ} {s : Slot} {scope : Scope} {outer : Part} {us : List Record} {q w : Place} (next : Part) → scope.depth_left ≡ depth_left
+    → StandsIn pool m depth levels base p0 (parent_of outer number s true scope ∷ parents) inner (group_part us) q → HasTag q number 4 w → next ≡ put_group s outer us → StandsIn pool m depth levels base p0 parents depth_left next w
 unknown_group_over {number = number} {scope = scope} next level there end is = (one_more_in number scope, group_closes next there.1 refl end is, level)
 
 pub field_group_over :
-    {pool : Types} {m depth levels : ℕ} {base : List Record} {p0 : Place} {frames : List Frame} {depth_left inner number k : ℕ} {s : Slot} {scope : Scope} {outer : Part} {v : Message} {q w : Place} (next : Part) → scope.depth_left ≡ depth_left
-    → StandsIn pool m depth levels base p0 (frame_of outer number s true scope ∷ frames) inner (message_part k v) q → HasTag q number 4 w → next ≡ put_message pool s outer v → StandsIn pool m depth levels base p0 frames depth_left next w
+    {pool : Types} {m depth levels : ℕ} {base : List Record} {p0 : Place} {parents : List Parent} {depth_left inner number k : ℕ} {s : Slot} {scope : Scope} {outer : Part} {v : Message} {q w : Place} (next : Part) → scope.depth_left ≡ depth_left
+    → StandsIn pool m depth levels base p0 (parent_of outer number s true scope ∷ parents) inner (message_part k v) q → HasTag q number 4 w → next ≡ put_message pool s outer v → StandsIn pool m depth levels base p0 parents depth_left next w
 field_group_over {number = number} {scope = scope} next level there end is = (one_more_in number scope, message_group_closes next there.1 refl end is, level)
 
 -- THE END TAG after the records that are read
@@ -134,6 +134,6 @@ end_reached old new bytes left depth_left number type used before size filled is
   used,
   filled,
   λ at.
-      there_behind (λ (q r : Place). HasTag q number 4 r) at (Some left) (Some before) bytes used size (ap (λ (z : ℕ). Some z) is_before)
+      there_after (λ (q r : Place). HasTag q number 4 r) at (Some left) (Some before) bytes used size (ap (λ (z : ℕ). Some z) is_before)
       (typed_tag (take (length bytes - used) (drop used bytes)) (Some before) number type 4 size is_end has (at + used)),
 )

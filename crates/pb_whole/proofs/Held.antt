@@ -11,26 +11,26 @@ use Rattle.pb_schema.specs.Scalar.{Scalar}
 use Rattle.pb_schema.specs.Context.{Context}
 use Rattle.pb_value.specs.Data.{Datum}
 use Rattle.pb_parts.specs.declared.open.part.Slot.{Slot}
-use Rattle.pb_parts.specs.Open.Frames.{Part, message_part, entry_part, group_part, CanHold, Scope, Frame, Held, inside, Stands}
-use Rattle.pb_parts.specs.Close.Closing.{HasRoomFor}
+use Rattle.pb_parts.specs.Open.Parents.{Part, message_part, entry_part, group_part, CanHold, Scope, Parent, Held, inside, Stands}
+use Rattle.pb_parts.specs.Close.Closing.{FitsSlot}
 use Rattle.pb_parts.proofs.WellLemmas.{fits_keys}
 use Rattle.pb_parts.specs.declared.open.part.Slot.TheVariants as slot
 
 -- THE PARENT may be changed
-pub frame_can_hold :
-    {pool : Types} {m depth levels : ℕ} {base : List Record} {p0 : Place} {frame : Frame} {frames : List Frame} {scope : Scope} {now : Part} {q : Place} → Stands pool m depth levels base p0 (frame ∷ frames) now scope q → CanHold pool frame.part
-frame_can_hold {pool} {m} {depth} {levels} {base} {p0} {frame} {frames} {scope} {now} {q} s = from_held s.held
+pub parent_can_hold :
+    {pool : Types} {m depth levels : ℕ} {base : List Record} {p0 : Place} {parent : Parent} {parents : List Parent} {scope : Scope} {now : Part} {q : Place} → Stands pool m depth levels base p0 (parent ∷ parents) now scope q → CanHold pool parent.part
+parent_can_hold {pool} {m} {depth} {levels} {base} {p0} {parent} {parents} {scope} {now} {q} s = from_held s.held
   where
-    from_held : {o : Open Context} {depth_left inner : ℕ} {path : List PathStep} {p : Place} {earlier : List Record} → Held pool m depth levels base p0 (frame ∷ frames) now o depth_left inner path p earlier → CanHold pool frame.part
+    from_held : {o : Open Context} {depth_left inner : ℕ} {path : List PathStep} {p : Place} {earlier : List Record} → Held pool m depth levels base p0 (parent ∷ parents) now o depth_left inner path p earlier → CanHold pool parent.part
     from_held (inside up h begun form can deep completes is_path counts ends goes_on takes) = can
 
 -- its map has keys of the kind of the entry's key
-pub entry_has_room :
-    {pool : Types} {m depth levels : ℕ} {base : List Record} {p0 : Place} {frame : Frame} {frames : List Frame} {scope : Scope} {q : Place} (ok : IsPool pool) (key kd : Kind) (x : Option Scalar) (d : Option Datum)
-    → Stands pool m depth levels base p0 (frame ∷ frames) (entry_part key kd x d) scope q → HasRoomFor frame.slot frame.part key x
-entry_has_room {pool} {m} {depth} {levels} {base} {p0} {frame} {frames} {scope} {q} ok key kd x d s = by_slot frame.slot frame.part refl refl
+pub entry_fits :
+    {pool : Types} {m depth levels : ℕ} {base : List Record} {p0 : Place} {parent : Parent} {parents : List Parent} {scope : Scope} {q : Place} (ok : IsPool pool) (key kd : Kind) (x : Option Scalar) (d : Option Datum)
+    → Stands pool m depth levels base p0 (parent ∷ parents) (entry_part key kd x d) scope q → FitsSlot parent.slot parent.part key x
+entry_fits {pool} {m} {depth} {levels} {base} {p0} {parent} {parents} {scope} {q} ok key kd x d s = by_slot parent.slot parent.part refl refl
   where
-    by_slot : (t : Slot) (p : Part) → frame.slot ≡ t → frame.part ≡ p → HasRoomFor t p key x
+    by_slot : (t : Slot) (p : Part) → parent.slot ≡ t → parent.part ≡ p → FitsSlot t p key x
     by_slot (slot.Map n) (message_part k v) is_slot is_part = fits_keys ok key kd x d k n v s is_part is_slot
     by_slot (slot.Map n) (entry_part k2 v2 y e) is_slot is_part = tt
     by_slot (slot.Map n) (group_part us) is_slot is_part = tt

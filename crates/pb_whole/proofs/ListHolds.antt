@@ -13,7 +13,7 @@ use Rattle.pb_value.specs.WellFormed.{HasOneMemberEach}
 use Rattle.pb_value.proofs.MessageSteps.{value_members}
 use Rattle.pb_value.proofs.OneofLemmas.{pool_differ}
 use Rattle.pb_value.proofs.StepLemmas.{found_number}
-use Rattle.pb_parts.specs.Open.Frames.{Part, CanHold, Frame, Scope}
+use Rattle.pb_parts.specs.Open.Parents.{Part, CanHold, Parent, Scope}
 use Rattle.pb_parts.specs.Tokens.After.{with_elements, After}
 use Rattle.pb_parts.proofs.ClosedLists.{list_value}
 use Rattle.pb_parts.proofs.WellLemmas.{type_in_pool}
@@ -23,8 +23,8 @@ use Rattle.pb_parts.specs.declared.tokens.step.Step.TheVariants as step
 
 -- inside the list's payload the message is that of the records before it and of the elements so far
 members_in :
-    {pool : Types} {m depth levels : ℕ} {base : List Record} {p0 : Place} {frames : List Frame} {scope : Scope} {now : Part} {u : Place} (k : ℕ) (kd : Kind) (outer : Option ℕ)
-    (list : AtList pool m depth levels base p0 frames now scope k kd outer u) → AllDiffer (map (λ (f : FieldView). f.number) (message_fields pool list.message_type)) → (i : ℕ) → scope.depth_left < i
+    {pool : Types} {m depth levels : ℕ} {base : List Record} {p0 : Place} {parents : List Parent} {scope : Scope} {now : Part} {u : Place} (k : ℕ) (kd : Kind) (outer : Option ℕ)
+    (list : AtList pool m depth levels base p0 parents now scope k kd outer u) → AllDiffer (map (λ (f : FieldView). f.number) (message_fields pool list.message_type)) → (i : ℕ) → scope.depth_left < i
     → list.before ≡ value_within pool i list.message_type (list.stands.earlier ++ list.stands.records_so_far)
     → HasOneMemberEach (message_fields pool list.message_type) (fields_of (with_elements pool k kd list.front list.before))
 members_in k kd outer list differ zero deep w = absurd (omega (arith, deep))
@@ -41,8 +41,8 @@ members_in {pool} k kd outer list differ (suc i) deep w =
     subst (λ (z : Message). HasOneMemberEach (message_fields pool list.message_type) (fields_of z)) (sym is) (value_members pool i list.message_type (before ++ r ∷ []) differ)
 
 pub list_can_hold :
-    {pool : Types} {m depth levels : ℕ} {base : List Record} {p0 : Place} {frames : List Frame} {scope : Scope} {now : Part} {u : Place} (k : ℕ) (kd : Kind) (outer : Option ℕ) → IsPool pool
-    → After pool m depth levels base p0 frames (step.Elements k kd outer) now scope u → CanHold pool now
+    {pool : Types} {m depth levels : ℕ} {base : List Record} {p0 : Place} {parents : List Parent} {scope : Scope} {now : Part} {u : Place} (k : ℕ) (kd : Kind) (outer : Option ℕ) → IsPool pool
+    → After pool m depth levels base p0 parents (step.Elements k kd outer) now scope u → CanHold pool now
 list_can_hold {pool} k kd outer ok begun =
     let list = at_list k kd outer begun in
     let within = type_in_pool list.message_type list.before list.stands in

@@ -14,7 +14,7 @@ use Rattle.pb_value.proofs.Views.{value_view-Message}
 use Rattle.pb_parts.specs.declared.open.part.Slot.TheVariants.{List as ListSlot}
 use Rattle.pb_parts.specs.declared.open.target.Target.{Target}
 use Rattle.pb_parts.specs.declared.open.target.Target.TheVariants.{Element, Message}
-use Rattle.pb_parts.specs.Open.Frames.{Part, message_part, entry_part, group_part, put_message}
+use Rattle.pb_parts.specs.Open.Parents.{Part, message_part, entry_part, group_part, put_message}
 use Rattle.pb_parts.specs.Open.Targets.{Means, part_context}
 use Rattle.pb_parts.specs.Values.Run.{put_listed, put_each}
 use Rattle.pb_whole.specs.Reads.{ReadsTo}

@@ -17,37 +17,37 @@ use Rattle.pb_value.specs.View.{key_view, value_view}
 use Rattle.pb_value.specs.declared.body.MapKey.{MapKey}
 use Rattle.pb_value.specs.declared.body.Value.{Value}
 use Rattle.pb_parts.specs.Close.Mapped.{pairs_view, put_mapped, put_all_mapped, FitsMapped, FitMapped, RisesIn}
-use Rattle.pb_parts.specs.Open.Frames.{Part, message_part, entry_part, group_part, put_entry, Scope, Frame, frame_of, one_more_in, EndsAt, up_to, Stands}
+use Rattle.pb_parts.specs.Open.Parents.{Part, message_part, entry_part, group_part, put_entry, Scope, Parent, parent_of, one_more_in, EndsAt, up_to, Stands}
 use Rattle.pb_parts.specs.Open.Targets.{Means, part_context}
-use Rattle.pb_parts.specs.Close.Closing.{HasRoomFor}
+use Rattle.pb_parts.specs.Close.Closing.{FitsSlot}
 use Rattle.pb_whole.specs.Reads.{StandsIn, IsOpen, HasTagAt}
 use Rattle.pb_whole.specs.Entries.{more_in, IsMapOpen}
-use Rattle.pb_parts.proofs.PlaceLemmas.{passed_twice, place_behind, slice_from}
+use Rattle.pb_parts.proofs.PlaceLemmas.{passed_twice, place_after, slice_from}
 use Rattle.pb_parts.proofs.WellLemmas.{message_good}
-use Rattle.pb_whole.proofs.Held.{entry_has_room}
-use Rattle.pb_parts.proofs.FrameLemmas.{entry_closes}
-use Rattle.pb_whole.proofs.Payloads.{payload_place, place_before, behind_inner, entry_begun, none_left, typed_tag}
+use Rattle.pb_whole.proofs.Held.{entry_fits}
+use Rattle.pb_parts.proofs.ParentLemmas.{entry_closes}
+use Rattle.pb_whole.proofs.Payloads.{payload_place, place_before, after_inner, entry_begun, none_left, typed_tag}
 use Rattle.pb_parts.proofs.MapPuts.{mapped_next, pairs_next, fit_next, size_next, all_context}
 use Rattle.pb_parts.specs.declared.open.part.Slot.TheVariants as slot
 use Rattle.pb_parts.specs.declared.open.target.Target.TheVariants as target
 
 -- THE LEVELS stay
-pub more_room : (k n : ℕ) (s : Scope) → (more_in k n s).depth_left ≡ s.depth_left
-more_room k zero s = refl
-more_room k (suc n) s = more_room k n s
+pub more_depth : (k n : ℕ) (s : Scope) → (more_in k n s).depth_left ≡ s.depth_left
+more_depth k zero s = refl
+more_depth k (suc n) s = more_depth k n s
 
 -- AFTER A PAYLOAD, with or without a known end
-pub behind_payload :
+pub after_payload :
     (at : ℕ) (left : Option ℕ) (bytes : List ℕ) (start size : ℕ) (end : Option ℕ) → EndsAt (given_at at left bytes) end → up_to end (passed (payload_place at bytes start size) size) ≡ passed (given_at at left bytes) (start + size)
-behind_payload at (Some e) bytes start size end ends = behind_inner at e bytes start size end ends
-behind_payload at None bytes start size (Some e) (l, is, sum) = absurd (cc)
-behind_payload at None bytes start size None ends =
+after_payload at (Some e) bytes start size end ends = after_inner at e bytes start size end ends
+after_payload at None bytes start size (Some e) (l, is, sum) = absurd (cc)
+after_payload at None bytes start size None ends =
     let at_is : (at + start) + size ≡ at + (start + size) = omega arith in
     ap (λ (z : List ℕ). given_at ((at + start) + size) None z) (ap (drop size) (slice_from start bytes) ∙ drop-drop size start bytes)
     ∙ ap (λ (z : ℕ). given_at z None (drop (start + size) bytes)) at_is
 
 -- THE PART THAT IS OPEN
-pub rises_in : {pool : Types} {m depth levels : ℕ} {base : List Record} {p0 : Place} {frames : List Frame} {scope : Scope} {q : Place} (ok : IsPool pool) (now : Part) → Stands pool m depth levels base p0 frames now scope q → RisesIn now
+pub rises_in : {pool : Types} {m depth levels : ℕ} {base : List Record} {p0 : Place} {parents : List Parent} {scope : Scope} {q : Place} (ok : IsPool pool) (now : Part) → Stands pool m depth levels base p0 parents now scope q → RisesIn now
 rises_in {pool} ok (message_part c v) s = rises pool c v (message_good ok c v s).0
   where
     rises : (pool : Types) (c : ℕ) (v : Message) → IsBody pool c v → RisesFrom 0 (fields_of v)
@@ -66,7 +66,7 @@ entry_in_map bytes left number tag_size start size depth_left key kd ok from has
   at = from.at + start;
   base = from.base;
   p0 = from.p0;
-  frames = frame_of from.now number (slot.Map number) false from.scope ∷ from.frames;
+  parents = parent_of from.now number (slot.Map number) false from.scope ∷ from.parents;
   stands = entry_begun from.at left bytes number tag_size start size depth_left key kd ok from.stands from.level (has from.at) (l from.at) from.means some;
 }
 
@@ -77,20 +77,20 @@ mapped_is n (message_part m v) key kd x d y e a b =
 mapped_is n (entry_part key2 kd2 x2 d2) key kd x d y e a b = refl
 mapped_is n (group_part us) key kd x d y e a b = refl
 
-room_is : (n : ℕ) (p : Part) (key : Kind) (x : Option Scalar) (y : Scalar) → y ≡ unwrap_or x (default_of key) → HasRoomFor (slot.Map n) p key x → FitsMapped n y p
-room_is n (message_part m v) key x y a h = subst (λ (z : Scalar). FitsKeys z (entries_of (get_field n (fields_of v)))) (sym a) h
-room_is n (entry_part key2 kd2 x2 d2) key x y a h = tt
-room_is n (group_part us) key x y a h = tt
+fits_mapped : (n : ℕ) (p : Part) (key : Kind) (x : Option Scalar) (y : Scalar) → y ≡ unwrap_or x (default_of key) → FitsSlot (slot.Map n) p key x → FitsMapped n y p
+fits_mapped n (message_part m v) key x y a h = subst (λ (z : Scalar). FitsKeys z (entries_of (get_field n (fields_of v)))) (sym a) h
+fits_mapped n (entry_part key2 kd2 x2 d2) key x y a h = tt
+fits_mapped n (group_part us) key x y a h = tt
 
 pub entry_taken :
-    {pool : Types} {m depth levels : ℕ} {base : List Record} {p0 : Place} {frames : List Frame} {scope : Scope} {now : Part} (at : ℕ) (left : Option ℕ) (bytes : List ℕ) (number start size inner : ℕ) (key kd : Kind) (x : Option Scalar) (d : Option Datum) (y : Scalar) (e : Datum) → IsPool pool
-    → Stands pool m depth levels base p0 frames now scope (given_at at left bytes)
-    → StandsIn pool m depth levels base p0 (frame_of now number (slot.Map number) false scope ∷ frames) inner (entry_part key kd x d) (passed (payload_place at bytes start size) size)
+    {pool : Types} {m depth levels : ℕ} {base : List Record} {p0 : Place} {parents : List Parent} {scope : Scope} {now : Part} (at : ℕ) (left : Option ℕ) (bytes : List ℕ) (number start size inner : ℕ) (key kd : Kind) (x : Option Scalar) (d : Option Datum) (y : Scalar) (e : Datum) → IsPool pool
+    → Stands pool m depth levels base p0 parents now scope (given_at at left bytes)
+    → StandsIn pool m depth levels base p0 (parent_of now number (slot.Map number) false scope ∷ parents) inner (entry_part key kd x d) (passed (payload_place at bytes start size) size)
     → y ≡ unwrap_or x (default_of key) → e ≡ unwrap_or d (missing (λ _ _. empty) kd)
-    → FitsMapped number y now × Stands pool m depth levels base p0 frames (put_mapped number (y, e) now) (one_more_in number scope) (passed (given_at at left bytes) (start + size))
-entry_taken {pool} {m} {depth} {levels} {base} {p0} {frames} {scope} {now} at left bytes number start size inner key kd x d y e ok s read a b = (
-  room_is number now key x y a (entry_has_room ok key kd x d read.1),
-  subst (Stands pool m depth levels base p0 frames (put_mapped number (y, e) now) (one_more_in number scope)) (behind_payload at left bytes start size scope.end s.ends)
+    → FitsMapped number y now × Stands pool m depth levels base p0 parents (put_mapped number (y, e) now) (one_more_in number scope) (passed (given_at at left bytes) (start + size))
+entry_taken {pool} {m} {depth} {levels} {base} {p0} {parents} {scope} {now} at left bytes number start size inner key kd x d y e ok s read a b = (
+  fits_mapped number now key x y a (entry_fits ok key kd x d read.1),
+  subst (Stands pool m depth levels base p0 parents (put_mapped number (y, e) now) (one_more_in number scope)) (after_payload at left bytes start size scope.end s.ends)
       (entry_closes (put_mapped number (y, e) now) read.1 refl (none_left size) (mapped_is number now key kd x d y e a b)),
 )
 
@@ -103,7 +103,7 @@ map_open_in {pool} {now} bytes left depth_left number key kd from means = record
   at = from.at;
   base = from.base;
   p0 = from.p0;
-  frames = from.frames;
+  parents = from.parents;
   scope = from.stands.0;
   now = now;
   stands = from.stands.1;
@@ -112,54 +112,54 @@ map_open_in {pool} {now} bytes left depth_left number key kd from means = record
 }
 
 pub run_filled :
-    {pool : Types} {m depth levels : ℕ} {base : List Record} {p0 : Place} {frames : List Frame} {new : Part} {q : Place} (scope : Scope) (now : Part) (number depth_left : ℕ) (items : List (MapKey × Value)) → scope.depth_left ≡ depth_left → new ≡ put_all_mapped number (pairs_view items) now
-    → Stands pool m depth levels base p0 frames (put_all_mapped number (pairs_view items) now) (more_in number (length items) scope) q → StandsIn pool m depth levels base p0 frames depth_left new q
-run_filled {pool} {m} {depth} {levels} {base} {p0} {frames} {new} {q} scope now number depth_left items level is there =
-    (more_in number (length items) scope, subst (λ (z : Part). Stands pool m depth levels base p0 frames z (more_in number (length items) scope) q) (sym is) there, more_room number (length items) scope ∙ level)
+    {pool : Types} {m depth levels : ℕ} {base : List Record} {p0 : Place} {parents : List Parent} {new : Part} {q : Place} (scope : Scope) (now : Part) (number depth_left : ℕ) (items : List (MapKey × Value)) → scope.depth_left ≡ depth_left → new ≡ put_all_mapped number (pairs_view items) now
+    → Stands pool m depth levels base p0 parents (put_all_mapped number (pairs_view items) now) (more_in number (length items) scope) q → StandsIn pool m depth levels base p0 parents depth_left new q
+run_filled {pool} {m} {depth} {levels} {base} {p0} {parents} {new} {q} scope now number depth_left items level is there =
+    (more_in number (length items) scope, subst (λ (z : Part). Stands pool m depth levels base p0 parents z (more_in number (length items) scope) q) (sym is) there, more_depth number (length items) scope ∙ level)
 
 -- ONE MORE ENTRY
 pub means_along : (pool : Types) (number k : ℕ) (xs : List (Scalar × Datum)) (now : Part) (key kd : Kind) → Means pool (part_context now) k 2 (target.Entry key kd) → Means pool (part_context (put_all_mapped number xs now)) k 2 (target.Entry key kd)
 means_along pool number k xs now key kd means = subst (λ z. Means pool z k 2 (target.Entry key kd)) (sym (all_context number xs now)) means
 
 pub run_further :
-    {pool : Types} {m depth levels : ℕ} {base : List Record} {p0 : Place} {frames : List Frame} (scope : Scope) (now : Part) (p : Place) (here size number : ℕ) (items new : List (MapKey × Value)) (e : MapKey × Value) → new ≡ items ++ e ∷ []
+    {pool : Types} {m depth levels : ℕ} {base : List Record} {p0 : Place} {parents : List Parent} (scope : Scope) (now : Part) (p : Place) (here size number : ℕ) (items new : List (MapKey × Value)) (e : MapKey × Value) → new ≡ items ++ e ∷ []
     → FitMapped number (pairs_view items) now → FitsMapped number (key_view e.0) (put_all_mapped number (pairs_view items) now)
-    → Stands pool m depth levels base p0 frames (put_mapped number (key_view e.0, value_view e.1) (put_all_mapped number (pairs_view items) now)) (one_more_in number (more_in number (length items) scope)) (passed (passed p here) size)
-    → FitMapped number (pairs_view new) now × Stands pool m depth levels base p0 frames (put_all_mapped number (pairs_view new) now) (more_in number (length new) scope) (passed p (here + size))
-run_further {pool} {m} {depth} {levels} {base} {p0} {frames} scope now p here size number items new e is fit one there =
-    subst (λ (l : List (MapKey × Value)). FitMapped number (pairs_view l) now × Stands pool m depth levels base p0 frames (put_all_mapped number (pairs_view l) now) (more_in number (length l) scope) (passed p (here + size))) (sym is) (
+    → Stands pool m depth levels base p0 parents (put_mapped number (key_view e.0, value_view e.1) (put_all_mapped number (pairs_view items) now)) (one_more_in number (more_in number (length items) scope)) (passed (passed p here) size)
+    → FitMapped number (pairs_view new) now × Stands pool m depth levels base p0 parents (put_all_mapped number (pairs_view new) now) (more_in number (length new) scope) (passed p (here + size))
+run_further {pool} {m} {depth} {levels} {base} {p0} {parents} scope now p here size number items new e is fit one there =
+    subst (λ (l : List (MapKey × Value)). FitMapped number (pairs_view l) now × Stands pool m depth levels base p0 parents (put_all_mapped number (pairs_view l) now) (more_in number (length l) scope) (passed p (here + size))) (sym is) (
       subst (λ (xs : List (Scalar × Datum)). FitMapped number xs now) (sym (pairs_next items e)) (fit_next number (pairs_view items) (key_view e.0, value_view e.1) now fit one),
-      subst (λ (z : Part). Stands pool m depth levels base p0 frames z (more_in number (length (items ++ e ∷ [])) scope) (passed p (here + size)))
+      subst (λ (z : Part). Stands pool m depth levels base p0 parents z (more_in number (length (items ++ e ∷ [])) scope) (passed p (here + size)))
           (sym (ap (λ (xs : List (Scalar × Datum)). put_all_mapped number xs now) (pairs_next items e) ∙ mapped_next number (pairs_view items) (key_view e.0, value_view e.1) now))
-          (subst (λ (n : ℕ). Stands pool m depth levels base p0 frames (put_mapped number (key_view e.0, value_view e.1) (put_all_mapped number (pairs_view items) now)) (more_in number n scope) (passed p (here + size))) (sym (size_next items e))
-          (subst (Stands pool m depth levels base p0 frames (put_mapped number (key_view e.0, value_view e.1) (put_all_mapped number (pairs_view items) now)) (one_more_in number (more_in number (length items) scope))) (passed_twice p here size) there)),
+          (subst (λ (n : ℕ). Stands pool m depth levels base p0 parents (put_mapped number (key_view e.0, value_view e.1) (put_all_mapped number (pairs_view items) now)) (more_in number n scope) (passed p (here + size))) (sym (size_next items e))
+          (subst (Stands pool m depth levels base p0 parents (put_mapped number (key_view e.0, value_view e.1) (put_all_mapped number (pairs_view items) now)) (one_more_in number (more_in number (length items) scope))) (passed_twice p here size) there)),
     )
 
 pub open_further :
-    {pool : Types} {number : ℕ} {key kd : Kind} {bytes : List ℕ} {left : Option ℕ} {depth_left : ℕ} (from : IsMapOpen pool number key kd bytes left depth_left) (here : ℕ) (behind : Option ℕ) (items : List (MapKey × Value)) → behind ≡ option_map (λ (e : ℕ). e - here) left
-    → Stands pool from.m from.depth from.levels from.base from.p0 from.frames (put_all_mapped number (pairs_view items) from.now) (more_in number (length items) from.scope) (passed (given_at from.at left bytes) here)
-    → IsMapOpen pool number key kd (take (length bytes - here) (drop here bytes)) behind depth_left
-open_further {pool} {number} {key} {kd} {bytes} {left} from here behind items is there = record {
+    {pool : Types} {number : ℕ} {key kd : Kind} {bytes : List ℕ} {left : Option ℕ} {depth_left : ℕ} (from : IsMapOpen pool number key kd bytes left depth_left) (here : ℕ) (after : Option ℕ) (items : List (MapKey × Value)) → after ≡ option_map (λ (e : ℕ). e - here) left
+    → Stands pool from.m from.depth from.levels from.base from.p0 from.parents (put_all_mapped number (pairs_view items) from.now) (more_in number (length items) from.scope) (passed (given_at from.at left bytes) here)
+    → IsMapOpen pool number key kd (take (length bytes - here) (drop here bytes)) after depth_left
+open_further {pool} {number} {key} {kd} {bytes} {left} from here after items is there = record {
   m = from.m;
   depth = from.depth;
   levels = from.levels;
   at = from.at + here;
   base = from.base;
   p0 = from.p0;
-  frames = from.frames;
+  parents = from.parents;
   scope = more_in number (length items) from.scope;
   now = put_all_mapped number (pairs_view items) from.now;
   stands =
-      subst (Stands pool from.m from.depth from.levels from.base from.p0 from.frames (put_all_mapped number (pairs_view items) from.now) (more_in number (length items) from.scope))
-      (place_behind from.at left behind bytes here is) there;
-  level = more_room number (length items) from.scope ∙ from.level;
+      subst (Stands pool from.m from.depth from.levels from.base from.p0 from.parents (put_all_mapped number (pairs_view items) from.now) (more_in number (length items) from.scope))
+      (place_after from.at left after bytes here is) there;
+  level = more_depth number (length items) from.scope ∙ from.level;
   means = means_along pool number number (pairs_view items) from.now key kd from.means;
 }
 
 pub none_read :
-    {pool : Types} {m depth levels : ℕ} {base : List Record} {p0 : Place} {frames : List Frame} {scope : Scope} {now : Part} (at : ℕ) (left : Option ℕ) (bytes : List ℕ) (number : ℕ) (items : List (MapKey × Value)) → items ≡ []
-    → Stands pool m depth levels base p0 frames now scope (given_at at left bytes)
-    → FitMapped number (pairs_view items) now × Stands pool m depth levels base p0 frames (put_all_mapped number (pairs_view items) now) (more_in number (length items) scope) (passed (given_at at left bytes) 0)
-none_read {pool} {m} {depth} {levels} {base} {p0} {frames} {scope} {now} at left bytes number items none there =
-    subst (λ (l : List (MapKey × Value)). FitMapped number (pairs_view l) now × Stands pool m depth levels base p0 frames (put_all_mapped number (pairs_view l) now) (more_in number (length l) scope) (passed (given_at at left bytes) 0)) (sym none)
-    (tt, subst (Stands pool m depth levels base p0 frames now scope) (place_before (given_at at left bytes)) there)
+    {pool : Types} {m depth levels : ℕ} {base : List Record} {p0 : Place} {parents : List Parent} {scope : Scope} {now : Part} (at : ℕ) (left : Option ℕ) (bytes : List ℕ) (number : ℕ) (items : List (MapKey × Value)) → items ≡ []
+    → Stands pool m depth levels base p0 parents now scope (given_at at left bytes)
+    → FitMapped number (pairs_view items) now × Stands pool m depth levels base p0 parents (put_all_mapped number (pairs_view items) now) (more_in number (length items) scope) (passed (given_at at left bytes) 0)
+none_read {pool} {m} {depth} {levels} {base} {p0} {parents} {scope} {now} at left bytes number items none there =
+    subst (λ (l : List (MapKey × Value)). FitMapped number (pairs_view l) now × Stands pool m depth levels base p0 parents (put_all_mapped number (pairs_view l) now) (more_in number (length l) scope) (passed (given_at at left bytes) 0)) (sym none)
+    (tt, subst (Stands pool m depth levels base p0 parents now scope) (place_before (given_at at left bytes)) there)

@@ -11,7 +11,7 @@ use Rattle.pb_parts.specs.declared.open.target.Target.{Target}
 use Rattle.pb_parts.specs.declared.tokens.step.Step.{Step}
 use Rattle.pb_parts.specs.Values.PayloadValue.{IsBytesTarget}
 use Rattle.pb_parts.specs.Open.Targets.{Means, part_context}
-use Rattle.pb_parts.specs.Open.Frames.{Part, Scope, Frame, EndsAt, Stands}
+use Rattle.pb_parts.specs.Open.Parents.{Part, Scope, Parent, EndsAt, Stands}
 use Rattle.pb_parts.specs.Tokens.After.{tag, awaited, goes_down, HasLevelFor, After}
 use Rattle.pb_parts.specs.Tokens.Number.{IsNumberType}
 use Rattle.pb_parts.proofs.AfterLemmas.{after_tag, after_length}
@@ -21,19 +21,19 @@ use Rattle.pb_parts.specs.declared.open.target.Target.TheVariants as target
 use Rattle.pb_parts.specs.declared.tokens.step.Step.TheVariants as step
 
 -- WHAT BEGINS the bytes after some of them comes after those
-pub there_behind :
-    (P : Place → Place → Type 0) (at : ℕ) (left behind : Option ℕ) (rest : List ℕ) (used more : ℕ) → behind ≡ option_map (λ (e : ℕ). e - used) left
-    → P (given_at (at + used) behind (take (length rest - used) (drop used rest))) (passed (given_at (at + used) behind (take (length rest - used) (drop used rest))) more)
+pub there_after :
+    (P : Place → Place → Type 0) (at : ℕ) (left after : Option ℕ) (rest : List ℕ) (used more : ℕ) → after ≡ option_map (λ (e : ℕ). e - used) left
+    → P (given_at (at + used) after (take (length rest - used) (drop used rest))) (passed (given_at (at + used) after (take (length rest - used) (drop used rest))) more)
     → P (passed (given_at at left rest) used) (passed (given_at at left rest) (used + more))
-there_behind P at left behind rest used more is h =
+there_after P at left after rest used more is h =
     subst (P (passed (given_at at left rest) used)) (passed_twice (given_at at left rest) used more)
     (subst (λ (z : Option ℕ). P (given_at (at + used) z (drop used rest)) (passed (given_at (at + used) z (drop used rest)) more)) is
-    (subst (λ (z : List ℕ). P (given_at (at + used) behind z) (passed (given_at (at + used) behind z) more)) (slice_from used rest) h))
+    (subst (λ (z : List ℕ). P (given_at (at + used) after z) (passed (given_at (at + used) after z) more)) (slice_from used rest) h))
 
 -- A TAG of a record that opens nothing: its value or its length comes next
 pub tag_next :
-    {pool : Types} {m depth levels : ℕ} {base : List Record} {p0 : Place} {frames : List Frame} {scope : Scope} {now : Part} {q u : Place} (next : Step) (k w : ℕ) (meant : Target)
-    → Stands pool m depth levels base p0 frames now scope q → awaited next ≡ Some (tag k w meant) → HasTag q k w u → Means pool (part_context now) k w meant → (goes_down meant ≡ true → ⊥) → After pool m depth levels base p0 frames next now scope u
+    {pool : Types} {m depth levels : ℕ} {base : List Record} {p0 : Place} {parents : List Parent} {scope : Scope} {now : Part} {q u : Place} (next : Step) (k w : ℕ) (meant : Target)
+    → Stands pool m depth levels base p0 parents now scope q → awaited next ≡ Some (tag k w meant) → HasTag q k w u → Means pool (part_context now) k w meant → (goes_down meant ≡ true → ⊥) → After pool m depth levels base p0 parents next now scope u
 tag_next next k w meant s is has means stays = after_tag next (tag k w meant) s is has means (λ deep. absurd (stays deep))
 
 pub number_stays : (pool : Types) (now : Part) (k w : ℕ) (meant : Target) → Means pool (part_context now) k w meant → IsNumberType w → goes_down meant ≡ true → ⊥
@@ -61,22 +61,22 @@ bytes_stay (target.Entry key k) bytes deep = bytes
 
 -- after the tag of a number
 pub number_next :
-    {pool : Types} {m depth levels : ℕ} {base : List Record} {p0 : Place} {frames : List Frame} {scope : Scope} {now : Part} {q u : Place} (k w : ℕ) (meant : Target) → IsNumberType w
-    → Stands pool m depth levels base p0 frames now scope q → HasTag q k w u → Means pool (part_context now) k w meant → (next : Step) × (awaited next ≡ Some (tag k w meant)) × After pool m depth levels base p0 frames next now scope u
-number_next {pool} {m} {depth} {levels} {base} {p0} {frames} {scope} {now} {q} {u} k w meant type s has means = by_type type
+    {pool : Types} {m depth levels : ℕ} {base : List Record} {p0 : Place} {parents : List Parent} {scope : Scope} {now : Part} {q u : Place} (k w : ℕ) (meant : Target) → IsNumberType w
+    → Stands pool m depth levels base p0 parents now scope q → HasTag q k w u → Means pool (part_context now) k w meant → (next : Step) × (awaited next ≡ Some (tag k w meant)) × After pool m depth levels base p0 parents next now scope u
+number_next {pool} {m} {depth} {levels} {base} {p0} {parents} {scope} {now} {q} {u} k w meant type s has means = by_type type
   where
-    by_step : (next : Step) → awaited next ≡ Some (tag k w meant) → (next : Step) × (awaited next ≡ Some (tag k w meant)) × After pool m depth levels base p0 frames next now scope u
+    by_step : (next : Step) → awaited next ≡ Some (tag k w meant) → (next : Step) × (awaited next ≡ Some (tag k w meant)) × After pool m depth levels base p0 parents next now scope u
     by_step next is = (next, is, tag_next next k w meant s is has means (number_stays pool now k w meant means type))
 
-    by_type : IsNumberType w → (next : Step) × (awaited next ≡ Some (tag k w meant)) × After pool m depth levels base p0 frames next now scope u
+    by_type : IsNumberType w → (next : Step) × (awaited next ≡ Some (tag k w meant)) × After pool m depth levels base p0 parents next now scope u
     by_type (inl e) = by_step (step.Varint k meant) (ap (λ (z : ℕ). Some (tag k z meant)) (sym e))
     by_type (inr (inl e)) = by_step (step.I64 k meant) (ap (λ (z : ℕ). Some (tag k z meant)) (sym e))
     by_type (inr (inr e)) = by_step (step.I32 k meant) (ap (λ (z : ℕ). Some (tag k z meant)) (sym e))
 
 -- after the tag of a record that opens something, where a level is left for it
 pub opening_next :
-    {pool : Types} {m depth levels : ℕ} {base : List Record} {p0 : Place} {frames : List Frame} {scope : Scope} {now : Part} {q u : Place} (k : ℕ) (meant : Target)
-    → Stands pool m depth levels base p0 frames now scope q → HasTag q k 2 u → Means pool (part_context now) k 2 meant → HasLevelFor scope.depth_left meant → After pool m depth levels base p0 frames (step.Length k meant) now scope u
+    {pool : Types} {m depth levels : ℕ} {base : List Record} {p0 : Place} {parents : List Parent} {scope : Scope} {now : Part} {q u : Place} (k : ℕ) (meant : Target)
+    → Stands pool m depth levels base p0 parents now scope q → HasTag q k 2 u → Means pool (part_context now) k 2 meant → HasLevelFor scope.depth_left meant → After pool m depth levels base p0 parents (step.Length k meant) now scope u
 opening_next k meant s has means depth_left = after_tag (step.Length k meant) (tag k 2 meant) s refl has means depth_left
 
 -- A PAYLOAD of bytes after its tag and its length
@@ -106,8 +106,8 @@ length_there at left rest used start {n = n} has reads is fits =
     ends (Some e) has h = let before = before_end at e rest used start has h in (e - start, refl, omega (arith, before))
 
 pub bytes_next :
-    {pool : Types} {m depth levels : ℕ} {base : List Record} {p0 : Place} {frames : List Frame} {scope : Scope} {now : Part} {q u t : Place} (k n : ℕ) (meant : Target)
-    → Stands pool m depth levels base p0 frames now scope q → HasTag q k 2 u → Means pool (part_context now) k 2 meant → IsBytesTarget meant → HasLength u n t → After pool m depth levels base p0 frames (step.Payload k meant n) now scope t
+    {pool : Types} {m depth levels : ℕ} {base : List Record} {p0 : Place} {parents : List Parent} {scope : Scope} {now : Part} {q u t : Place} (k n : ℕ) (meant : Target)
+    → Stands pool m depth levels base p0 parents now scope q → HasTag q k 2 u → Means pool (part_context now) k 2 meant → IsBytesTarget meant → HasLength u n t → After pool m depth levels base p0 parents (step.Payload k meant n) now scope t
 bytes_next k n meant s has means bytes l = after_length k meant n (tag_next (step.Length k meant) k 2 meant s refl has means (bytes_stay meant bytes)) refl bytes l
 
 pub payload_leads : (p : Place) (start size : ℕ) (u : Place) → start + size ≤ length p.rest → HasLength u size (passed p start) → Moves (passed p start) (take ((start + size) - start) (drop start p.rest)) (passed p (start + size))

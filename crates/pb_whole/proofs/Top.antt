@@ -10,7 +10,7 @@ use Rattle.pb_schema.specs.Types.{Types}
 use Rattle.pb_schema.specs.Context.{Context, a_message as in_message, schema_of}
 use Rattle.pb_value.specs.Data.{Message, empty}
 use Rattle.pb_value.specs.Derives.{Text}
-use Rattle.pb_parts.specs.Open.Frames.{Part, message_part, entry_part, group_part, Frame, Scope, Held, at_top, inside, IsSameForm, Stands}
+use Rattle.pb_parts.specs.Open.Parents.{Part, message_part, entry_part, group_part, Parent, Scope, Held, at_top, inside, IsSameForm, Stands}
 use Rattle.pb_wire.specs.Sound.{AllSound}
 use Rattle.pb_wire.specs.declared.fault.PathStep.{PathStep}
 use Rattle.pb_wire.specs.Token.{given_at, passed}
@@ -18,8 +18,8 @@ use Rattle.pb_schema.specs.Rules.{IsPool}
 use Rattle.pb_value.specs.Value.{value, value_within}
 use Rattle.pb_value.proofs.MessageSteps.{value_of_nothing}
 use Rattle.pb_value.specs.WellFormed.{IsBody, IsWellFormed}
-use Rattle.pb_parts.specs.Open.Opened.{Behind}
-use Rattle.pb_parts.proofs.FrameLemmas.{stands_at_start}
+use Rattle.pb_parts.specs.Open.Opened.{SoFar}
+use Rattle.pb_parts.proofs.ParentLemmas.{stands_at_start}
 use Rattle.pb_parts.proofs.WellLemmas.{message_good}
 use Rattle.pb_wire.specs.Spell.{AreRecords}
 use Rattle.std.proofs.Math.Seq.{drop-length}
@@ -27,9 +27,9 @@ use Rattle.pb_whole.specs.Reads.{StandsIn, IsOpen, ReadsTo}
 
 -- NOTHING IS OPEN BUT THE TOP: the part is the message, and no end is known
 pub is_top :
-    {pool : Types} {m depth levels : ℕ} {base : List Record} {p0 : Place} {frames : List Frame} {now : Part} {o : Open Context} {depth_left inner : ℕ} {path : _} {p : Place} {earlier : List Record}
-    → frames ≡ [] → Held pool m depth levels base p0 frames now o depth_left inner path p earlier → (v : Message) × (now ≡ message_part m v)
-is_top none (at_top {now = now} v form is_open is_room is_inner is_path is_place is_base goes_on) = by_part now form
+    {pool : Types} {m depth levels : ℕ} {base : List Record} {p0 : Place} {parents : List Parent} {now : Part} {o : Open Context} {depth_left inner : ℕ} {path : _} {p : Place} {earlier : List Record}
+    → parents ≡ [] → Held pool m depth levels base p0 parents now o depth_left inner path p earlier → (v : Message) × (now ≡ message_part m v)
+is_top none (at_top {now = now} v form is_open is_depth is_inner is_path is_place is_base goes_on) = by_part now form
   where
     by_part : {k : ℕ} (part : Part) → IsSameForm part (message_part k v) → (w : Message) × (part ≡ message_part k w)
     by_part (message_part j w) same = (w, ap (λ (z : ℕ). message_part z w) same)
@@ -42,7 +42,7 @@ is_top none (inside up h begun form can deep completes is_path counts ends goes_
 top_inner :
     {pool : Types} {m depth levels : ℕ} {base : List Record} {p0 : Place} {now : Part} {o : Open Context} {depth_left inner : ℕ} {path : _} {p : Place} {earlier : List Record}
     → Held pool m depth levels base p0 [] now o depth_left inner path p earlier → inner ≡ levels
-top_inner (at_top v form is_open is_room is_inner is_path is_place is_base goes_on) = is_inner
+top_inner (at_top v form is_open is_depth is_inner is_path is_place is_base goes_on) = is_inner
 
 -- what there is of the top is well formed
 pub top_well_formed :
@@ -64,12 +64,12 @@ pub text_read :
     (pool : Types) (m : ℕ) (limits : Bounds) (b : List ℕ) (p0 : Place) (k : ℕ) (v : Message) (scope : Scope) (q : Place) → p0.rest ≡ b → length b ≤ limits.bytes
     → Stands pool m limits.depth 101 [] p0 [] (message_part k v) scope q → q.rest ≡ [] → Text pool m limits b v
 unfolding value
-text_read pool m limits b p0 k v scope q from size s none = from_held s.held s.behind s.worth
+text_read pool m limits b p0 k v scope q from size s none = from_held s.held s.so_far s.worth
   where
     from_held :
         {o : Open Context} {depth_left inner : ℕ} {path : List PathStep} {p : Place} {earlier rs : List Record} → Held pool m limits.depth 101 [] p0 [] (message_part k v) o depth_left inner path p earlier
-        → Behind (schema_of pool) o depth_left p rs q → v ≡ value_within pool inner k (earlier ++ rs) → Text pool m limits b v
-    from_held {o} {depth_left} {inner} {path} {p} {earlier} {rs} (at_top v0 form is_open is_room is_inner is_path is_place is_base goes_on) h worth =
+        → SoFar (schema_of pool) o depth_left p rs q → v ≡ value_within pool inner k (earlier ++ rs) → Text pool m limits b v
+    from_held {o} {depth_left} {inner} {path} {p} {earlier} {rs} (at_top v0 form is_open is_depth is_inner is_path is_place is_base goes_on) h worth =
         let whole : b ≡ h.front = sym from ∙ sym (ap (λ (z : Place). z.rest) is_place) ∙ h.moves.given ∙ ap (λ (z : List ℕ). h.front ++ z) none ∙ append-nil h.front in
         record {
           size = size;
@@ -77,7 +77,7 @@ text_read pool m limits b p0 k v scope q from size s none = from_held s.held s.b
             records = rs;
             spelled = subst (AreRecords rs) (sym whole) h.spelled;
             sound =
-                subst (λ (z : ℕ). AllSound (schema_of pool) (in_message m) z rs) is_room
+                subst (λ (z : ℕ). AllSound (schema_of pool) (in_message m) z rs) is_depth
                 (subst (λ (z : Open Context). AllSound (schema_of pool) (context_of z) depth_left rs) is_open h.sound);
             valued =
                 worth ∙ ap (λ (z : ℕ). value_within pool z k (earlier ++ rs)) is_inner ∙ ap (λ (z : ℕ). value_within pool 101 z (earlier ++ rs)) form
@@ -109,7 +109,7 @@ text_open pool k depth b v none deep within bytes = record {
   at = 0;
   base = [];
   p0 = given_at 0 (Some (length b)) b;
-  frames = [];
+  parents = [];
   stands = at_start pool k depth b v none deep within bytes;
 }
 

@@ -12,7 +12,7 @@ use Rattle.pb_parts.specs.declared.open.part.Slot.TheVariants.{List as ListSlot}
 use Rattle.pb_parts.specs.declared.open.target.Target.{Target}
 use Rattle.pb_parts.specs.declared.open.target.Target.TheVariants.{Element, Message}
 use Rattle.pb_parts.specs.Open.Targets.{Means, part_context}
-use Rattle.pb_parts.specs.Open.Frames.{Part}
+use Rattle.pb_parts.specs.Open.Parents.{Part}
 use Rattle.pb_parts.specs.Values.Run.{put_each}
 use Rattle.pb_whole.specs.Reads.{IsOpen, ReadsTo}
 

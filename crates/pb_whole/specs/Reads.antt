@@ -8,14 +8,14 @@ use Rattle.pb_schema.specs.Types.{Types}
 use Rattle.pb_schema.specs.Rules.{IsPool}
 use Rattle.pb_parts.specs.declared.tokens.record_tag.RecordTag.{RecordTag}
 use Rattle.pb_parts.specs.declared.open.part.Part.{Part as PartKept}
-use Rattle.pb_parts.specs.Open.Frames.{Part, Scope, Frame, Stands}
+use Rattle.pb_parts.specs.Open.Parents.{Part, Scope, Parent, Stands}
 use Rattle.pb_parts.specs.Open.PartView.{part_view}
 use Rattle.pb_whole.specs.declared.reader.Left.{Left}
 
 -- with some scope that has this many levels left, whole records of a part end at a place
-abbrev pub StandsIn : Types → ℕ → ℕ → ℕ → List Record → Place → List Frame → ℕ → Part → Place → Type 0
-StandsIn pool m depth levels base p0 frames depth_left now q =
-    (scope : Scope) × Stands pool m depth levels base p0 frames now scope q × (scope.depth_left ≡ depth_left)
+abbrev pub StandsIn : Types → ℕ → ℕ → ℕ → List Record → Place → List Parent → ℕ → Part → Place → Type 0
+StandsIn pool m depth levels base p0 parents depth_left now q =
+    (scope : Scope) × Stands pool m depth levels base p0 parents now scope q × (scope.depth_left ≡ depth_left)
 
 -- somewhere the part is open, and these bytes come next in it, of which some are before its known end
 pub record IsOpen (pool : Types) (now : Part) (bytes : List ℕ) (left depth_left : ℕ) : Type 0 where
@@ -25,8 +25,8 @@ pub record IsOpen (pool : Types) (now : Part) (bytes : List ℕ) (left depth_lef
   pub at : ℕ
   pub base : List Record
   pub p0 : Place
-  pub frames : List Frame
-  pub stands : StandsIn pool m depth levels base p0 frames depth_left now (given_at at (Some left) bytes)
+  pub parents : List Parent
+  pub stands : StandsIn pool m depth levels base p0 parents depth_left now (given_at at (Some left) bytes)
 
 -- the pool meets its rules, somewhere the part is open, and the bytes that come next in it are fewer than 2 GiB
 pub record CanRead (pool : Types) (now : PartKept) (bytes : List ℕ) (left : Left) : Type 0 where
@@ -48,9 +48,9 @@ pub record IsAtTag (pool : Types) (now : PartKept) (bytes : List ℕ) (left : Le
 -- whole sound records are read: the part is worth those before and these
 abbrev pub ReadsTo : Types → Part → Part → List ℕ → ℕ → ℕ → ℕ → Type 0
 ReadsTo pool old new bytes left depth_left used =
-    (m depth levels at : ℕ) (base : List Record) (p0 : Place) (frames : List Frame)
-    → StandsIn pool m depth levels base p0 frames depth_left old (given_at at (Some left) bytes)
-    → StandsIn pool m depth levels base p0 frames depth_left new (passed (given_at at (Some left) bytes) used)
+    (m depth levels at : ℕ) (base : List Record) (p0 : Place) (parents : List Parent)
+    → StandsIn pool m depth levels base p0 parents depth_left old (given_at at (Some left) bytes)
+    → StandsIn pool m depth levels base p0 parents depth_left new (passed (given_at at (Some left) bytes) used)
 
 -- where a record is read, it takes this many bytes
 abbrev pub ReadsOne : {E : Type 0} → Types → PartKept → PartKept → List ℕ → Left → Result ℕ E → Type 0

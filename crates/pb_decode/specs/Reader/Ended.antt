@@ -2,8 +2,8 @@
 use Rattle.std.specs.Prelude.{◌≡◌, ◌≢◌, ◌⊎◌, ℕ, List, [], Option, Some, ◌<◌, Result, OnOk, vec_len}
 use Rattle.pb_parts.specs.declared.tokens.step.Step.{Step}
 use Rattle.pb_parts.specs.declared.tokens.step.Step.TheVariants as step
-use Rattle.pb_parts.specs.Open.Frames.{Frame}
-use Rattle.pb_decode.specs.Reader.{State, left_of, frames_view, state_view, Reads}
+use Rattle.pb_parts.specs.Open.Parents.{Parent}
+use Rattle.pb_decode.specs.Reader.{State, left_of, parents_view, state_view, Reads}
 use Rattle.pb_wire.specs.Record.{Record}
 use Rattle.pb_wire.specs.Fault.{Place}
 use Rattle.pb_schema.specs.declared.types.Kind.{Kind}
@@ -14,26 +14,26 @@ use Rattle.pb_parts.specs.declared.tokens.step.Step.TheVariants.{Elements}
 
 -- with these frames around the part, and this many bytes before the known end, nothing ends before what comes next: at a tag no part below the top, and
 -- inside a packed list not the list
-abbrev pub StepGoesOn : Step → List Frame → Option ℕ → Type 0
-StepGoesOn step.Tag frames left = (frames ≡ []) ⊎ (left ≢ Some 0)
-StepGoesOn (step.Elements n k outer) frames left = left ≢ Some 0
-StepGoesOn (step.Varint n p) frames left = Unit {0}
-StepGoesOn (step.I64 n p) frames left = Unit {0}
-StepGoesOn (step.I32 n p) frames left = Unit {0}
-StepGoesOn (step.Length n p) frames left = Unit {0}
-StepGoesOn (step.Payload n p size) frames left = Unit {0}
+abbrev pub StepGoesOn : Step → List Parent → Option ℕ → Type 0
+StepGoesOn step.Tag parents left = (parents ≡ []) ⊎ (left ≢ Some 0)
+StepGoesOn (step.Elements n k outer) parents left = left ≢ Some 0
+StepGoesOn (step.Varint n p) parents left = Unit {0}
+StepGoesOn (step.I64 n p) parents left = Unit {0}
+StepGoesOn (step.I32 n p) parents left = Unit {0}
+StepGoesOn (step.Length n p) parents left = Unit {0}
+StepGoesOn (step.Payload n p size) parents left = Unit {0}
 
 -- nothing ends at the reader's position
 abbrev pub NothingEnds : State → Type 0
-NothingEnds s = StepGoesOn s.next s.frames (left_of s)
+NothingEnds s = StepGoesOn s.next s.parents (left_of s)
 
 -- a part below the top ends at a tag
 abbrev pub PartEnds : Reader → Type 0
-PartEnds r = (0 < vec_len r.frames) × (left_of (state_view r) ≡ Some 0)
+PartEnds r = (0 < vec_len r.parents) × (left_of (state_view r) ≡ Some 0)
 
 -- none does
 abbrev pub PartGoesOn : Reader → Type 0
-PartGoesOn r = (frames_view r.frames.items ≡ []) ⊎ (left_of (state_view r) ≢ Some 0)
+PartGoesOn r = (parents_view r.parents.items ≡ []) ⊎ (left_of (state_view r) ≢ Some 0)
 
 -- a packed list whose known end is reached is a whole record, and its part goes on to its own end
 abbrev pub EndsList : {A E : Type 0} → ℕ → Option ℕ → Reader → Reader → Result A E → Type 0

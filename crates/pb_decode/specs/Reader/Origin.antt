@@ -13,7 +13,7 @@ use Rattle.pb_schema.specs.Context.{a_message, schema_of}
 use Rattle.pb_value.specs.Data.{Message}
 use Rattle.pb_value.specs.Value.{value}
 use Rattle.pb_parts.specs.declared.tokens.step.Step.TheVariants as step
-use Rattle.pb_decode.specs.Reader.{State, here, Reads, Stops, Told}
+use Rattle.pb_decode.specs.Reader.{State, here, Reads, Stops, Reported}
 
 -- where a reader began: a message of a type with this many levels, onto what the base gives, at a place
 pub record Origin : Type 0 where
@@ -38,7 +38,7 @@ pub record TookFrom (pool : Types) (o : Origin) (s : State) (held : List ℕ) : 
 
 -- nothing is open but the message, which ends here
 pub record IsOverAt (s : State) (held : List ℕ) : Type 0 where
-  pub frames : s.frames ≡ []
+  pub parents : s.parents ≡ []
   pub next : s.next ≡ step.Tag
   pub over : IsOver (here s held)
 
@@ -58,5 +58,5 @@ abbrev pub BadFrom : Types → Origin → Fault → Type 0
 BadFrom pool o f = Bad (schema_of pool) (in_records (a_message o.kind)) o.depth o.place f
 
 -- and no more bytes change it
-abbrev pub ToldFrom : Types → Origin → Fault → Type 0
-ToldFrom pool o f = Told pool o.kind o.depth o.place f
+abbrev pub ReportedFrom : Types → Origin → Fault → Type 0
+ReportedFrom pool o f = Reported pool o.kind o.depth o.place f

@@ -7,7 +7,7 @@ use Rattle.pb_wire.specs.Limits.{Bounds}
 use Rattle.pb_schema.specs.Types.{Types}
 use Rattle.pb_decode.specs.declared.error.DecodeError.{DecodeError}
 use Rattle.pb_decode.specs.declared.push.Reading.{Reading}
-use Rattle.pb_decode.specs.Reader.{state_view, Reads, Stops, IfFault, Told}
+use Rattle.pb_decode.specs.Reader.{state_view, Reads, Stops, IfFault, Reported}
 use Rattle.pb_decode.specs.Reader.Origin.{Origin, TookFrom}
 use Rattle.pb_decode.specs.Push.{Took, TookSome}
 
@@ -50,4 +50,4 @@ TakesPiece pool old new piece result =
 abbrev pub TellsPieceFault : {A : Type 0} → Types → Reading → List ℕ → Result A DecodeError → Type 0
 TellsPieceFault pool old piece result =
     (m depth levels : ℕ) (base : List Record) (p0 : Place)
-    → Reads pool m depth levels base p0 (state_view old.reader) old.held.items → IfErr result (λ e. IfFault e (Told pool m depth (longer p0 piece)))
+    → Reads pool m depth levels base p0 (state_view old.reader) old.held.items → IfErr result (λ e. IfFault e (Reported pool m depth (longer p0 piece)))

@@ -14,14 +14,14 @@ use Rattle.pb_decode.specs.declared.reader.state.Reader.{Reader}
 use Rattle.pb_parts.specs.declared.tokens.number.Number.{Number}
 use Rattle.pb_parts.specs.declared.tokens.record_tag.RecordTag.{RecordTag}
 use Rattle.pb_parts.specs.declared.tokens.step.Step.TheVariants.{Tag, Elements}
-use Rattle.pb_parts.specs.Open.Frames.{CanHold}
+use Rattle.pb_parts.specs.Open.Parents.{CanHold}
 use Rattle.pb_parts.specs.Open.Openings.{innermost_group}
 use Rattle.pb_parts.specs.Open.PartView.{part_view}
 use Rattle.pb_parts.specs.Open.Targets.{Means, part_context}
 use Rattle.pb_parts.specs.Tokens.Number.{number_view}
 use Rattle.pb_parts.specs.Tokens.Numbers.{Follows}
 use Rattle.pb_parts.specs.Tokens.After.{tag, awaited}
-use Rattle.pb_decode.specs.Reader.{State, frames_view, state_view, here, IsReading, Reads, StandsAt, AfterAt, Stops, Taken, IfFault, Told}
+use Rattle.pb_decode.specs.Reader.{State, parents_view, state_view, here, IsReading, Reads, StandsAt, AfterAt, Stops, Taken, IfFault, Reported}
 
 -- these bytes begin with a tag of this many bytes
 abbrev pub HasTagHere : State → List ℕ → ℕ → ℕ → ℕ → Type 0
@@ -39,13 +39,13 @@ pub record IsAtTag (pool : Types) (reader : Reader) (rest : List ℕ) (tag : Rec
 abbrev pub TellsFault : {A : Type 0} → Types → Reader → List ℕ → Result A DecodeError → Type 0
 TellsFault pool old rest result =
     (m depth levels : ℕ) (base : List Record) (p0 : Place)
-    → Reads pool m depth levels base p0 (state_view old) rest → IfErr result (λ e. IfFault e (Told pool m depth p0))
+    → Reads pool m depth levels base p0 (state_view old) rest → IfErr result (λ e. IfFault e (Reported pool m depth p0))
 
 -- and does so whatever bytes follow
 abbrev pub TellsFaultAnyway : {A : Type 0} → Types → Reader → Result A DecodeError → Type 0
 TellsFaultAnyway pool old result =
     (m depth levels : ℕ) (base : List Record) (p0 : Place) (rest : List ℕ)
-    → Reads pool m depth levels base p0 (state_view old) rest → IfErr result (λ e. IfFault e (Told pool m depth p0))
+    → Reads pool m depth levels base p0 (state_view old) rest → IfErr result (λ e. IfFault e (Reported pool m depth p0))
 
 -- ---- what is taken
 -- what comes next is taken, or none where the bytes end too early
@@ -97,7 +97,7 @@ abbrev pub TellsPayloadFault : {A : Type 0} → Types → Reader → List ℕ �
 TellsPayloadFault pool old bytes result =
     (m depth levels : ℕ) (base : List Record) (p0 w : Place) (rest : List ℕ)
     → Reads pool m depth levels base p0 (state_view old) rest → Moves (here (state_view old) rest) bytes w
-    → IfErr result (λ e. IfFault e (Told pool m depth p0))
+    → IfErr result (λ e. IfFault e (Reported pool m depth p0))
 
 -- the list goes on after an element
 abbrev pub GoesOnAfterElement : {A E : Type 0} → Types → Reader → Reader → ℕ → Kind → Number → Result A E → Type 0
@@ -117,7 +117,7 @@ abbrev pub TellsTagFault : {A : Type 0} → Types → Reader → ℕ → ℕ →
 TellsTagFault pool old number type size result =
     (m depth levels : ℕ) (base : List Record) (p0 : Place) (rest : List ℕ)
     → Reads pool m depth levels base p0 (state_view old) rest → HasTagHere (state_view old) rest number type size
-    → IfErr result (λ e. IfFault e (Told pool m depth p0))
+    → IfErr result (λ e. IfFault e (Reported pool m depth p0))
 
 -- the same of a tag that is a number so far
 abbrev pub PassesTagNumber : {A : Type 0} → Types → Reader → Reader → ℕ → ℕ → Result A DecodeError → Type 0
@@ -130,7 +130,7 @@ abbrev pub TellsTagNumberFault : {A : Type 0} → Types → Reader → ℕ → �
 TellsTagNumberFault pool old n size result =
     (m depth levels : ℕ) (base : List Record) (p0 : Place) (rest : List ℕ)
     → Reads pool m depth levels base p0 (state_view old) rest → HasNumber (here (state_view old) rest) n (passed (here (state_view old) rest) size)
-    → IfErr result (λ e. IfFault e (Told pool m depth p0))
+    → IfErr result (λ e. IfFault e (Reported pool m depth p0))
 
 -- the group is open that its first tag begins, by what its record is for
 abbrev pub EntersGroup : {A E : Type 0} → Reader → Reader → ℕ → Target → ℕ → Result A E → Type 0
@@ -144,5 +144,5 @@ EntersGroup old new number meant size result =
 abbrev pub LeavesGroup : {A E : Type 0} → Types → Reader → Reader → ℕ → Result A E → Type 0
 LeavesGroup pool old new size result =
     (m depth levels number : ℕ) (base : List Record) (p0 : Place) (rest : List ℕ)
-    → Reads pool m depth levels base p0 (state_view old) rest → innermost_group (frames_view old.frames.items) ≡ Some number
+    → Reads pool m depth levels base p0 (state_view old) rest → innermost_group (parents_view old.parents.items) ≡ Some number
     → HasTagHere (state_view old) rest number 4 size → OnOk result (Reads pool m depth levels base p0 (state_view new) (drop size rest))

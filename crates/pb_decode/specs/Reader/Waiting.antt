@@ -5,24 +5,24 @@ use Rattle.pb_wire.specs.Exact.{IsOver}
 use Rattle.pb_schema.specs.Kinds.{wire_type_of}
 use Rattle.pb_parts.specs.declared.tokens.step.Step.{Step}
 use Rattle.pb_parts.specs.declared.tokens.step.Step.TheVariants as step
-use Rattle.pb_parts.specs.Open.Frames.{Frame}
+use Rattle.pb_parts.specs.Open.Parents.{Parent}
 use Rattle.pb_parts.specs.Tokens.Numbers.{IsCutVarint, IsCutNumber}
 use Rattle.pb_decode.specs.Reader.{State, here}
 
 -- With these frames around the part, what comes next at this place is not whole in the bytes that are given. Where a tag may come, the message may
 -- also be over.
-abbrev pub WaitsAt : Step → List Frame → Place → Type 0
-WaitsAt step.Tag frames p = IsCutVarint p ⊎ ((frames ≡ []) × IsOver p)
-WaitsAt (step.Varint n q) frames p = IsCutNumber 0 p
-WaitsAt (step.I64 n q) frames p = IsCutNumber 1 p
-WaitsAt (step.I32 n q) frames p = IsCutNumber 5 p
-WaitsAt (step.Length n q) frames p = IsCutVarint p
-WaitsAt (step.Payload n q size) frames p = length p.rest < size
-WaitsAt (step.Elements n k outer) frames p = IsCutNumber (wire_type_of k) p
+abbrev pub WaitsAt : Step → List Parent → Place → Type 0
+WaitsAt step.Tag parents p = IsCutVarint p ⊎ ((parents ≡ []) × IsOver p)
+WaitsAt (step.Varint n q) parents p = IsCutNumber 0 p
+WaitsAt (step.I64 n q) parents p = IsCutNumber 1 p
+WaitsAt (step.I32 n q) parents p = IsCutNumber 5 p
+WaitsAt (step.Length n q) parents p = IsCutVarint p
+WaitsAt (step.Payload n q size) parents p = length p.rest < size
+WaitsAt (step.Elements n k outer) parents p = IsCutNumber (wire_type_of k) p
 
 -- more bytes are wanted after these
 abbrev pub Waits : State → List ℕ → Type 0
-Waits s rest = WaitsAt s.next s.frames (here s rest)
+Waits s rest = WaitsAt s.next s.parents (here s rest)
 
 -- how many packed lists are open where this comes next
 abbrev pub lists_in : Step → ℕ

@@ -3,35 +3,35 @@
 ghost use Rattle.std.specs.Prelude.{◌≡◌, ◌∷◌, [], map, IfOk, IfSome, IfNone};
 ghost use Rattle.pb_wire.specs.Fault.{fault as fault_of};
 ghost use Rattle.pb_wire.specs.declared.fault.Cause.TheVariants.{InputTooLarge};
-ghost use Rattle.pb_parts.specs.Open.Frames.{next_step, Scope as ScopeView};
+ghost use Rattle.pb_parts.specs.Open.Parents.{next_step, Scope as ScopeView};
 ghost use Rattle.pb_parts.specs.Open.PartView.{scope_view};
 ghost use Rattle.pb_decode.specs.Reader.{state_view, own_step, path_here as steps_here, IfFault, path_inside as steps_inside};
 
 use crate::error::DecodeError;
 use crate::reader::state::Reader;
 use pb_parts::error::NoMemory;
-use pb_parts::open::part::Frame;
+use pb_parts::open::part::Parent;
 use pb_parts::tokens::step::Step;
 use pb_wire::{Cause, PathStep};
 use std::alloc::Global;
 
 /// The step into the record that is open in a part.
-fn frame_step(frame: &Frame) -> PathStep
-    ensures { result ≡ next_step frame.now.number (scope_view frame.now.scope) }
+fn parent_step(parent: &Parent) -> PathStep
+    ensures { result ≡ next_step parent.now.number (scope_view parent.now.scope) }
 {
     PathStep {
-        number: frame.number,
-        occurrence: frame.scope.occurrences.count(frame.number),
+        number: parent.number,
+        occurrence: parent.scope.occurrences.count(parent.number),
     }
 }
 
 /// The steps to the innermost part, outermost first.
-fn frame_steps(alloc: Global, frames: &[Frame]) -> Result<Vec<PathStep>, NoMemory>
-    ensures { IfOk result (λ v. v.items ≡ map (λ f. next_step f.number (scope_view f.scope)) frames.now) }
+fn parent_steps(alloc: Global, parents: &[Parent]) -> Result<Vec<PathStep>, NoMemory>
+    ensures { IfOk result (λ v. v.items ≡ map (λ f. next_step f.number (scope_view f.scope)) parents.now) }
 {
     let mut steps = Vec::new(alloc);
-    for frame in frames {
-        steps.push(frame_step(frame))?;
+    for parent in parents {
+        steps.push(parent_step(parent))?;
     }
     Ok(steps)
 }
@@ -56,7 +56,7 @@ fn begun_number(step: Step) -> Option<u32>
 fn path_inside(alloc: Global, reader: &Reader, number: u32) -> Result<Vec<PathStep>, NoMemory>
     ensures { IfOk result (λ v. v.items ≡ steps_inside (state_view reader.now) number) }
 {
-    let mut path = frame_steps(alloc, &reader.frames)?;
+    let mut path = parent_steps(alloc, &reader.parents)?;
     let occurrence = reader.scope.occurrences.count(number);
     path.push(PathStep { number, occurrence })?;
     Ok(path)
@@ -68,7 +68,7 @@ fn path_here(alloc: Global, reader: &Reader) -> Result<Vec<PathStep>, NoMemory>
 {
     match begun_number(reader.step) {
         None => {
-            let path = frame_steps(alloc, &reader.frames)?;
+            let path = parent_steps(alloc, &reader.parents)?;
             Ok(path)
         }
         Some(number) => {

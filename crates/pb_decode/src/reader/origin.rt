@@ -8,11 +8,11 @@ ghost use Rattle.pb_value.specs.Data.{Message};
 ghost use Rattle.pb_value.specs.Value.{value};
 ghost use Rattle.pb_value.specs.View.{body_view};
 ghost use Rattle.pb_value.specs.WellFormed.{IsWellFormed};
-ghost use Rattle.pb_parts.specs.Open.Frames.{message_part};
+ghost use Rattle.pb_parts.specs.Open.Parents.{message_part};
 ghost use Rattle.pb_parts.specs.Open.PartView.{part_view};
 ghost use Rattle.pb_decode.specs.Reader.{state_view, IfFault};
 ghost use Rattle.pb_decode.specs.Reader.Waiting.{Waits};
-ghost use Rattle.pb_decode.specs.Reader.Origin.{Origin, origin, further, IsOverAt, IsWhole, BadFrom, ToldFrom};
+ghost use Rattle.pb_decode.specs.Reader.Origin.{Origin, origin, further, IsOverAt, IsWhole, BadFrom, ReportedFrom};
 ghost use Rattle.pb_decode.specs.Reader.Pieces.{received, ReadFrom};
 
 use crate::error::DecodeError;
@@ -43,7 +43,7 @@ pub(crate) fn begin_at(
         → body_view body ≡ value pool message_type.0 base → ReadFrom pool (origin message_type.0 depth_left base end) result }
 {
     let occurrences = Occurrences::new(alloc);
-    let frames = Vec::new(alloc);
+    let parents = Vec::new(alloc);
     let held = Vec::new(alloc);
     Reading {
         reader: Reader {
@@ -54,7 +54,7 @@ pub(crate) fn begin_at(
                 end,
                 occurrences,
             },
-            frames,
+            parents,
             step: Step::Tag,
         },
         held,
@@ -90,7 +90,7 @@ pub(crate) fn take_onward(
     requires small { received reading.old + length piece.now < 2 ^ 31 }
     ensures at { OnOk result (received reading.new ≡ received reading.old + length piece.now) }
     ensures took { (o : Origin) → ReadFrom pool.now o reading.old → OnOk result (ReadFrom pool.now (further o piece.now) reading.new) }
-    ensures fault { (o : Origin) → ReadFrom pool.now o reading.old → IfErr result (λ e. IfFault e (ToldFrom pool.now (further o piece.now))) }
+    ensures fault { (o : Origin) → ReadFrom pool.now o reading.old → IfErr result (λ e. IfFault e (ReportedFrom pool.now (further o piece.now))) }
 {
     take_piece(alloc, pool, reading, piece)
 }
@@ -105,7 +105,7 @@ fn is_over(reading: &Reading) -> bool
         Some(left) => left == 0,
     };
     match reading.reader.step {
-        Step::Tag => reading.reader.frames.is_empty() && ends,
+        Step::Tag => reading.reader.parents.is_empty() && ends,
         _ => false,
     }
 }

@@ -3,15 +3,15 @@
 ghost use Rattle.std.specs.Prelude.{◌≡◌, ◌+◌, ◌≤◌, ◌<◌, ◌^◌, ◌∷◌, OnOk};
 ghost use Rattle.pb_parts.specs.declared.open.target.Target.TheVariants as targets;
 ghost use Rattle.pb_parts.specs.declared.tokens.step.Step.TheVariants as steps;
-ghost use Rattle.pb_parts.specs.Open.PartView.{frame_view};
+ghost use Rattle.pb_parts.specs.Open.PartView.{parent_view};
 ghost use Rattle.pb_parts.specs.Values.PayloadValue.{IsBytesTarget};
-ghost use Rattle.pb_decode.specs.Reader.{frames_view, weight};
+ghost use Rattle.pb_decode.specs.Reader.{parents_view, weight};
 ghost use Rattle.pb_decode.specs.Reader.Lengths.{PassesLength, PassesLengthAlone};
 
 use crate::reader::state::Reader;
 use pb_parts::error::NoMemory;
 use pb_parts::open::opening::{open_entry, open_message};
-use pb_parts::open::part::{Frame, Slot};
+use pb_parts::open::part::{Parent, Slot};
 use pb_parts::open::target::Target;
 use pb_parts::tokens::begin::{begin_list, begin_payload};
 use pb_parts::tokens::step::Step;
@@ -20,14 +20,14 @@ use std::alloc::Global;
 
 /// What is opened is the innermost part, which begins here; this is the frame of its parent.
 #[inline(always)]
-pub(crate) fn enter(reader: &mut Reader, frame: Frame, at: u32) -> Result<(), NoMemory>
+pub(crate) fn enter(reader: &mut Reader, parent: Parent, at: u32) -> Result<(), NoMemory>
     ensures at { OnOk result (reader.new.at ≡ at) }
     ensures step { OnOk result (reader.new.step ≡ steps.Tag) }
     ensures part { OnOk result (reader.new.part ≡ reader.old.part) }
     ensures scope { OnOk result (reader.new.scope ≡ reader.old.scope) }
-    ensures frames { OnOk result (frames_view reader.new.frames.items ≡ frame_view frame ∷ frames_view reader.old.frames.items) }
+    ensures parents { OnOk result (parents_view reader.new.parents.items ≡ parent_view parent ∷ parents_view reader.old.parents.items) }
 {
-    reader.frames.push(frame)?;
+    reader.parents.push(parent)?;
     reader.at = at;
     reader.step = Step::Tag;
     Ok(())
@@ -50,7 +50,7 @@ fn pass_message(
     ensures reads { PassesLength number (targets.Message message_type slot) begin size reader.old reader.new result }
 {
     let end = begin + size;
-    let frame = open_message(
+    let parent = open_message(
         alloc,
         &mut reader.part,
         &mut reader.scope,
@@ -59,7 +59,7 @@ fn pass_message(
         slot,
         end,
     );
-    enter(reader, frame, begin)?;
+    enter(reader, parent, begin)?;
     Ok(())
 }
 
@@ -79,7 +79,7 @@ fn pass_entry(
     ensures step { OnOk result (weight reader.new.step ≡ 0) }
     ensures reads { PassesLength number (targets.Entry key_kind value_kind) begin size reader.old reader.new result }
 {
-    let frame = open_entry(
+    let parent = open_entry(
         alloc,
         &mut reader.part,
         &mut reader.scope,
@@ -88,7 +88,7 @@ fn pass_entry(
         value_kind,
         begin + size,
     );
-    enter(reader, frame, begin)?;
+    enter(reader, parent, begin)?;
     Ok(())
 }
 

@@ -3,7 +3,7 @@
 ghost use Rattle.std.specs.Prelude.{◌≡◌, ◌⊎◌, ◌+◌, ◌-◌, ◌<◌, ◌≤◌, ◌^◌, Some, drop, length, OnOk, IfOk, IfNone};
 ghost use Rattle.pb_schema.specs.Rules.{IsPool};
 ghost use Rattle.pb_parts.specs.declared.tokens.step.Step.TheVariants.{Tag};
-ghost use Rattle.pb_parts.specs.Open.Frames.{CanHold};
+ghost use Rattle.pb_parts.specs.Open.Parents.{CanHold};
 ghost use Rattle.pb_parts.specs.Open.Occurrences.{counts_view};
 ghost use Rattle.pb_parts.specs.Open.PartView.{part_view};
 ghost use Rattle.pb_parts.specs.Tokens.After.{tag, awaited};
@@ -17,7 +17,7 @@ use crate::reader::fault::fault_at;
 use crate::reader::take_next::take_next;
 use pb_parts::close::put::count_one;
 use pb_parts::error::NoMemory;
-use pb_parts::open::part::{Frame, Part, Scope};
+use pb_parts::open::part::{Parent, Part, Scope};
 use pb_parts::open::target::Target;
 use pb_parts::tokens::number::Number;
 use pb_parts::tokens::number_token::{NumberToken, number_at};
@@ -35,7 +35,7 @@ pub(crate) struct Reader {
     pub part: Part,
     pub scope: Scope,
     /// The parts around it, outermost first.
-    pub frames: Vec<Frame>,
+    pub parents: Vec<Parent>,
     pub step: Step,
 }
 

@@ -5,7 +5,7 @@ ghost use Rattle.pb_schema.specs.Rules.{IsPool};
 ghost use Rattle.pb_parts.specs.declared.tokens.step.Step.TheVariants.{Tag};
 ghost use Rattle.pb_parts.specs.Open.Occurrences.{counts_view};
 ghost use Rattle.pb_parts.specs.Open.Openings.{innermost_group};
-ghost use Rattle.pb_decode.specs.Reader.{state_view, frames_view, left_of, IsReading, weight};
+ghost use Rattle.pb_decode.specs.Reader.{state_view, parents_view, left_of, IsReading, weight};
 ghost use Rattle.pb_decode.specs.Reader.Ended.{NothingEnds};
 ghost use Rattle.pb_decode.specs.Reader.Steps.{TellsFaultAnyway, KeepsReading};
 ghost use Rattle.pb_decode.specs.Reader.Ended.{PartEnds, PartGoesOn, EndsList};
@@ -17,7 +17,7 @@ use crate::reader::take_tag::innermost;
 use pb_parts::close::closing::close_entry;
 use pb_parts::close::put::{close_message, count_one};
 use pb_parts::error::NoMemory;
-use pb_parts::open::part::{Frame, Part};
+use pb_parts::open::part::{Parent, Part};
 use pb_parts::tokens::step::Step;
 use pb_schema::Pool;
 use pb_wire::Cause;
@@ -37,7 +37,7 @@ fn is_at_end(reader: &Reader) -> bool
 fn part_ends(reader: &Reader) -> bool
     ensures { MatchBool result (PartEnds reader.now) (PartGoesOn reader.now) }
 {
-    !reader.frames.is_empty() && is_at_end(reader)
+    !reader.parents.is_empty() && is_at_end(reader)
 }
 
 /// A packed list whose known end is reached is a whole record of its part, which goes on to its own end.
@@ -57,23 +57,23 @@ fn close_innermost(alloc: Global, pool: &Pool, reader: &mut Reader) -> Result<()
     requires rules { IsPool pool.now }
     requires reading { (rest : List ℕ) × IsReading pool.now (state_view reader.old) rest }
     requires tag { reader.old.step ≡ Tag }
-    requires inside { 0 < vec_len reader.old.frames }
+    requires inside { 0 < vec_len reader.old.parents }
     requires ends { left_of (state_view reader.old) ≡ Some 0 }
-    requires no_group { innermost_group (frames_view reader.old.frames.items) ≡ None }
+    requires no_group { innermost_group (parents_view reader.old.parents.items) ≡ None }
     ensures at { OnOk result ((reader.new.at ≡ reader.old.at) × (reader.new.step ≡ Tag)) }
-    ensures fewer { OnOk result (vec_len reader.new.frames < vec_len reader.old.frames) }
+    ensures fewer { OnOk result (vec_len reader.new.parents < vec_len reader.old.parents) }
     ensures taken { KeepsReading pool.now reader.old reader.new result }
 {
-    let Some(frame) = reader.frames.pop() else {
+    let Some(parent) = reader.parents.pop() else {
         unreachable!();
     };
-    let Frame {
+    let Parent {
         part,
         number,
         slot,
         group: _,
         scope,
-    } = frame;
+    } = parent;
     let inner = mem::replace(&mut reader.part, part);
     reader.scope = scope;
     let outer = &mut reader.part;
@@ -102,7 +102,7 @@ fn close_ended(alloc: Global, pool: &Pool, reader: &mut Reader) -> Result<(), De
     ensures refused { TellsFaultAnyway pool.now reader.old result }
 {
     while part_ends(reader) {
-        if innermost(&reader.frames).is_some() {
+        if innermost(&reader.parents).is_some() {
             return Err(fault_at(alloc, reader, reader.at, Cause::PastEnd));
         }
         close_innermost(alloc, pool, reader)?;

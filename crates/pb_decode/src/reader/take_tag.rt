@@ -4,10 +4,10 @@ ghost use Rattle.std.specs.Prelude.{◌≡◌, ◌≢◌, ◌⊎◌, ◌+◌, �
 ghost use Rattle.pb_schema.specs.Types.{Types};
 ghost use Rattle.pb_schema.specs.Rules.{IsPool};
 ghost use Rattle.pb_parts.specs.declared.tokens.step.Step.TheVariants.{Tag};
-ghost use Rattle.pb_parts.specs.Open.Frames.{CanHold};
+ghost use Rattle.pb_parts.specs.Open.Parents.{CanHold};
 ghost use Rattle.pb_parts.specs.Open.PartView.{part_view};
 ghost use Rattle.pb_parts.specs.Open.Openings.{innermost_group};
-ghost use Rattle.pb_decode.specs.Reader.{state_view, frames_view, IsReading, Passes};
+ghost use Rattle.pb_decode.specs.Reader.{state_view, parents_view, IsReading, Passes};
 ghost use Rattle.pb_decode.specs.Reader.Waiting.{Waits};
 ghost use Rattle.pb_decode.specs.Reader.Ended.{NothingEnds};
 ghost use Rattle.pb_decode.specs.Reader.Steps.{TellsFault, TakesNext, PassesTag, TellsTagFault, PassesTagNumber, TellsTagNumberFault, EntersGroup, LeavesGroup};
@@ -20,7 +20,7 @@ use pb_parts::close::closing::close_group;
 use pb_parts::close::put::close_message;
 use pb_parts::error::NoMemory;
 use pb_parts::open::opening::open_group;
-use pb_parts::open::part::{Frame, Part};
+use pb_parts::open::part::{Parent, Part};
 use pb_parts::open::target::{Target, target_of};
 use pb_parts::tokens::prefix::prefix_number;
 use pb_parts::tokens::tag::{group_end, group_refusal, tag_parts};
@@ -32,11 +32,11 @@ use std::mem;
 
 /// The number of the group that is open innermost, if an end tag ends the open part there.
 #[inline(always)]
-pub(crate) fn innermost(frames: &[Frame]) -> Option<u32>
-    ensures { result ≡ innermost_group (frames_view frames.now) }
+pub(crate) fn innermost(parents: &[Parent]) -> Option<u32>
+    ensures { result ≡ innermost_group (parents_view parents.now) }
 {
-    match frames.last() {
-        Some(frame) if frame.group => Some(frame.number),
+    match parents.last() {
+        Some(parent) if parent.group => Some(parent.number),
         _ => None,
     }
 }
@@ -93,8 +93,8 @@ pub(crate) fn enter_group(
     ensures reads { EntersGroup reader.old reader.new number meant size result }
 {
     let begin = reader.at + size as u32;
-    let frame = open_group(alloc, &mut reader.part, &mut reader.scope, number, meant);
-    enter(reader, frame, begin)?;
+    let parent = open_group(alloc, &mut reader.part, &mut reader.scope, number, meant);
+    enter(reader, parent, begin)?;
     Ok(())
 }
 
@@ -131,22 +131,22 @@ pub(crate) fn leave_group(
 ) -> Result<(), NoMemory>
     requires reading { (rest : List ℕ) × IsReading pool.now (state_view reader.old) rest }
     requires step { reader.old.step ≡ Tag }
-    requires group { (number : ℕ) × (innermost_group (frames_view reader.old.frames.items) ≡ Some number) }
+    requires group { (number : ℕ) × (innermost_group (parents_view reader.old.parents.items) ≡ Some number) }
     requires fits { reader.old.at + size < 2 ^ 32 }
     ensures at { OnOk result (reader.new.at ≡ reader.old.at + size) }
     ensures step { OnOk result (reader.new.step ≡ Tag) }
     ensures reads { LeavesGroup pool.now reader.old reader.new size result }
 {
-    let Some(frame) = reader.frames.pop() else {
+    let Some(parent) = reader.parents.pop() else {
         unreachable!();
     };
-    let Frame {
+    let Parent {
         part,
         number,
         slot,
         group: _,
         scope,
-    } = frame;
+    } = parent;
     let inner = mem::replace(&mut reader.part, part);
     reader.scope = scope;
     reader.at += size as u32;
@@ -180,7 +180,7 @@ fn pass_group_end(
     ensures reads { PassesTag pool.now reader.old reader.new number 4 size result }
     ensures refused { TellsTagFault pool.now reader.old number 4 size result }
 {
-    match group_end(innermost(&reader.frames), number) {
+    match group_end(innermost(&reader.parents), number) {
         Ok(()) => {
             leave_group(alloc, pool, reader, size)?;
             Ok(())

@@ -226,7 +226,7 @@ fn take_group_end(
     ensures none { IfOk result (λ o. IfNone o (reader.new ≡ reader.old)) }
     ensures taken { TakesWhole pool.now reader.old reader.new bytes.now result }
 {
-    match group_end(innermost(&reader.frames), tag.number) {
+    match group_end(innermost(&reader.parents), tag.number) {
         Ok(()) => {
             leave_group(alloc, pool, reader, tag.size)?;
             Ok(Some(tag.size))

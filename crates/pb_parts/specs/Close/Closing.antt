@@ -7,14 +7,14 @@ use Rattle.pb_value.specs.Data.{fields_of, get_field}
 use Rattle.pb_value.specs.Change.{entries_of, FitsKeys}
 use Rattle.pb_parts.specs.declared.open.part.Slot.{Slot}
 use Rattle.pb_parts.specs.declared.open.part.Slot.TheVariants as slot
-use Rattle.pb_parts.specs.Open.Frames.{Part, message_part, entry_part, group_part}
+use Rattle.pb_parts.specs.Open.Parents.{Part, message_part, entry_part, group_part}
 
 -- an entry with this key, or with none, can go into the slot: the keys that are in the map are of one kind with it
-abbrev pub HasRoomFor : Slot → Part → Kind → Option Scalar → Type 0
-HasRoomFor (slot.Map n) (message_part m v) key x = FitsKeys (unwrap_or x (default_of key)) (entries_of (get_field n (fields_of v)))
-HasRoomFor (slot.Map n) (entry_part k v y d) key x = Unit {0}
-HasRoomFor (slot.Map n) (group_part us) key x = Unit {0}
-HasRoomFor (slot.One s n) p key x = Unit {0}
-HasRoomFor (slot.List n) p key x = Unit {0}
-HasRoomFor slot.Entry p key x = Unit {0}
-HasRoomFor (slot.Unknown n) p key x = Unit {0}
+abbrev pub FitsSlot : Slot → Part → Kind → Option Scalar → Type 0
+FitsSlot (slot.Map n) (message_part m v) key x = FitsKeys (unwrap_or x (default_of key)) (entries_of (get_field n (fields_of v)))
+FitsSlot (slot.Map n) (entry_part k v y d) key x = Unit {0}
+FitsSlot (slot.Map n) (group_part us) key x = Unit {0}
+FitsSlot (slot.One s n) p key x = Unit {0}
+FitsSlot (slot.List n) p key x = Unit {0}
+FitsSlot slot.Entry p key x = Unit {0}
+FitsSlot (slot.Unknown n) p key x = Unit {0}

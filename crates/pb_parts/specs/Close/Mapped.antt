@@ -9,7 +9,7 @@ use Rattle.pb_value.specs.WellFormed.{RisesFrom}
 use Rattle.pb_value.specs.View.{key_view, value_view}
 use Rattle.pb_value.specs.declared.body.MapKey.{MapKey}
 use Rattle.pb_value.specs.declared.body.Value.{Value}
-use Rattle.pb_parts.specs.Open.Frames.{Part, message_part, entry_part, group_part}
+use Rattle.pb_parts.specs.Open.Parents.{Part, message_part, entry_part, group_part}
 
 -- the keys and values of entries
 abbrev pub pairs_view : List (MapKey × Value) → List (Scalar × Datum)

@@ -9,7 +9,7 @@ use Rattle.pb_wire.specs.Sound.{AllSound}
 use Rattle.pb_wire.specs.Grammar.{payload_at}
 
 -- these whole sound records of the open part lead from p to q
-pub record Behind (S : Schema) (o : Open S.Context) (depth_left : ℕ) (p : Place) (rs : List Record) (q : Place) : Type 0 where
+pub record SoFar (S : Schema) (o : Open S.Context) (depth_left : ℕ) (p : Place) (rs : List Record) (q : Place) : Type 0 where
   pub front : List ℕ
   pub spelled : AreRecords rs front
   pub sound : AllSound S (context_of o) depth_left rs
@@ -34,7 +34,7 @@ pub data Opened (S : Schema) (top : Open S.Context) (depth : ℕ) (p0 : Place) :
       {o : Open S.Context} {depth_left : ℕ} {path : List PathStep} {p : Place} → o ≡ top → depth_left ≡ depth → path ≡ [] → p ≡ p0 → Opened S top depth p0 o depth_left path p
   inner :
       {o a : Open S.Context} {depth_left below k : ℕ} {path steps : List PathStep} {p q u : Place} {rs : List Record}
-      → Opened S top depth p0 a depth_left steps p → Behind S a depth_left p rs q → Begun S a depth_left k q o below u
+      → Opened S top depth p0 a depth_left steps p → SoFar S a depth_left p rs q → Begun S a depth_left k q o below u
       → path ≡ steps ++ step k rs ∷ [] → Opened S top depth p0 o below path u
 
 -- the fault of the open part, as the fault of the whole

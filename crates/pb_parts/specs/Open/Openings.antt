@@ -4,7 +4,7 @@ use Rattle.pb_value.specs.Data.{Datum, scalar, message, Holding, one, list, map,
 use Rattle.pb_value.specs.Change.{with_fields}
 use Rattle.pb_parts.specs.declared.open.part.Slot.{Slot}
 use Rattle.pb_parts.specs.declared.open.part.Slot.TheVariants as slot
-use Rattle.pb_parts.specs.Open.Frames.{Part, message_part, entry_part, group_part, Frame}
+use Rattle.pb_parts.specs.Open.Parents.{Part, message_part, entry_part, group_part, Parent}
 
 -- the message that a value is; no value, or another one, goes on from the empty message
 abbrev pub message_given : Option Datum → Message
@@ -52,6 +52,6 @@ depth_left_in (slot.Map n) depth_left = depth_left - 1
 depth_left_in (slot.Unknown n) depth_left = depth_left - 1
 
 -- the number of the group that is open innermost, if an end tag ends the open part there
-abbrev pub innermost_group : List Frame → Option ℕ
+abbrev pub innermost_group : List Parent → Option ℕ
 innermost_group [] = None
-innermost_group (frame ∷ frames) = if frame.group then Some frame.number else None
+innermost_group (parent ∷ parents) = if parent.group then Some parent.number else None

@@ -10,7 +10,7 @@ use Rattle.pb_schema.specs.Context.{Context, a_message, an_entry, unknown_group}
 use Rattle.pb_parts.specs.declared.open.part.Slot.TheVariants as slot
 use Rattle.pb_parts.specs.declared.open.target.Target.{Target}
 use Rattle.pb_parts.specs.declared.open.target.Target.TheVariants as target
-use Rattle.pb_parts.specs.Open.Frames.{Part, message_part, entry_part, group_part}
+use Rattle.pb_parts.specs.Open.Parents.{Part, message_part, entry_part, group_part}
 
 abbrev pub IsList : Shape → Type 0
 IsList (shape.List p) = Unit {0}

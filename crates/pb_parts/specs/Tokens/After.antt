@@ -18,7 +18,7 @@ use Rattle.pb_parts.specs.declared.open.target.Target.{Target}
 use Rattle.pb_parts.specs.declared.open.target.Target.TheVariants as target
 use Rattle.pb_parts.specs.declared.tokens.step.Step.{Step}
 use Rattle.pb_parts.specs.declared.tokens.step.Step.TheVariants as step
-use Rattle.pb_parts.specs.Open.Frames.{Part, message_part, Scope, Frame, EndsAt, Stands}
+use Rattle.pb_parts.specs.Open.Parents.{Part, message_part, Scope, Parent, EndsAt, Stands}
 use Rattle.pb_parts.specs.Open.Targets.{Means, part_context}
 use Rattle.pb_parts.specs.Values.PayloadValue.{IsBytesTarget}
 use Rattle.pb_parts.specs.Values.Put.{with_record}
@@ -115,10 +115,10 @@ pub data Underway (pool : Types) (depth_left : ℕ) (v : Part) (q : Place) : Ste
 -- These frames and this part are what there is of the bytes from p0 on, and the reader is at u, where `next` comes. The scope is that of the part; inside
 -- a packed list its end is the list's.
 pub record After
-    (pool : Types) (m depth levels : ℕ) (base : List Record) (p0 : Place) (frames : List Frame) (next : Step) (now : Part) (scope : Scope)
+    (pool : Types) (m depth levels : ℕ) (base : List Record) (p0 : Place) (parents : List Parent) (next : Step) (now : Part) (scope : Scope)
     (u : Place) : Type 0 where
   pub before : Part
   pub place : Place
-  pub stands : Stands pool m depth levels base p0 frames before (part_scope next scope) place
+  pub stands : Stands pool m depth levels base p0 parents before (part_scope next scope) place
   pub begun : Underway pool scope.depth_left before place next now u
   pub ends : EndsAt u scope.end

@@ -8,7 +8,7 @@ use Rattle.pb_value.specs.Data.{Datum, scalar, Message, message, one, body, fiel
 use Rattle.pb_value.specs.Change.{stored_at, push_at, with_fields}
 use Rattle.pb_parts.specs.declared.open.target.Target.{Target}
 use Rattle.pb_parts.specs.declared.open.target.Target.TheVariants as target
-use Rattle.pb_parts.specs.Open.Frames.{Part, message_part, entry_part, group_part}
+use Rattle.pb_parts.specs.Open.Parents.{Part, message_part, entry_part, group_part}
 
 -- the kind of the scalar that a record gives
 abbrev pub scalar_kind : Target → Option Kind

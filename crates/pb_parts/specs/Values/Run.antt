@@ -6,7 +6,7 @@ use Rattle.pb_value.specs.Data.{Datum, Message, body, fields_of, unknown_of}
 use Rattle.pb_value.specs.View.{value_view}
 use Rattle.pb_value.specs.Change.{push_at, push_each, with_fields}
 use Rattle.pb_parts.specs.declared.values.run.Run.{Run}
-use Rattle.pb_parts.specs.Open.Frames.{Part, message_part, entry_part, group_part}
+use Rattle.pb_parts.specs.Open.Parents.{Part, message_part, entry_part, group_part}
 
 -- a value at the end of the list of number n of a part
 abbrev pub put_listed : ℕ → Datum → Part → Part

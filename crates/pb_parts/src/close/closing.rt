@@ -7,8 +7,8 @@ ghost use Rattle.pb_schema.specs.Kinds.{default_of, is_key_kind};
 ghost use Rattle.pb_value.specs.View.{key_view, value_view};
 ghost use Rattle.pb_value.specs.Value.{missing};
 ghost use Rattle.pb_value.specs.Data.{empty};
-ghost use Rattle.pb_parts.specs.Open.Frames.{put_entry as put_entry_view, put_group as put_group_view, group_part};
-ghost use Rattle.pb_parts.specs.Close.Closing.{HasRoomFor};
+ghost use Rattle.pb_parts.specs.Open.Parents.{put_entry as put_entry_view, put_group as put_group_view, group_part};
+ghost use Rattle.pb_parts.specs.Close.Closing.{FitsSlot};
 ghost use Rattle.pb_parts.specs.Open.Occurrences.{counts_view};
 ghost use Rattle.pb_parts.specs.Open.PartView.{part_view, entry_view};
 ghost use Rattle.pb_parts.specs.Close.Closes.{ClosesAtEnd, ClosesAtTag};
@@ -82,7 +82,7 @@ pub fn value_or_missing(alloc: Global, kind: Kind, value: Option<Value>) -> Valu
 /// Puts an entry into the map of the part that holds it.
 pub fn put_entry(alloc: Global, slot: Slot, outer: &mut Part, entry: Entry) -> Result<(), NoMemory>
     requires key { IsTrue (is_key_kind entry.key_kind) }
-    requires fits { HasRoomFor slot (part_view outer.old) entry.key_kind (option_map key_view entry.key) }
+    requires fits { FitsSlot slot (part_view outer.old) entry.key_kind (option_map key_view entry.key) }
     ensures { OnOk result (part_view outer.new
         ≡ put_entry_view slot (part_view outer.old) entry.key_kind entry.value_kind (option_map key_view entry.key) (option_map value_view entry.value)) }
 {
@@ -133,7 +133,7 @@ pub fn close_entry(
     entry: Entry,
 ) -> Result<(), NoMemory>
     requires key { IsTrue (is_key_kind entry.key_kind) }
-    requires fits { HasRoomFor slot (part_view outer.old) entry.key_kind (option_map key_view entry.key) }
+    requires fits { FitsSlot slot (part_view outer.old) entry.key_kind (option_map key_view entry.key) }
     requires few { counts_view scope.old.occurrences number < 2 ^ 32 - 1 }
     ensures same_end { OnOk result (scope.new.end ≡ scope.old.end) }
     ensures stands { (pool : Types) → ClosesAtEnd pool number slot (entry_view entry) outer.old scope.old outer.new scope.new result }

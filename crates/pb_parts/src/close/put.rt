@@ -2,7 +2,7 @@
 
 ghost use Rattle.std.specs.Prelude.{◌≡◌, ◌<◌, ◌-◌, ◌^◌, OnOk};
 ghost use Rattle.pb_value.specs.View.{body_view};
-ghost use Rattle.pb_parts.specs.Open.Frames.{put_message as put_message_view, CanHold, message_part, one_more_in};
+ghost use Rattle.pb_parts.specs.Open.Parents.{put_message as put_message_view, CanHold, message_part, one_more_in};
 ghost use Rattle.pb_parts.specs.Open.PartView.{part_view, scope_view};
 ghost use Rattle.pb_parts.specs.Open.Occurrences.{counts_view};
 ghost use Rattle.pb_parts.specs.Close.Closes.{ClosesMessageAtEnd, ClosesMessageAtTag};
@@ -94,7 +94,7 @@ pub fn close_message(
     requires few { counts_view scope.old.occurrences number < 2 ^ 32 - 1 }
     ensures same_end { OnOk result (scope.new.end ≡ scope.old.end) }
     ensures stands { ClosesMessageAtEnd pool.now number slot (body_view message) outer.old scope.old outer.new scope.new result }
-    ensures behind { ClosesMessageAtTag pool.now number slot (body_view message) outer.old scope.old outer.new scope.new result }
+    ensures after { ClosesMessageAtTag pool.now number slot (body_view message) outer.old scope.old outer.new scope.new result }
 {
     put_message(alloc, pool, slot, outer, message)?;
     count_one(scope, number)?;

@@ -7,7 +7,7 @@ ghost use Rattle.pb_value.specs.Data.{fields_of};
 ghost use Rattle.pb_value.specs.Change.{with_fields, entries_of};
 ghost use Rattle.pb_value.specs.View.{body_view, content_view, entries_view};
 ghost use Rattle.pb_value.specs.WellFormed.{RisesFrom};
-ghost use Rattle.pb_parts.specs.Open.Frames.{message_part};
+ghost use Rattle.pb_parts.specs.Open.Parents.{message_part};
 ghost use Rattle.pb_parts.specs.Open.PartView.{part_view};
 ghost use Rattle.pb_parts.specs.Close.Mapped.{pairs_view, put_pairs, FitInTurn, insert_in_turn, insert_pairs, put_all_mapped, FitMapped, RisesIn};
 

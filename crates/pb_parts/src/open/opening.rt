@@ -11,7 +11,7 @@ ghost use Rattle.pb_parts.specs.Open.Openings.{message_given, message_held, take
 ghost use Rattle.pb_parts.specs.Open.Opens.{OpensAtLength, OpensAtTag};
 
 use crate::open::occurrences::Occurrences;
-use crate::open::part::{Entry, Frame, Part, Scope, Slot};
+use crate::open::part::{Entry, Parent, Part, Scope, Slot};
 use crate::open::target::Target;
 use pb_schema::{Kind, MessageId};
 use pb_value::parts::{empty_body, take_field};
@@ -132,14 +132,14 @@ pub fn open_message(
     message_type: MessageId,
     slot: Slot,
     end: u32,
-) -> Frame
+) -> Parent
     ensures { OpensAtLength number (target.Message message_type slot) end part.old scope.old result part.new scope.new }
 {
     let message = take_message(alloc, slot, part);
     let inner = new_scope(alloc, depth_left_in(slot, scope.depth_left), Some(end));
     let outer = mem::replace(part, Part::Message(message_type, message));
     let around = mem::replace(scope, inner);
-    Frame {
+    Parent {
         part: outer,
         number,
         slot,
@@ -158,7 +158,7 @@ pub fn open_entry(
     key_kind: Kind,
     value_kind: Kind,
     end: u32,
-) -> Frame
+) -> Parent
     ensures { OpensAtLength number (target.Entry key_kind value_kind) end part.old scope.old result part.new scope.new }
 {
     let inner = new_scope(alloc, scope.depth_left.saturating_sub(1), Some(end));
@@ -170,7 +170,7 @@ pub fn open_entry(
     });
     let outer = mem::replace(part, entry);
     let around = mem::replace(scope, inner);
-    Frame {
+    Parent {
         part: outer,
         number,
         slot: Slot::Map(number),
@@ -189,14 +189,14 @@ fn open_field_group(
     number: u32,
     message_type: MessageId,
     slot: Slot,
-) -> Frame
+) -> Parent
     ensures { OpensAtTag number (target.Message message_type slot) part.old scope.old result part.new scope.new }
 {
     let message = take_message(alloc, slot, part);
     let inner = new_scope(alloc, scope.depth_left.saturating_sub(1), scope.end);
     let outer = mem::replace(part, Part::Message(message_type, message));
     let around = mem::replace(scope, inner);
-    Frame {
+    Parent {
         part: outer,
         number,
         slot,
@@ -207,13 +207,13 @@ fn open_field_group(
 
 /// After the first tag of a group that is no field the group is open. Its end is known where that of its parent is.
 #[inline(always)]
-fn open_unknown_group(alloc: Global, part: &mut Part, scope: &mut Scope, number: u32) -> Frame
+fn open_unknown_group(alloc: Global, part: &mut Part, scope: &mut Scope, number: u32) -> Parent
     ensures { OpensAtTag number target.Unknown part.old scope.old result part.new scope.new }
 {
     let inner = new_scope(alloc, scope.depth_left.saturating_sub(1), scope.end);
     let outer = mem::replace(part, Part::Group(Vec::new(alloc)));
     let around = mem::replace(scope, inner);
-    Frame {
+    Parent {
         part: outer,
         number,
         slot: Slot::Unknown(number),
@@ -248,7 +248,7 @@ pub fn open_group(
     scope: &mut Scope,
     number: u32,
     meant: Target,
-) -> Frame
+) -> Parent
     ensures { OpensAtTag number meant part.old scope.old result part.new scope.new }
 {
     match message_slot(meant) {

@@ -50,7 +50,7 @@ pub struct Scope {
 
 /// A part in which another is open.
 #[derive(Drop)]
-pub struct Frame {
+pub struct Parent {
     pub part: Part,
     /// The number of the record that is open in it.
     pub number: u32,

@@ -3,7 +3,7 @@
 ghost use Rattle.std.specs.Prelude.{◌≡◌, true};
 ghost use Rattle.pb_schema.specs.Fits.{fits_type};
 ghost use Rattle.pb_schema.specs.View.{field_view};
-ghost use Rattle.pb_parts.specs.Open.Frames.{CanHold};
+ghost use Rattle.pb_parts.specs.Open.Parents.{CanHold};
 ghost use Rattle.pb_parts.specs.Open.PartView.{part_view};
 ghost use Rattle.pb_parts.specs.Open.Targets.{OfSingle, OfField, OfEntry, Means, part_context};
 

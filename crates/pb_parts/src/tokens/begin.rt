@@ -2,7 +2,7 @@
 
 ghost use Rattle.std.specs.Prelude.{◌≡◌, Some};
 ghost use Rattle.pb_parts.specs.declared.tokens.step.Step.TheVariants as steps;
-ghost use Rattle.pb_parts.specs.Tokens.Told.{BeginsList, BeginsPayload};
+ghost use Rattle.pb_parts.specs.Tokens.Reported.{BeginsList, BeginsPayload};
 
 use crate::open::part::Scope;
 use crate::open::target::Target;

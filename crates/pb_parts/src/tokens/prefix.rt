@@ -3,7 +3,7 @@
 ghost use Rattle.std.specs.Prelude.{◌≢◌, ℕ, IfOk, IfErr, IfSome, IfNone};
 ghost use Rattle.pb_wire.specs.Token.{given_at};
 ghost use Rattle.pb_wire.specs.declared.fault.Cause.TheVariants.{Truncated};
-ghost use Rattle.pb_parts.specs.Tokens.Told.{IsNumberAt, RefusesTagBytes, RefusesLengthBytes};
+ghost use Rattle.pb_parts.specs.Tokens.Reported.{IsNumberAt, RefusesTagBytes, RefusesLengthBytes};
 ghost use Rattle.pb_parts.specs.Tokens.Numbers.{IsCutVarint};
 
 use pb_wire::Cause;

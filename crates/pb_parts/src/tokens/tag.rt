@@ -3,8 +3,8 @@
 ghost use Rattle.std.specs.Prelude.{◌≡◌, ◌≢◌, ◌<◌, ◌^◌, Some, IfOk, IfErr, IfSome, IfNone, IsOk};
 ghost use Rattle.pb_wire.specs.Fault.{Place, Reads, HasTag, HasLength};
 ghost use Rattle.pb_wire.specs.declared.fault.Cause.TheVariants.{Truncated};
-ghost use Rattle.pb_parts.specs.Open.Frames.{EndsAt};
-ghost use Rattle.pb_parts.specs.Tokens.Told.{RefusesTag, RefusesEnd, RefusesGroup, RefusesLength};
+ghost use Rattle.pb_parts.specs.Open.Parents.{EndsAt};
+ghost use Rattle.pb_parts.specs.Tokens.Reported.{RefusesTag, RefusesEnd, RefusesGroup, RefusesLength};
 
 use pb_wire::{Cause, MAX_BYTES};
 

@@ -1,10 +1,10 @@
 //! What comes after a tag.
 
 ghost use Rattle.std.specs.Prelude.{◌≡◌, ◌≢◌, ◌<◌, true, false, Some};
-ghost use Rattle.pb_parts.specs.Open.Frames.{CanHold};
+ghost use Rattle.pb_parts.specs.Open.Parents.{CanHold};
 ghost use Rattle.pb_parts.specs.Open.PartView.{part_view};
 ghost use Rattle.pb_parts.specs.Tokens.After.{tag, awaited, goes_down as is_below, HasLevelFor};
-ghost use Rattle.pb_parts.specs.Tokens.Told.{GoesOnAfterTag, IsTooDeep};
+ghost use Rattle.pb_parts.specs.Tokens.Reported.{GoesOnAfterTag, IsTooDeep};
 
 use crate::open::part::{Part, Slot};
 use crate::open::target::{Target, target_of};

@@ -8,7 +8,7 @@ ghost use Rattle.pb_parts.specs.Tokens.Number.{IsNumberType};
 use crate::error::NoMemory;
 use crate::tokens::number::number_value;
 use crate::tokens::number_token::{NumberToken, number_here};
-use crate::values::run::room_wanted;
+use crate::values::run::most_elements;
 use pb_schema::Kind;
 use pb_value::Value;
 use std::alloc::Global;
@@ -78,7 +78,7 @@ fn push_by_kind(kind: Kind, payload: &[u8], values: &mut Vec<Value>) -> Result<b
 pub fn read_list(alloc: Global, kind: Kind, payload: &[u8]) -> Result<Option<Vec<Value>>, NoMemory>
     ensures { IfOk result (λ o. IfSome o (λ values. ListGoesOn kind payload.now [] values.items (length payload.now))) }
 {
-    let mut values = Vec::with_capacity(alloc, room_wanted(kind, payload))?;
+    let mut values = Vec::with_capacity(alloc, most_elements(kind, payload))?;
     let all = push_by_kind(kind, payload, &mut values)?;
     if !all {
         return Ok(None);

@@ -4,7 +4,7 @@ ghost use Rattle.std.specs.Prelude.{◌≡◌, OnOk};
 ghost use Rattle.pb_schema.specs.Rules.{IsPool};
 ghost use Rattle.pb_schema.specs.Kinds.{closed_enum};
 ghost use Rattle.pb_schema.specs.Closed.{is_undeclared};
-ghost use Rattle.pb_parts.specs.Open.Frames.{CanHold};
+ghost use Rattle.pb_parts.specs.Open.Parents.{CanHold};
 ghost use Rattle.pb_parts.specs.Open.PartView.{part_view};
 ghost use Rattle.pb_parts.specs.Tokens.Number.{number_view};
 ghost use Rattle.pb_parts.specs.Values.Put.{scalar_kind as kind_given, put_record};

@@ -7,7 +7,7 @@ ghost use Rattle.pb_schema.specs.Scalar.{Scalar};
 ghost use Rattle.pb_value.specs.Data.{scalar};
 ghost use Rattle.pb_value.specs.View.{value_view};
 ghost use Rattle.pb_parts.specs.declared.values.payload_value.PayloadError.TheVariants.{Memory};
-ghost use Rattle.pb_parts.specs.Open.Frames.{CanHold};
+ghost use Rattle.pb_parts.specs.Open.Parents.{CanHold};
 ghost use Rattle.pb_parts.specs.Open.PartView.{part_view};
 ghost use Rattle.pb_parts.specs.Values.Put.{scalar_kind as kind_given, put_datum};
 ghost use Rattle.pb_parts.specs.Values.PayloadValue.{IfBadText, IsBytesTarget};

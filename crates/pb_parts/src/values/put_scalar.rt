@@ -4,7 +4,7 @@ ghost use Rattle.std.specs.Prelude.{◌≡◌, ℕ, OnOk, option_map};
 ghost use Rattle.pb_schema.specs.declared.types.Kind.{Kind};
 ghost use Rattle.pb_schema.specs.Types.{Types};
 ghost use Rattle.pb_value.specs.View.{body_view, key_view, value_view};
-ghost use Rattle.pb_parts.specs.Open.Frames.{CanHold, message_part, entry_part};
+ghost use Rattle.pb_parts.specs.Open.Parents.{CanHold, message_part, entry_part};
 ghost use Rattle.pb_parts.specs.Open.PartView.{part_view};
 ghost use Rattle.pb_parts.specs.Values.Put.{key_in, put_datum};
 

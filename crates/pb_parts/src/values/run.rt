@@ -34,7 +34,7 @@ fn varint_ends(bytes: &[u8]) -> usize {
 }
 
 /// How many elements of a kind end within some bytes, where they are sound: space for all of them.
-pub(crate) fn room_wanted(kind: Kind, bytes: &[u8]) -> usize {
+pub(crate) fn most_elements(kind: Kind, bytes: &[u8]) -> usize {
     match kind.wire_type() {
         1 => bytes.len() / 8,
         5 => bytes.len() / 4,
@@ -113,7 +113,7 @@ pub fn read_run(
     ensures put { TellsRun pool.now number kind bytes.now left result }
 {
     let mut run = Run {
-        values: Vec::with_capacity(alloc, room_wanted(kind, &bytes[..before_end(bytes, left)]))?,
+        values: Vec::with_capacity(alloc, most_elements(kind, &bytes[..before_end(bytes, left)]))?,
         undeclared: Vec::new(alloc),
     };
     let used = add_elements(pool, kind, number, bytes, left, &mut run)?;

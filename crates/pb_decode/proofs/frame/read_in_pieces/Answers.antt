@@ -4,11 +4,11 @@ use Rattle.std.specs.Prelude.{IfSome, drop}
 use Rattle.std.proofs.lemmas.Result.{err_from_is_err_and}
 use Rattle.pb_value.specs.Dynamic.{Dynamic}
 use Rattle.pb_decode.specs.Reader.Origin.{Origin, origin, further, IsWhole, BadFrom}
-use Rattle.pb_decode.specs.Loops.{ToldOf}
+use Rattle.pb_decode.specs.Loops.{ReportedOf}
 use Rattle.pb_decode.specs.Frame.{IsFrameOf, BadFrame}
 use Rattle.pb_decode.proofs.Outcomes.{ok_weaker, on_ok, ok_left, tells_kept, never_device}
 use Rattle.pb_decode.proofs.DeviceLemmas.{reads_at, err_refused, if_refused_weaker}
-use Rattle.pb_decode.proofs.InFrame.{frame_left, rest_left, told_frame, bad_frame, low_byte}
+use Rattle.pb_decode.proofs.InFrame.{frame_left, rest_left, reported_frame, bad_frame, low_byte}
 use Rattle.pb_decode.proofs.frame.read_in_pieces.Goals as goal
 
 pub returns-in_err-take_frame-clause-fault : goal.returns-in_err-take_frame-clause-fault
@@ -16,8 +16,8 @@ returns-in_err-take_frame-clause-fault g c =
     λ x given.
     let p = err_from_is_err_and c.from_residual.result c.from_residual.ensures.1 in
     rw (p.1, p.2)
-    (if_refused_weaker c.in_err-take_frame.field-0.0 (ToldOf c.args.pool.now (origin c.args.message_type.0 c.args.limits.depth [] (Some c.args.size)) x (g.I.Input.left c.take_frame.new.input) c.args.size) (λ f. IfSome x (λ left. BadFrame c.args.pool.now c.args.message_type.0 c.args.limits.depth 0 c.args.size left f))
-    (λ f told. told_frame x (g.I.Input.left c.take_frame.new.input) c.args.size c.args.size f told) (c.in_err-take_frame.ensures.fault x (origin c.args.message_type.0 c.args.limits.depth [] (Some c.args.size)) given c.begin_empty-reading.ensures.took))
+    (if_refused_weaker c.in_err-take_frame.field-0.0 (ReportedOf c.args.pool.now (origin c.args.message_type.0 c.args.limits.depth [] (Some c.args.size)) x (g.I.Input.left c.take_frame.new.input) c.args.size) (λ f. IfSome x (λ left. BadFrame c.args.pool.now c.args.message_type.0 c.args.limits.depth 0 c.args.size left f))
+    (λ f reported. reported_frame x (g.I.Input.left c.take_frame.new.input) c.args.size c.args.size f reported) (c.in_err-take_frame.ensures.fault x (origin c.args.message_type.0 c.args.limits.depth [] (Some c.args.size)) given c.begin_empty-reading.ensures.took))
 
 pub returns-in_err-take_frame-clause-low : goal.returns-in_err-take_frame-clause-low
 returns-in_err-take_frame-clause-low g c =
@@ -26,8 +26,8 @@ returns-in_err-take_frame-clause-low g c =
     let same = c.max_bytes-small.ensures.same in
     let fits = c.requires.size in
     rw (p.1, p.2)
-    (if_refused_weaker c.in_err-take_frame.field-0.0 (ToldOf c.args.pool.now (origin c.args.message_type.0 c.args.limits.depth [] (Some c.args.size)) None (g.I.Input.left c.take_frame.new.input) c.args.size) (λ f. f.byte < 2 ^ 31)
-    (λ f told. let few = told.few in let low = low_byte c.args.pool.now f told.told.bad in omega (arith, few, low, small, same, fits)) (c.in_err-take_frame.ensures.fault None (origin c.args.message_type.0 c.args.limits.depth [] (Some c.args.size)) tt c.begin_empty-reading.ensures.took))
+    (if_refused_weaker c.in_err-take_frame.field-0.0 (ReportedOf c.args.pool.now (origin c.args.message_type.0 c.args.limits.depth [] (Some c.args.size)) None (g.I.Input.left c.take_frame.new.input) c.args.size) (λ f. f.byte < 2 ^ 31)
+    (λ f reported. let few = reported.few in let low = low_byte c.args.pool.now f reported.reported.bad in omega (arith, few, low, small, same, fits)) (c.in_err-take_frame.ensures.fault None (origin c.args.message_type.0 c.args.limits.depth [] (Some c.args.size)) tt c.begin_empty-reading.ensures.took))
 
 pub finish_message-requires-clause-took : goal.finish_message-requires-clause-took
 finish_message-requires-clause-took g c = (

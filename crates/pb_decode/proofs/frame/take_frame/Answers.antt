@@ -1,9 +1,9 @@
 -- The first bytes are taken, and then those that the input gives after them.
 use Rattle.std.proofs.Common.{◌≡◌, ◌-◌, ◌<◌, ℕ, length, refl, arith, inl, inr, ◌⊎◌, ⊎_elim, zero, suc}
 use Rattle.std.proofs.lemmas.Result.{err_from_is_err_and}
-use Rattle.pb_decode.specs.Reader.Origin.{further, ToldFrom}
-use Rattle.pb_decode.specs.Loops.{ToldOf}
-use Rattle.pb_decode.proofs.DeviceLemmas.{reads_front, reads_more, told_behind, takes_behind, if_refused_weaker, if_fault_refused}
+use Rattle.pb_decode.specs.Reader.Origin.{further, ReportedFrom}
+use Rattle.pb_decode.specs.Loops.{ReportedOf}
+use Rattle.pb_decode.proofs.DeviceLemmas.{reads_front, reads_more, reported_after, takes_after, if_refused_weaker, if_fault_refused}
 use Rattle.pb_decode.proofs.frame.take_frame.Goals as goal
 
 end_or_all : (size : ℕ) (E : Type 0) → (0 < size → E) → (0 ≡ size) ⊎ E
@@ -15,8 +15,8 @@ returns-in_err-take_onward-clause-fault g c =
     λ x o given took.
     let p = err_from_is_err_and c.from_residual.result c.from_residual.ensures.1 in
     rw (p.1, p.2)
-    (if_fault_refused c.in_err-take_onward.field-0.0 (ToldFrom c.args.pool.now (further o c.args.first.now)) (ToldOf c.args.pool.now o x (g.I.Input.left c.args.input.now) c.args.size)
-    (λ f told. record { bytes = c.args.first.now; few = c.requires.count; given = given; told = told }) (c.in_err-take_onward.ensures.fault o took))
+    (if_fault_refused c.in_err-take_onward.field-0.0 (ReportedFrom c.args.pool.now (further o c.args.first.now)) (ReportedOf c.args.pool.now o x (g.I.Input.left c.args.input.now) c.args.size)
+    (λ f reported. record { bytes = c.args.first.now; few = c.requires.count; given = given; reported = reported }) (c.in_err-take_onward.ensures.fault o took))
 
 pub returns-in_err-take_onward-clause-taken : goal.returns-in_err-take_onward-clause-taken
 returns-in_err-take_onward-clause-taken g c = λ x given. (c.args.first.now, c.requires.count, given)
@@ -47,16 +47,16 @@ returns-in_err-more-clause-fault g c =
     let p = err_from_is_err_and c.from_residual-in_err-more.result c.from_residual-in_err-more.ensures.1 in
     let count = c.requires.count in
     rw (p.1, p.2)
-    (if_refused_weaker c.in_err-more.field-0.0 _ (ToldOf c.args.pool.now o x (g.I.Input.left c.read_pieces.new.input) c.args.size)
-    (λ f (told : ToldOf c.args.pool.now (further o c.args.first.now) (g.I.Input.left c.args.input.now) (g.I.Input.left c.read_pieces.new.input) (c.args.size - length c.args.first.now) f).
-    told_behind o f x (g.I.Input.left c.args.input.now) (g.I.Input.left c.read_pieces.new.input) c.args.first.now (omega (arith, count)) given told)
+    (if_refused_weaker c.in_err-more.field-0.0 _ (ReportedOf c.args.pool.now o x (g.I.Input.left c.read_pieces.new.input) c.args.size)
+    (λ f (reported : ReportedOf c.args.pool.now (further o c.args.first.now) (g.I.Input.left c.args.input.now) (g.I.Input.left c.read_pieces.new.input) (c.args.size - length c.args.first.now) f).
+    reported_after o f x (g.I.Input.left c.args.input.now) (g.I.Input.left c.read_pieces.new.input) c.args.first.now (omega (arith, count)) given reported)
     (c.in_err-more.ensures.fault (further o c.args.first.now) (c.in_ok-take_onward.ensures.took o took)))
 
 pub returns-in_err-more-clause-taken : goal.returns-in_err-more-clause-taken
 returns-in_err-more-clause-taken g c =
     λ x given.
     let count = c.requires.count in
-    takes_behind x (g.I.Input.left c.args.input.now) (g.I.Input.left c.read_pieces.new.input) c.args.first.now (omega (arith, count)) given c.in_err-more.ensures.taken
+    takes_after x (g.I.Input.left c.args.input.now) (g.I.Input.left c.read_pieces.new.input) c.args.first.now (omega (arith, count)) given c.in_err-more.ensures.taken
 
 pub returns-clause-read : goal.returns-clause-read
 returns-clause-read g c =
@@ -72,4 +72,4 @@ pub returns-clause-taken : goal.returns-clause-taken
 returns-clause-taken g c =
     λ x given.
     let count = c.requires.count in
-    takes_behind x (g.I.Input.left c.args.input.now) (g.I.Input.left c.read_pieces.new.input) c.args.first.now (omega (arith, count)) given c.in_ok-more.ensures.taken
+    takes_after x (g.I.Input.left c.args.input.now) (g.I.Input.left c.read_pieces.new.input) c.args.first.now (omega (arith, count)) given c.in_ok-more.ensures.taken

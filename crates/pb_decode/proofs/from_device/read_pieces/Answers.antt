@@ -3,8 +3,8 @@ use Rattle.std.proofs.Common.{refl, arith, ◌∙◌}
 use Rattle.std.proofs.lemmas.List.{length-take}
 use Rattle.std.proofs.lemmas.Result.{err_from_is_err_and}
 use Rattle.pb_decode.specs.Reader.Origin.{further}
-use Rattle.pb_decode.specs.Loops.{ToldOf}
-use Rattle.pb_decode.proofs.DeviceLemmas.{reads_none, reads_more, reads_at, reads_on, told_more, takes_more, takes_read, if_refused_weaker}
+use Rattle.pb_decode.specs.Loops.{ReportedOf}
+use Rattle.pb_decode.proofs.DeviceLemmas.{reads_none, reads_more, reads_at, reads_on, reported_more, takes_more, takes_read, if_refused_weaker}
 use Rattle.pb_decode.proofs.from_device.read_pieces.Goals as goal
 
 pub reading-init : goal.reading-init
@@ -30,7 +30,7 @@ returns-in_err-count-clause-fault g c =
     let wanted = c.min-wanted.ensures in
     let within = c.reading.invariant.within in
     rw (p.1, p.2)
-    (if_refused_weaker c.in_err-count.field-0.0 _ (ToldOf c.args.pool.now o (g.I.Input.left c.args.input.now) (g.I.Input.left c.read_piece.new.input) c.args.most) (λ f told. told_more o f (omega (arith, size, wanted, within)) c.reading.invariant.read told)
+    (if_refused_weaker c.in_err-count.field-0.0 _ (ReportedOf c.args.pool.now o (g.I.Input.left c.args.input.now) (g.I.Input.left c.read_piece.new.input) c.args.most) (λ f reported. reported_more o f (omega (arith, size, wanted, within)) c.reading.invariant.read reported)
     (c.in_err-count.ensures.fault (further o c.reading.invariant.read.bytes) (c.reading.invariant.read.onward o took)))
 
 pub returns-in_err-count-clause-taken : goal.returns-in_err-count-clause-taken

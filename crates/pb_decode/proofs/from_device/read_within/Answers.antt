@@ -7,7 +7,7 @@ use Rattle.pb_wire.specs.Fault.{Fault, fault}
 use Rattle.pb_wire.specs.declared.fault.Cause.TheVariants.{InputTooLarge}
 use Rattle.pb_wire.specs.Grammar.{HasFault}
 use Rattle.pb_schema.specs.Context.{a_message, schema_of}
-use Rattle.pb_decode.proofs.DeviceLemmas.{told_left, more_left, takes_more, reads_nothing, if_refused_weaker, if_fault_refused}
+use Rattle.pb_decode.proofs.DeviceLemmas.{reported_left, more_left, takes_more, reads_nothing, if_refused_weaker, if_fault_refused}
 use Rattle.pb_decode.proofs.from_device.read_within.Goals as goal
 
 pub returns-in_err-count-clause-fault : goal.returns-in_err-count-clause-fault
@@ -15,7 +15,7 @@ returns-in_err-count-clause-fault g c =
     let p = err_from_is_err_and c.from_residual.result c.from_residual.ensures.1 in
     rw (p.1, p.2)
     (if_refused_weaker c.in_err-count.field-0.0 _ (λ f. IfSome (g.I.Input.left c.args.input.now) (λ left. HasFault (schema_of c.args.pool.now) (a_message c.args.message_type.0) c.args.limits left f))
-    (λ f told. told_left c.requires.took.0 (g.I.Input.left c.args.input.now) (g.I.Input.left c.read_pieces.new.input) c.max_bytes-most.result f c.max_bytes-most.ensures.same told)
+    (λ f reported. reported_left c.requires.took.0 (g.I.Input.left c.args.input.now) (g.I.Input.left c.read_pieces.new.input) c.max_bytes-most.result f c.max_bytes-most.ensures.same reported)
     (c.in_err-count.ensures.fault _ c.requires.took.1))
 
 pub returns-in_err-more-clause-most : goal.returns-in_err-more-clause-most

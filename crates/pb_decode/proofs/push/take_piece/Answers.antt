@@ -6,9 +6,9 @@ use Rattle.std.proofs.lemmas.Result.{err_from_is_err_and}
 use Rattle.pb_wire.specs.Exact.{longer}
 use Rattle.pb_wire.specs.Fault.{Place}
 use Rattle.pb_wire.specs.Ranges.{IsByte, AreBytes}
-use Rattle.pb_decode.specs.Reader.{state_view, Reads, Stops, Told}
+use Rattle.pb_decode.specs.Reader.{state_view, Reads, Stops, Reported}
 use Rattle.pb_decode.proofs.ReaderLemmas.{if_fault_weaker}
-use Rattle.pb_decode.proofs.PieceLemmas.{next_given, last_given, all_given, reads_rest, part_bytes, told_on}
+use Rattle.pb_decode.proofs.PieceLemmas.{next_given, last_given, all_given, reads_rest, part_bytes, reported_on}
 use Rattle.pb_parts.proofs.AnswerLemmas.{none_held}
 use Rattle.pb_decode.proofs.push.take_piece.Goals as goal
 
@@ -34,8 +34,8 @@ returns-in_err-take_joined-clause-refused c =
     let p = err_from_is_err_and c.from_residual.result c.from_residual.ensures.1 in
     rw (p.1, p.2)
     (if_fault_weaker c.in_err-take_joined.field-0.0
-    (Told c.args.pool.now m depth (longer (longer p0 (take c.loop-reading.here c.args.piece.now)) (take ((c.loop-reading.here + c.min-more.result) - c.loop-reading.here) (drop c.loop-reading.here c.args.piece.now))))
-    (Told c.args.pool.now m depth (longer p0 c.args.piece.now)) (told_on p0 c.loop-reading.here c.min-more.result c.args.piece.now)
+    (Reported c.args.pool.now m depth (longer (longer p0 (take c.loop-reading.here c.args.piece.now)) (take ((c.loop-reading.here + c.min-more.result) - c.loop-reading.here) (drop c.loop-reading.here c.args.piece.now))))
+    (Reported c.args.pool.now m depth (longer p0 c.args.piece.now)) (reported_on p0 c.loop-reading.here c.min-more.result c.args.piece.now)
     (c.in_err-take_joined.ensures.refused m depth levels base (longer p0 (take c.loop-reading.here c.args.piece.now)) (c.loop-reading.invariant.reads m depth levels base p0 begun)))
 
 pub returns-then-here-piece-clause-taken : goal.returns-then-here-piece-clause-taken

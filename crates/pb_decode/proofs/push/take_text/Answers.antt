@@ -4,7 +4,7 @@ use Rattle.std.proofs.lemmas.Result.{err_from_is_err_and}
 use Rattle.pb_wire.specs.Exact.{longer}
 use Rattle.pb_wire.specs.Fault.{fault, text_at}
 use Rattle.pb_wire.specs.declared.fault.Cause.TheVariants.{InputTooLarge}
-use Rattle.pb_decode.specs.Reader.{state_view, Told}
+use Rattle.pb_decode.specs.Reader.{state_view, Reported}
 use Rattle.pb_decode.specs.Push.{IsSettled}
 use Rattle.pb_decode.proofs.ReaderLemmas.{if_fault_weaker}
 use Rattle.pb_decode.proofs.PushLemmas.{front_bad, whole_bad, too_large, took_more}
@@ -21,8 +21,8 @@ returns-in_err-take_piece-clause-fault c =
     let remaining = c.bytes_left-remaining.ensures in
     let is : length b + c.bytes_left-remaining.result ≡ c.args.limits.bytes = omega (arith, at, size, most, remaining) in
     rw (p.1, p.2)
-    (if_fault_weaker c.in_err-take_piece.field-0.0 (Told c.args.pool.now c.args.message_type.0 c.args.limits.depth (longer (text_at b) (take c.bytes_left-remaining.result c.args.piece.now))) (IsSettled c.args.pool.now c.args.message_type.0 c.args.limits (b ++ c.args.piece.now))
-    (λ f told. front_bad b c.args.piece.now c.bytes_left-remaining.result f is (omega arith) told) (c.in_err-take_piece.ensures.refused c.args.message_type.0 c.args.limits.depth 101 [] (text_at b) took.reads))
+    (if_fault_weaker c.in_err-take_piece.field-0.0 (Reported c.args.pool.now c.args.message_type.0 c.args.limits.depth (longer (text_at b) (take c.bytes_left-remaining.result c.args.piece.now))) (IsSettled c.args.pool.now c.args.message_type.0 c.args.limits (b ++ c.args.piece.now))
+    (λ f reported. front_bad b c.args.piece.now c.bytes_left-remaining.result f is (omega arith) reported) (c.in_err-take_piece.ensures.refused c.args.message_type.0 c.args.limits.depth 101 [] (text_at b) took.reads))
 
 pub returns-then-piece-remaining-clause-fault : goal.returns-then-piece-remaining-clause-fault
 returns-then-piece-remaining-clause-fault c =
@@ -35,8 +35,8 @@ returns-then-piece-remaining-clause-fault c =
     let there = c.in_ok-take_piece.ensures.taken c.args.message_type.0 c.args.limits.depth 101 [] (text_at b) took.reads in
     let settled = too_large b c.args.piece.now c.bytes_left-remaining.result (state_view c.take_piece.new.reading.reader) c.take_piece.new.reading.held.items is (omega arith) there.0 there.1 in
     if_fault_weaker c.too_large.result (λ f. f ≡ fault c.max_bytes-most.result [] InputTooLarge) (IsSettled c.args.pool.now c.args.message_type.0 c.args.limits (b ++ c.args.piece.now))
-    (λ f told.
-    subst (IsSettled c.args.pool.now c.args.message_type.0 c.args.limits (b ++ c.args.piece.now)) (sym told)
+    (λ f reported.
+    subst (IsSettled c.args.pool.now c.args.message_type.0 c.args.limits (b ++ c.args.piece.now)) (sym reported)
     (subst (λ (z : ℕ). IsSettled c.args.pool.now c.args.message_type.0 c.args.limits (b ++ c.args.piece.now) (fault z [] InputTooLarge)) (sym most) settled))
     c.too_large.ensures
 
@@ -47,8 +47,8 @@ returns-clause-fault c =
     let size = took.size in
     let most = c.max_bytes-most.ensures.same in
     let remaining = c.bytes_left-remaining.ensures in
-    fault_weaker c.take_piece-2.result (Told c.args.pool.now c.args.message_type.0 c.args.limits.depth (longer (text_at b) c.args.piece.now)) (IsSettled c.args.pool.now c.args.message_type.0 c.args.limits (b ++ c.args.piece.now))
-    (λ f told. whole_bad b c.args.piece.now f (omega (arith, at, size, most, remaining)) told) (c.take_piece-2.ensures.refused c.args.message_type.0 c.args.limits.depth 101 [] (text_at b) took.reads)
+    fault_weaker c.take_piece-2.result (Reported c.args.pool.now c.args.message_type.0 c.args.limits.depth (longer (text_at b) c.args.piece.now)) (IsSettled c.args.pool.now c.args.message_type.0 c.args.limits (b ++ c.args.piece.now))
+    (λ f reported. whole_bad b c.args.piece.now f (omega (arith, at, size, most, remaining)) reported) (c.take_piece-2.ensures.refused c.args.message_type.0 c.args.limits.depth 101 [] (text_at b) took.reads)
 
 pub returns-clause-after : goal.returns-clause-after
 returns-clause-after c =

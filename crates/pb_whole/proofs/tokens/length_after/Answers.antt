@@ -3,7 +3,7 @@ use Rattle.std.proofs.Common.{ℕ, ◌+◌, ◌-◌, ap, ◌∙◌, arith, take,
 use Rattle.pb_wire.specs.Fault.{Place, Reads as ReadsNumber}
 use Rattle.pb_wire.specs.Token.{given_at, passed}
 use Rattle.pb_parts.proofs.PlaceLemmas.{slice_from}
-use Rattle.pb_whole.proofs.Tags.{there_behind, length_there}
+use Rattle.pb_whole.proofs.Tags.{there_after, length_there}
 use Rattle.pb_parts.proofs.NumberTokens.{front_there}
 use Rattle.pb_whole.proofs.tokens.length_after.Goals as goal
 
@@ -36,6 +36,6 @@ returns-in-Ok-clause-whole c =
     let reads : (at : ℕ) → ReadsNumber (passed (given_at at c.args.left c.args.bytes.now) c.args.tag_size) c.in-Ok-Some.length (passed (given_at at c.args.left c.args.bytes.now) (c.args.tag_size + c.in-Ok-Some.used)) =
     (λ at.
     let first = front_there (at + c.args.tag_size) c.left_after-after.result rest c.in-Ok-Some.field-0 c.in-Ok-Some.length c.in-Ok-Some.used c.in-Ok-Some.field-0-is (c.in-Ok-Some.ensures.whole (at + c.args.tag_size)) in
-    there_behind (λ (p q : Place). ReadsNumber p c.in-Ok-Some.length q) at c.args.left c.left_after-after.result c.args.bytes.now c.args.tag_size c.in-Ok-Some.used c.left_after-after.ensures first.1) in
+    there_after (λ (p q : Place). ReadsNumber p c.in-Ok-Some.length q) at c.args.left c.left_after-after.result c.args.bytes.now c.args.tag_size c.in-Ok-Some.used c.left_after-after.ensures first.1) in
     length_there at c.args.left c.args.bytes.now c.args.tag_size (c.args.tag_size + c.in-Ok-Some.used) has reads c.in-Ok.ensures.size
     (λ u t read is ends. c.in-Ok.ensures.whole u t read is ends)

@@ -58,4 +58,4 @@ returns-in-Err-clause-refused c =
     let bytes : AreBytes c.args.piece.now = recursion_from_All IsByte c.args.piece.now (All-from_get_or IsByte c.args.piece.now 0 (λ i h. let fits = c.type_inv.piece i in search (rules, fits))) in
     let took = took_by c.self.inside.pool.now c.self.inside.kind.0 c.self.inside.limits b c.self.inside.reading c.in-Some.reading (sym c.in-Some.is) after in
     if_fault_weaker c.in-Err.error (IsSettled c.self.inside.pool.now c.self.inside.kind.0 c.self.inside.limits (b ++ c.args.piece.now)) (λ g. g ≡ f)
-    (λ g told. one_settled (bytes_with b c.args.piece.now (state_view c.in-Some.reading.reader) c.in-Some.reading.held.items bytes took) f g settled told) (c.in-Err.ensures.fault b took))
+    (λ g reported. one_settled (bytes_with b c.args.piece.now (state_view c.in-Some.reading.reader) c.in-Some.reading.held.items bytes took) f g settled reported) (c.in-Err.ensures.fault b took))

@@ -26,16 +26,16 @@ returns-clause-accepted c =
     let took = took_by c.self.inside.pool.now c.self.inside.kind.0 c.self.inside.limits b c.self.inside.reading c.in-Some.reading c.in-Some.ensures.value after in
     accepted_from c.end.result (λ m. Text c.self.inside.pool.now c.self.inside.kind.0 c.self.inside.limits b m.body) (λ m. m.body ≡ v)
     (HasFault (schema_of c.self.inside.pool.now) (a_message c.self.inside.kind.0) c.self.inside.limits b) (c.end.ensures.value b took) (c.end.ensures.fault b took) (λ m u. same_value m.body v u t)
-    (λ f told. (exactly_value c.self.inside.pool.now c.self.inside.kind.0 c.self.inside.limits b (bytes_taken b (state_view c.in-Some.reading.reader) c.in-Some.reading.held.items took)).not_both f told (v, t)))
+    (λ f reported. (exactly_value c.self.inside.pool.now c.self.inside.kind.0 c.self.inside.limits b (bytes_taken b (state_view c.in-Some.reading.reader) c.in-Some.reading.held.items took)).not_both f reported (v, t)))
 
 pub returns-clause-refused : goal.returns-clause-refused
 returns-clause-refused c =
-    rw (← c.self.view_is) (λ b f after told.
+    rw (← c.self.view_is) (λ b f after reported.
     let took = took_by c.self.inside.pool.now c.self.inside.kind.0 c.self.inside.limits b c.self.inside.reading c.in-Some.reading c.in-Some.ensures.value after in
     let law = exactly_value c.self.inside.pool.now c.self.inside.kind.0 c.self.inside.limits b (bytes_taken b (state_view c.in-Some.reading.reader) c.in-Some.reading.held.items took) in
     refused_from c.end.result (λ m. Text c.self.inside.pool.now c.self.inside.kind.0 c.self.inside.limits b m.body)
     (HasFault (schema_of c.self.inside.pool.now) (a_message c.self.inside.kind.0) c.self.inside.limits b) f (c.end.ensures.value b took) (c.end.ensures.fault b took)
-    (λ m t. law.not_both f told (m.body, t)) (λ g h. law.one g f h told))
+    (λ m t. law.not_both f reported (m.body, t)) (λ g h. law.one g f h reported))
 
 pub returns-clause-one : goal.returns-clause-one
 returns-clause-one c =

@@ -15,4 +15,4 @@ invariant-loop-alloc l = record {
 }
 
 abbrev pub decreases-loop-alloc : goal.decreases-loop-alloc
-decreases-loop-alloc l = vec_len l.reader.frames
+decreases-loop-alloc l = vec_len l.reader.parents

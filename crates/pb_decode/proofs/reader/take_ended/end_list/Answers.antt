@@ -8,5 +8,5 @@ use Rattle.pb_decode.proofs.reader.take_ended.end_list.Goals as goal
 pub returns-clause-taken : goal.returns-clause-taken
 returns-clause-taken c =
     λ pool m depth levels kind base p0 rest ok begun is end.
-    list_ended (state_view c.args.reader.now) (state_view (record { at = c.args.reader.now.at; part = c.args.reader.now.part; scope = c.count_one.new.scope; frames = c.args.reader.now.frames; step = Tag })) rest c.args.number kind c.args.outer ok begun is end refl refl refl refl
+    list_ended (state_view c.args.reader.now) (state_view (record { at = c.args.reader.now.at; part = c.args.reader.now.part; scope = c.count_one.new.scope; parents = c.args.reader.now.parents; step = Tag })) rest c.args.number kind c.args.outer ok begun is end refl refl refl refl
     c.in_ok-count_one.ensures.more

@@ -4,10 +4,10 @@ use Rattle.pb_wire.specs.Fault.{fault}
 use Rattle.pb_wire.specs.Token.{given_at, passed}
 use Rattle.pb_parts.specs.Open.PartView.{part_view, scope_view}
 use Rattle.pb_parts.specs.Tokens.After.{tag, awaited, After}
-use Rattle.pb_decode.specs.Reader.{state_view, frames_view, here, path_here}
-use Rattle.pb_decode.proofs.ReaderLemmas.{fault_told}
+use Rattle.pb_decode.specs.Reader.{state_view, parents_view, here, path_here}
+use Rattle.pb_decode.proofs.ReaderLemmas.{fault_reported}
 use Rattle.pb_decode.proofs.ReaderSafe.{awaited_can}
-use Rattle.pb_decode.proofs.LengthTaken.{length_ends, at_length, length_fault_told, length_short, number_there, number_cut}
+use Rattle.pb_decode.proofs.LengthTaken.{length_ends, at_length, length_fault_reported, length_short, number_there, number_cut}
 use Rattle.pb_parts.proofs.NumberTokens.{number_size}
 use Rattle.pb_decode.proofs.WaitLemmas.{length_waits}
 use Rattle.pb_decode.proofs.reader.take_length.take_length.Goals as goal
@@ -37,26 +37,26 @@ pass_length-requires c =
 pub returns-in-Err-clause-refused : goal.returns-in-Err-clause-refused
 returns-in-Err-clause-refused c =
     λ m depth levels base p0 begun.
-    fault_told c.fault_at.result (fault c.args.reader.now.at (path_here (state_view c.args.reader.now)) c.in-Err.cause) c.fault_at.ensures
-    (length_fault_told c.args.pool.now m depth p0 (state_view c.args.reader.now) c.args.number c.args.target c.in-Err.cause c.requires.step c.in-Err.ensures.settled
-    (c.in-Err.ensures.length c.args.pool.now m depth levels c.args.reader.now.at c.args.number base p0 (frames_view c.args.reader.now.frames.items) (scope_view c.args.reader.now.scope) (part_view c.args.reader.now.part) c.args.reader.now.step c.args.target
-    (subst (λ (z : Option ℕ). After c.args.pool.now m depth levels base p0 (frames_view c.args.reader.now.frames.items) c.args.reader.now.step (part_view c.args.reader.now.part) (scope_view c.args.reader.now.scope) (given_at c.args.reader.now.at z c.args.bytes.now)) (sym c.left.ensures) begun)
+    fault_reported c.fault_at.result (fault c.args.reader.now.at (path_here (state_view c.args.reader.now)) c.in-Err.cause) c.fault_at.ensures
+    (length_fault_reported c.args.pool.now m depth p0 (state_view c.args.reader.now) c.args.number c.args.target c.in-Err.cause c.requires.step c.in-Err.ensures.settled
+    (c.in-Err.ensures.length c.args.pool.now m depth levels c.args.reader.now.at c.args.number base p0 (parents_view c.args.reader.now.parents.items) (scope_view c.args.reader.now.scope) (part_view c.args.reader.now.part) c.args.reader.now.step c.args.target
+    (subst (λ (z : Option ℕ). After c.args.pool.now m depth levels base p0 (parents_view c.args.reader.now.parents.items) c.args.reader.now.step (part_view c.args.reader.now.part) (scope_view c.args.reader.now.scope) (given_at c.args.reader.now.at z c.args.bytes.now)) (sym c.left.ensures) begun)
     (ap awaited c.requires.step)))
 
 pub returns-in-Ok-None-clause-taken : goal.returns-in-Ok-None-clause-taken
 returns-in-Ok-None-clause-taken c =
     λ m depth levels base p0 begun.
-    let told = number_cut (state_view c.args.reader.now) c.left.result c.args.bytes.now c.in-Ok-None.field-0 c.left.ensures c.in-Ok-None.field-0-is (c.in-Ok-None.ensures.short c.args.reader.now.at) in
-    (begun, length_short (state_view c.args.reader.now) c.args.bytes.now c.args.number c.args.target begun c.requires.step told)
+    let reported = number_cut (state_view c.args.reader.now) c.left.result c.args.bytes.now c.in-Ok-None.field-0 c.left.ensures c.in-Ok-None.field-0-is (c.in-Ok-None.ensures.short c.args.reader.now.at) in
+    (begun, length_short (state_view c.args.reader.now) c.args.bytes.now c.args.number c.args.target begun c.requires.step reported)
 
 pub returns-in-Err-payload_size-clause-refused : goal.returns-in-Err-payload_size-clause-refused
 returns-in-Err-payload_size-clause-refused c =
     λ m depth levels base p0 begun.
     let there = number_there (state_view c.args.reader.now) c.left.result c.args.bytes.now c.in-Ok-Some.field-0 c.in-Ok-Some.length c.in-Ok-Some.used c.left.ensures c.in-Ok-Some.field-0-is (c.in-Ok-Some.ensures.whole c.args.reader.now.at) in
-    fault_told c.fault_at-in-Err-payload_size.result (fault c.args.reader.now.at (path_here (state_view c.args.reader.now)) c.in-Err-payload_size.cause) c.fault_at-in-Err-payload_size.ensures
-    (length_fault_told c.args.pool.now m depth p0 (state_view c.args.reader.now) c.args.number c.args.target c.in-Err-payload_size.cause c.requires.step c.in-Err-payload_size.ensures.settled
+    fault_reported c.fault_at-in-Err-payload_size.result (fault c.args.reader.now.at (path_here (state_view c.args.reader.now)) c.in-Err-payload_size.cause) c.fault_at-in-Err-payload_size.ensures
+    (length_fault_reported c.args.pool.now m depth p0 (state_view c.args.reader.now) c.args.number c.args.target c.in-Err-payload_size.cause c.requires.step c.in-Err-payload_size.ensures.settled
     (c.in-Err-payload_size.ensures.refused c.args.pool.now m depth levels c.args.number base p0 (here (state_view c.args.reader.now) c.args.bytes.now) (passed (here (state_view c.args.reader.now) c.args.bytes.now) c.in-Ok-Some.used)
-    (frames_view c.args.reader.now.frames.items) (scope_view c.args.reader.now.scope) (part_view c.args.reader.now.part) c.args.reader.now.step c.args.target begun (ap awaited c.requires.step) there.1 refl refl))
+    (parents_view c.args.reader.now.parents.items) (scope_view c.args.reader.now.scope) (part_view c.args.reader.now.part) c.args.reader.now.step c.args.target begun (ap awaited c.requires.step) there.1 refl refl))
 
 pub returns-in_ok-pass_length-in-Ok-clause-passes : goal.returns-in_ok-pass_length-in-Ok-clause-passes
 returns-in_ok-pass_length-in-Ok-clause-passes c =

@@ -5,9 +5,9 @@ use Rattle.pb_wire.specs.Fault.{fault, HasTag}
 use Rattle.pb_wire.specs.Token.{passed}
 use Rattle.pb_parts.specs.Open.PartView.{part_view, scope_view}
 use Rattle.pb_parts.specs.Open.Targets.{Means, part_context}
-use Rattle.pb_decode.specs.Reader.{state_view, frames_view, here, path_here}
+use Rattle.pb_decode.specs.Reader.{state_view, parents_view, here, path_here}
 use Rattle.pb_parts.proofs.WellLemmas.{can_hold}
-use Rattle.pb_decode.proofs.ReaderLemmas.{fault_told}
+use Rattle.pb_decode.proofs.ReaderLemmas.{fault_reported}
 use Rattle.pb_decode.proofs.EndedLemmas.{standing}
 use Rattle.pb_decode.proofs.TagTaken.{refused_at_tag}
 use Rattle.pb_decode.proofs.reader.take_tag.pass_tag.Goals as goal
@@ -15,11 +15,11 @@ use Rattle.pb_decode.proofs.reader.take_tag.pass_tag.Goals as goal
 pub returns-in-Err-clause-refused : goal.returns-in-Err-clause-refused
 returns-in-Err-clause-refused c =
     λ m depth levels base p0 rest begun has.
-    fault_told c.fault_at.result (fault c.args.reader.now.at (path_here (state_view c.args.reader.now)) c.in-Err.cause) c.fault_at.ensures
+    fault_reported c.fault_at.result (fault c.args.reader.now.at (path_here (state_view c.args.reader.now)) c.in-Err.cause) c.fault_at.ensures
     (refused_at_tag (state_view c.args.reader.now) c.in-Err.cause c.requires.step c.in-Err.ensures.settled
-    (c.in-Err.ensures.refused c.args.pool.now m depth levels base p0 (here (state_view c.args.reader.now) rest) (passed (here (state_view c.args.reader.now) rest) c.args.size) (frames_view c.args.reader.now.frames.items)
+    (c.in-Err.ensures.refused c.args.pool.now m depth levels base p0 (here (state_view c.args.reader.now) rest) (passed (here (state_view c.args.reader.now) rest) c.args.size) (parents_view c.args.reader.now.parents.items)
     (scope_view c.args.reader.now.scope) (part_view c.args.reader.now.part)
-    (standing (state_view c.args.reader.now) rest (frames_view c.args.reader.now.frames.items) (part_view c.args.reader.now.part) begun c.requires.step refl refl) has))
+    (standing (state_view c.args.reader.now) rest (parents_view c.args.reader.now.parents.items) (part_view c.args.reader.now.part) begun c.requires.step refl refl) has))
 
 pub returns-in_err-pass_group_start-clause-refused : goal.returns-in_err-pass_group_start-clause-refused
 returns-in_err-pass_group_start-clause-refused c =
@@ -42,12 +42,12 @@ returns-in_err-pass_group_end-clause-refused c =
 pub target_of-meant-requires : goal.target_of-meant-requires
 target_of-meant-requires c =
     can_hold c.requires.rules (part_view c.args.reader.now.part)
-    (standing (state_view c.args.reader.now) c.requires.reading.0 (frames_view c.args.reader.now.frames.items) (part_view c.args.reader.now.part) c.requires.reading.1.reads c.requires.step refl refl)
+    (standing (state_view c.args.reader.now) c.requires.reading.0 (parents_view c.args.reader.now.parents.items) (part_view c.args.reader.now.part) c.requires.reading.1.reads c.requires.step refl refl)
 
 pub pass_record_tag-requires-clause-can : goal.pass_record_tag-requires-clause-can
 pass_record_tag-requires-clause-can c =
     can_hold c.requires.rules (part_view c.args.reader.now.part)
-    (standing (state_view c.args.reader.now) c.requires.reading.0 (frames_view c.args.reader.now.frames.items) (part_view c.args.reader.now.part) c.requires.reading.1.reads c.requires.step refl refl)
+    (standing (state_view c.args.reader.now) c.requires.reading.0 (parents_view c.args.reader.now.parents.items) (part_view c.args.reader.now.part) c.requires.reading.1.reads c.requires.step refl refl)
 
 pub returns-in_err-pass_record_tag-clause-refused : goal.returns-in_err-pass_record_tag-clause-refused
 returns-in_err-pass_record_tag-clause-refused c =
@@ -62,7 +62,7 @@ returns-in_ok-pass_group_start-clause-reads c =
     let q = here (state_view c.args.reader.now) rest in
     c.in_ok-pass_group_start.ensures.reads c.args.pool.now m depth levels base p0 rest c.requires.rules
     (can_hold c.requires.rules (part_view c.args.reader.now.part)
-    (standing (state_view c.args.reader.now) rest (frames_view c.args.reader.now.frames.items) (part_view c.args.reader.now.part) begun c.requires.step refl refl))
+    (standing (state_view c.args.reader.now) rest (parents_view c.args.reader.now.parents.items) (part_view c.args.reader.now.part) begun c.requires.step refl refl))
     (subst (λ (z : ℕ). Means c.args.pool.now (part_context (part_view c.args.reader.now.part)) c.in-Ok.parts.0 z c.target_of-meant.result) c.if-wire_type-eq3.true c.target_of-meant.ensures) begun
     (subst (λ (z : ℕ). HasTag q c.in-Ok.parts.0 z (passed q c.args.size)) c.if-wire_type-eq3.true (c.in-Ok.ensures.whole q (passed q c.args.size) has))
 

@@ -3,10 +3,10 @@ use Rattle.std.proofs.Common.{◌≡◌, ◌≢◌, ◌⊎◌, [], ℕ, Option, 
 use Rattle.std.proofs.lemmas.Result.{err_from_is_err_and}
 use Rattle.pb_wire.specs.Fault.{fault}
 use Rattle.pb_wire.specs.Token.{given_at}
-use Rattle.pb_parts.specs.Open.Frames.{Stands}
+use Rattle.pb_parts.specs.Open.Parents.{Stands}
 use Rattle.pb_parts.specs.Open.PartView.{part_view, scope_view}
-use Rattle.pb_decode.specs.Reader.{state_view, frames_view, left_of, path_here}
-use Rattle.pb_decode.proofs.ReaderLemmas.{fault_told}
+use Rattle.pb_decode.specs.Reader.{state_view, parents_view, left_of, path_here}
+use Rattle.pb_decode.proofs.ReaderLemmas.{fault_reported}
 use Rattle.pb_decode.proofs.EndedLemmas.{standing}
 use Rattle.pb_decode.proofs.TagTaken.{light, number_long, front_whole, front_short, stops_at_tag, tag_short, refused_at_tag}
 use Rattle.pb_decode.proofs.WaitLemmas.{end_waits, tag_waits}
@@ -22,8 +22,8 @@ returns-then-is_spent-clause-taken c =
 
 pub pass_tag-requires-clause-fits : goal.pass_tag-requires-clause-fits
 pass_tag-requires-clause-fits c =
-    let told = front_whole c.args.reader.now.at c.left-2.result c.left-2.result c.args.bytes.now c.in-Ok-Some.field-0 c.in-Ok-Some.tag c.in-Ok-Some.size c.in-Ok-Some.field-0-is refl (c.in-Ok-Some.ensures.whole c.args.reader.now.at) in
-    let within = told.0 in
+    let reported = front_whole c.args.reader.now.at c.left-2.result c.left-2.result c.args.bytes.now c.in-Ok-Some.field-0 c.in-Ok-Some.tag c.in-Ok-Some.size c.in-Ok-Some.field-0-is refl (c.in-Ok-Some.ensures.whole c.args.reader.now.at) in
+    let within = reported.0 in
     let small = c.requires.reading.small in
     omega (arith, within, small)
 
@@ -31,26 +31,26 @@ pub returns-in_err-pass_tag-in-Ok-Some-clause-refused :
     goal.returns-in_err-pass_tag-in-Ok-Some-clause-refused
 returns-in_err-pass_tag-in-Ok-Some-clause-refused c =
     λ m depth levels base p0 begun.
-    let told =
+    let reported =
     front_whole c.args.reader.now.at c.left-2.result (left_of (state_view c.args.reader.now)) c.args.bytes.now c.in-Ok-Some.field-0 c.in-Ok-Some.tag c.in-Ok-Some.size c.in-Ok-Some.field-0-is c.left-2.ensures
     (c.in-Ok-Some.ensures.whole c.args.reader.now.at) in
     let p = err_from_is_err_and c.from_residual.result c.from_residual.ensures.1 in
-    rw (p.1, p.2) (c.in_err-pass_tag-in-Ok-Some.ensures.refused m depth levels base p0 c.args.bytes.now begun told.1)
+    rw (p.1, p.2) (c.in_err-pass_tag-in-Ok-Some.ensures.refused m depth levels base p0 c.args.bytes.now begun reported.1)
 
 pub returns-in_ok-pass_tag-in-Ok-Some-clause-passes : goal.returns-in_ok-pass_tag-in-Ok-Some-clause-passes
 returns-in_ok-pass_tag-in-Ok-Some-clause-passes c =
-    let told = front_whole c.args.reader.now.at c.left-2.result c.left-2.result c.args.bytes.now c.in-Ok-Some.field-0 c.in-Ok-Some.tag c.in-Ok-Some.size c.in-Ok-Some.field-0-is refl (c.in-Ok-Some.ensures.whole c.args.reader.now.at) in
-    let some = number_long (given_at c.args.reader.now.at c.left-2.result c.args.bytes.now) c.in-Ok-Some.size told.1 in
+    let reported = front_whole c.args.reader.now.at c.left-2.result c.left-2.result c.args.bytes.now c.in-Ok-Some.field-0 c.in-Ok-Some.tag c.in-Ok-Some.size c.in-Ok-Some.field-0-is refl (c.in-Ok-Some.ensures.whole c.args.reader.now.at) in
+    let some = number_long (given_at c.args.reader.now.at c.left-2.result c.args.bytes.now) c.in-Ok-Some.size reported.1 in
     let small = light c.pass_tag.new.reader.step in
-    (told.0, c.in_ok-pass_tag-in-Ok-Some.ensures.at, omega (arith, some, small))
+    (reported.0, c.in_ok-pass_tag-in-Ok-Some.ensures.at, omega (arith, some, small))
 
 pub returns-in_ok-pass_tag-in-Ok-Some-clause-taken : goal.returns-in_ok-pass_tag-in-Ok-Some-clause-taken
 returns-in_ok-pass_tag-in-Ok-Some-clause-taken c =
     λ m depth levels base p0 begun.
-    let told =
+    let reported =
     front_whole c.args.reader.now.at c.left-2.result (left_of (state_view c.args.reader.now)) c.args.bytes.now c.in-Ok-Some.field-0 c.in-Ok-Some.tag c.in-Ok-Some.size c.in-Ok-Some.field-0-is c.left-2.ensures
     (c.in-Ok-Some.ensures.whole c.args.reader.now.at) in
-    c.in_ok-pass_tag-in-Ok-Some.ensures.reads m depth levels base p0 c.args.bytes.now begun told.1
+    c.in_ok-pass_tag-in-Ok-Some.ensures.reads m depth levels base p0 c.args.bytes.now begun reported.1
 
 pub returns-in-Ok-None-clause-taken : goal.returns-in-Ok-None-clause-taken
 returns-in-Ok-None-clause-taken c =
@@ -66,11 +66,11 @@ returns-in-Err-clause-refused c =
     λ m depth levels base p0 begun.
     let open_end : c.left-2.result ≢ Some 0 = subst (λ (z : Option ℕ). z ≢ Some 0) (c.left.ensures ∙ sym c.left-2.ensures) c.if-is_spent.ensures.1 in
     let stands =
-    subst (λ (z : Option ℕ). Stands c.args.pool.now m depth levels base p0 (frames_view c.args.reader.now.frames.items) (part_view c.args.reader.now.part) (scope_view c.args.reader.now.scope) (given_at c.args.reader.now.at z c.args.bytes.now)) (sym c.left-2.ensures)
-    (standing (state_view c.args.reader.now) c.args.bytes.now (frames_view c.args.reader.now.frames.items) (part_view c.args.reader.now.part) begun c.requires.step refl refl) in
-    fault_told c.fault_at.result (fault c.args.reader.now.at (path_here (state_view c.args.reader.now)) c.in-Err.cause) c.fault_at.ensures
+    subst (λ (z : Option ℕ). Stands c.args.pool.now m depth levels base p0 (parents_view c.args.reader.now.parents.items) (part_view c.args.reader.now.part) (scope_view c.args.reader.now.scope) (given_at c.args.reader.now.at z c.args.bytes.now)) (sym c.left-2.ensures)
+    (standing (state_view c.args.reader.now) c.args.bytes.now (parents_view c.args.reader.now.parents.items) (part_view c.args.reader.now.part) begun c.requires.step refl refl) in
+    fault_reported c.fault_at.result (fault c.args.reader.now.at (path_here (state_view c.args.reader.now)) c.in-Err.cause) c.fault_at.ensures
     (refused_at_tag (state_view c.args.reader.now) c.in-Err.cause c.requires.step c.in-Err.ensures.settled
-    (c.in-Err.ensures.tag c.args.pool.now m depth levels c.args.reader.now.at base p0 (frames_view c.args.reader.now.frames.items) (scope_view c.args.reader.now.scope) (part_view c.args.reader.now.part) stands open_end c.if-is_spent.ensures.0))
+    (c.in-Err.ensures.tag c.args.pool.now m depth levels c.args.reader.now.at base p0 (parents_view c.args.reader.now.parents.items) (scope_view c.args.reader.now.scope) (part_view c.args.reader.now.part) stands open_end c.if-is_spent.ensures.0))
 
 pub returns-then-is_spent-clause-waits : goal.returns-then-is_spent-clause-waits
 returns-then-is_spent-clause-waits c =

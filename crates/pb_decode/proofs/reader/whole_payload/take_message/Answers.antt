@@ -4,7 +4,7 @@ use Rattle.pb_wire.specs.Fault.{HasTag}
 use Rattle.pb_wire.specs.Token.{given_at, passed}
 use Rattle.pb_value.specs.View.{body_view}
 use Rattle.pb_parts.specs.Open.PartView.{part_view, scope_view}
-use Rattle.pb_decode.specs.Reader.{state_view, frames_view, left_of, here}
+use Rattle.pb_decode.specs.Reader.{state_view, parents_view, left_of, here}
 use Rattle.pb_parts.proofs.PlaceLemmas.{slice_from}
 use Rattle.pb_whole.proofs.Payloads.{message_inside, none_left}
 use Rattle.pb_decode.proofs.WholeRecords.{tag_few, tag_can, tag_stands, length_here, message_in_reader, inner_passed}
@@ -43,6 +43,6 @@ returns-in_ok-close_message-in-Message-clause-taken c =
     let read = message_inside s.at (left_of s) c.args.bytes.now c.args.tag.number c.args.tag.size c.in-Some.start c.in-Some.size s.scope.depth_left c.depth_left_in.result c.args.message_type c.args.slot s.now (body_view c.empty_body.result) c.requires.at_tag.rules (s.scope, tag_stands s c.args.bytes.now begun c.requires.at_tag.step, refl) c.depth_left_in.ensures has l c.requires.means (c.if-not-has_level.ensures.depth_left refl) (sym free.1) (c.empty_body.ensures ∙ sym free.0) c.in-Ok.ensures (ap part_view c.in-Message.is) in
     let q = passed (given_at (c.args.reader.now.at + c.in-Some.start) (Some c.in-Some.size) (take (length c.args.bytes.now - c.in-Some.start) (drop c.in-Some.start c.args.bytes.now))) c.in-Some.size in
     inner_passed s
-    (record { at = c.args.reader.now.at + (c.in-Some.start + c.in-Some.size); now = part_view c.close_message.new.outer; scope = scope_view c.close_message.new.scope; frames = frames_view c.args.reader.now.frames.items; next = c.args.reader.now.step })
+    (record { at = c.args.reader.now.at + (c.in-Some.start + c.in-Some.size); now = part_view c.close_message.new.outer; scope = scope_view c.close_message.new.scope; parents = parents_view c.args.reader.now.parents.items; next = c.args.reader.now.step })
     c.args.bytes.now c.in-Some.start c.in-Some.size refl c.requires.at_tag.step c.in_ok-close_message-in-Message.ensures.same_end
-    (c.in_ok-close_message-in-Message.ensures.stands m depth levels c.in-Message._kind.0 base p0 q (frames_view c.args.reader.now.frames.items) read.0 read.1 (none_left c.in-Some.size))
+    (c.in_ok-close_message-in-Message.ensures.stands m depth levels c.in-Message._kind.0 base p0 q (parents_view c.args.reader.now.parents.items) read.0 read.1 (none_left c.in-Some.size))

@@ -2,10 +2,10 @@
 use Rattle.std.proofs.Common.{ℕ, ◌+◌, refl, sym, subst, arith}
 use Rattle.pb_wire.specs.Fault.{HasTag}
 use Rattle.pb_wire.specs.Token.{passed}
-use Rattle.pb_parts.specs.Open.Frames.{Scope, Stands}
+use Rattle.pb_parts.specs.Open.Parents.{Scope, Stands}
 use Rattle.pb_parts.specs.Open.PartView.{part_view, scope_view}
 use Rattle.pb_parts.proofs.PlaceLemmas.{slice_size}
-use Rattle.pb_decode.specs.Reader.{state_view, frames_view, here}
+use Rattle.pb_decode.specs.Reader.{state_view, parents_view, here}
 use Rattle.pb_decode.proofs.ReaderLemmas.{stands_reads}
 use Rattle.pb_whole.proofs.Tags.{bytes_next, payload_leads}
 use Rattle.pb_decode.proofs.WholeRecords.{tag_stands, tag_can, tag_few, length_here}
@@ -31,8 +31,8 @@ returns-in_ok-count_one-in-Ok-clause-taken c =
     let next = bytes_next c.args.tag.number c.in-Some.size c.args.target (tag_stands (state_view c.args.reader.now) c.args.bytes.now begun c.requires.at_tag.step) has c.requires.means c.requires.target l in
     let size = slice_size c.in-Some.start c.in-Some.size c.args.bytes.now within in
     stands_reads (state_view c.args.reader.now)
-    (record { at = c.args.reader.now.at + (c.in-Some.start + c.in-Some.size); now = part_view c.put_payload.new.part; scope = scope_view c.count_one.new.scope; frames = frames_view c.args.reader.now.frames.items; next = c.args.reader.now.step })
+    (record { at = c.args.reader.now.at + (c.in-Some.start + c.in-Some.size); now = part_view c.put_payload.new.part; scope = scope_view c.count_one.new.scope; parents = parents_view c.args.reader.now.parents.items; next = c.args.reader.now.step })
     (c.in-Some.start + c.in-Some.size) c.args.bytes.now refl c.in_ok-count_one-in-Ok.ensures.same_end c.requires.at_tag.step
-    (subst (λ (z : Scope). Stands c.args.pool.now m depth levels base p0 (frames_view c.args.reader.now.frames.items) (part_view c.put_payload.new.part) z (passed p (c.in-Some.start + c.in-Some.size))) (sym c.in_ok-count_one-in-Ok.ensures.more)
-    (c.in-Ok.ensures.stands m depth levels c.in-Some.size base p0 (passed p c.in-Some.start) (passed p (c.in-Some.start + c.in-Some.size)) (frames_view c.args.reader.now.frames.items) (scope_view c.args.reader.now.scope) next size
+    (subst (λ (z : Scope). Stands c.args.pool.now m depth levels base p0 (parents_view c.args.reader.now.parents.items) (part_view c.put_payload.new.part) z (passed p (c.in-Some.start + c.in-Some.size))) (sym c.in_ok-count_one-in-Ok.ensures.more)
+    (c.in-Ok.ensures.stands m depth levels c.in-Some.size base p0 (passed p c.in-Some.start) (passed p (c.in-Some.start + c.in-Some.size)) (parents_view c.args.reader.now.parents.items) (scope_view c.args.reader.now.scope) next size
     (payload_leads p c.in-Some.start c.in-Some.size (passed p c.args.tag.size) within l)))

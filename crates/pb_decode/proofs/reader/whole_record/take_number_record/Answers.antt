@@ -4,13 +4,13 @@ use Rattle.pb_wire.specs.Fault.{Place}
 use Rattle.pb_wire.specs.Token.{passed}
 use Rattle.pb_parts.specs.Tokens.Number.{number_view}
 use Rattle.pb_parts.specs.Tokens.Numbers.{Follows}
-use Rattle.pb_parts.specs.Open.Frames.{Scope, Stands}
+use Rattle.pb_parts.specs.Open.Parents.{Scope, Stands}
 use Rattle.pb_parts.specs.Open.PartView.{part_view, scope_view}
 use Rattle.pb_parts.specs.Tokens.After.{tag}
-use Rattle.pb_decode.specs.Reader.{state_view, frames_view, left_of, here}
+use Rattle.pb_decode.specs.Reader.{state_view, parents_view, left_of, here}
 use Rattle.pb_decode.proofs.ReaderLemmas.{stands_reads}
 use Rattle.pb_parts.proofs.PlaceLemmas.{slice_from}
-use Rattle.pb_whole.proofs.Tags.{there_behind, number_next}
+use Rattle.pb_whole.proofs.Tags.{there_after, number_next}
 use Rattle.pb_decode.proofs.WholeRecords.{tag_stands, tag_can, tag_few}
 use Rattle.pb_decode.proofs.reader.whole_record.take_number_record.Goals as goal
 
@@ -29,49 +29,49 @@ count_one-requires c =
 pub returns-in_ok-count_one-in-Whole-clause-taken : goal.returns-in_ok-count_one-in-Whole-clause-taken
 returns-in_ok-count_one-in-Whole-clause-taken c =
     λ m depth levels base p0 begun.
-    let told = c.in-Whole.ensures (c.args.reader.now.at + c.args.tag.size) in
-    let behind = c.left_after-after.ensures ∙ ap (λ (z : Option ℕ). option_map (λ (e : ℕ). e - c.args.tag.size) z) c.left.ensures in
+    let reported = c.in-Whole.ensures (c.args.reader.now.at + c.args.tag.size) in
+    let after = c.left_after-after.ensures ∙ ap (λ (z : Option ℕ). option_map (λ (e : ℕ). e - c.args.tag.size) z) c.left.ensures in
     let follows =
-    there_behind (λ (p q : Place). Follows p (number_view c.in-Whole.value) q) c.args.reader.now.at (left_of (state_view c.args.reader.now)) c.left_after-after.result c.args.bytes.now c.args.tag.size c.in-Whole.size behind told.2 in
+    there_after (λ (p q : Place). Follows p (number_view c.in-Whole.value) q) c.args.reader.now.at (left_of (state_view c.args.reader.now)) c.left_after-after.result c.args.bytes.now c.args.tag.size c.in-Whole.size after reported.2 in
     let next =
     number_next c.args.tag.number c.args.tag.wire_type c.target_of-target.result c.requires.number (tag_stands (state_view c.args.reader.now) c.args.bytes.now begun c.requires.at_tag.step) c.requires.at_tag.there c.target_of-target.ensures in
     let u = passed (here (state_view c.args.reader.now) c.args.bytes.now) c.args.tag.size in
     let w = passed (here (state_view c.args.reader.now) c.args.bytes.now) (c.args.tag.size + c.in-Whole.size) in
     stands_reads (state_view c.args.reader.now)
-    (record { at = c.args.reader.now.at + (c.args.tag.size + c.in-Whole.size); now = part_view c.put_number.new.part; scope = scope_view c.count_one.new.scope; frames = frames_view c.args.reader.now.frames.items; next = c.args.reader.now.step })
+    (record { at = c.args.reader.now.at + (c.args.tag.size + c.in-Whole.size); now = part_view c.put_number.new.part; scope = scope_view c.count_one.new.scope; parents = parents_view c.args.reader.now.parents.items; next = c.args.reader.now.step })
     (c.args.tag.size + c.in-Whole.size) c.args.bytes.now refl c.in_ok-count_one-in-Whole.ensures.same_end c.requires.at_tag.step
-    (subst (λ (z : Scope). Stands c.args.pool.now m depth levels base p0 (frames_view c.args.reader.now.frames.items) (part_view c.put_number.new.part) z w) (sym c.in_ok-count_one-in-Whole.ensures.more)
-    (c.in_ok-put_number-in-Whole.ensures m depth levels base p0 u w (frames_view c.args.reader.now.frames.items) (scope_view c.args.reader.now.scope) next.0 next.2
-    (next.1 ∙ ap (λ (z : ℕ). Some (tag c.args.tag.number z c.target_of-target.result)) (sym told.0)) follows))
+    (subst (λ (z : Scope). Stands c.args.pool.now m depth levels base p0 (parents_view c.args.reader.now.parents.items) (part_view c.put_number.new.part) z w) (sym c.in_ok-count_one-in-Whole.ensures.more)
+    (c.in_ok-put_number-in-Whole.ensures m depth levels base p0 u w (parents_view c.args.reader.now.parents.items) (scope_view c.args.reader.now.scope) next.0 next.2
+    (next.1 ∙ ap (λ (z : ℕ). Some (tag c.args.tag.number z c.target_of-target.result)) (sym reported.0)) follows))
 
 pub overflow_add-used : goal.overflow_add-used
 overflow_add-used c =
     let is = ap length (slice_from c.args.tag.size c.args.bytes.now) ∙ length-drop c.args.tag.size c.args.bytes.now in
-    let behind = (c.in-Whole.ensures 0).1 in
+    let after = (c.in-Whole.ensures 0).1 in
     let within = c.requires.at_tag.within in
     let small = c.requires.at_tag.reading.small in
-    omega (arith, is, behind, within, small)
+    omega (arith, is, after, within, small)
 
 pub overflow_cast-reader : goal.overflow_cast-reader
 overflow_cast-reader c =
     let is = ap length (slice_from c.args.tag.size c.args.bytes.now) ∙ length-drop c.args.tag.size c.args.bytes.now in
-    let behind = (c.in-Whole.ensures 0).1 in
+    let after = (c.in-Whole.ensures 0).1 in
     let within = c.requires.at_tag.within in
     let small = c.requires.at_tag.reading.small in
-    omega (arith, is, behind, within, small)
+    omega (arith, is, after, within, small)
 
 pub overflow_add-reader : goal.overflow_add-reader
 overflow_add-reader c =
     let is = ap length (slice_from c.args.tag.size c.args.bytes.now) ∙ length-drop c.args.tag.size c.args.bytes.now in
-    let behind = (c.in-Whole.ensures 0).1 in
+    let after = (c.in-Whole.ensures 0).1 in
     let within = c.requires.at_tag.within in
     let small = c.requires.at_tag.reading.small in
-    omega (arith, is, behind, within, small)
+    omega (arith, is, after, within, small)
 
 pub returns-in_ok-count_one-in-Whole-clause-passes : goal.returns-in_ok-count_one-in-Whole-clause-passes
 returns-in_ok-count_one-in-Whole-clause-passes c =
     let is = ap length (slice_from c.args.tag.size c.args.bytes.now) ∙ length-drop c.args.tag.size c.args.bytes.now in
-    let behind = (c.in-Whole.ensures 0).1 in
+    let after = (c.in-Whole.ensures 0).1 in
     let within = c.requires.at_tag.within in
     let small = c.requires.at_tag.reading.small in
-    (omega arith, omega (arith, is, behind, within, small), refl)
+    (omega arith, omega (arith, is, after, within, small), refl)

@@ -4,7 +4,7 @@ use Rattle.pb_wire.specs.Unknown.{records_of}
 use Rattle.pb_wire.specs.Record.{Payload}
 use Rattle.pb_wire.proofs.UnknownLemmas.{payload_of-Group}
 use Rattle.pb_parts.specs.Values.Put.{put_record}
-use Rattle.pb_parts.specs.Open.Frames.{put_group}
+use Rattle.pb_parts.specs.Open.Parents.{put_group}
 use Rattle.pb_parts.specs.Open.PartView.{part_view}
 use Rattle.pb_parts.specs.declared.open.part.Slot.{Slot}
 use Rattle.pb_parts.proofs.ClosingLemmas.{group_put}

@@ -3,7 +3,7 @@ use Rattle.std.proofs.Common.{sym, ap, ◌∙◌, subst, option_map}
 use Rattle.pb_wire.specs.Unknown.{records_of}
 use Rattle.pb_value.specs.View.{key_view, value_view, body_view}
 use Rattle.pb_parts.specs.declared.open.part.Part.{Part}
-use Rattle.pb_parts.specs.Open.Frames.{message_part}
+use Rattle.pb_parts.specs.Open.Parents.{message_part}
 use Rattle.pb_parts.specs.Open.PartView.{part_view}
 use Rattle.pb_parts.specs.Close.Mapped.{pairs_view, put_all_mapped, FitMapped}
 use Rattle.pb_parts.proofs.MapPuts.{fit_of, all_in_message, all_in_entry, all_in_group}

@@ -1,7 +1,7 @@
 -- A field that the message does not have is free.
 use Rattle.std.proofs.Common.{sym, ap, ◌∙◌}
 use Rattle.pb_value.specs.View.{body_view}
-use Rattle.pb_parts.specs.Open.Frames.{message_part}
+use Rattle.pb_parts.specs.Open.Parents.{message_part}
 use Rattle.pb_parts.specs.Open.Openings.{message_held}
 use Rattle.pb_parts.proofs.RunLemmas.{absent}
 use Rattle.pb_parts.proofs.AnswerLemmas.{not_yes}

@@ -9,6 +9,6 @@ use Rattle.pb_parts.proofs.tokens.begin.begin_list.Goals as goal
 
 pub returns-clause-after : goal.returns-clause-after
 returns-clause-after c =
-    λ pool m depth levels n base p0 u t frames now begun l at.
-    subst (λ (z : ℕ). After pool m depth levels base p0 frames (steps.Elements c.args.number c.args.kind c.args.scope.now.end) now (record (scope_view c.args.scope.now) { end = Some z }) (payload_at t n)) (sym at)
+    λ pool m depth levels n base p0 u t parents now begun l at.
+    subst (λ (z : ℕ). After pool m depth levels base p0 parents (steps.Elements c.args.number c.args.kind c.args.scope.now.end) now (record (scope_view c.args.scope.now) { end = Some z }) (payload_at t n)) (sym at)
     (list_begins c.args.number c.args.kind n begun refl l)

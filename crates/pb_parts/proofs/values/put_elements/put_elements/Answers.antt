@@ -3,7 +3,7 @@ use Rattle.std.proofs.Common.{sym, ap, ◌∙◌, map, option_map}
 use Rattle.pb_wire.specs.Unknown.{records_of}
 use Rattle.pb_value.specs.View.{key_view, value_view}
 use Rattle.pb_parts.specs.declared.open.part.Part.{Part}
-use Rattle.pb_parts.specs.Open.Frames.{message_part}
+use Rattle.pb_parts.specs.Open.Parents.{message_part}
 use Rattle.pb_parts.specs.Values.Run.{put_each}
 use Rattle.pb_parts.specs.Open.PartView.{part_view}
 use Rattle.pb_parts.proofs.RunLemmas.{each_in_message, each_in_entry, each_in_group}

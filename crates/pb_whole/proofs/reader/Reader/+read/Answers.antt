@@ -12,12 +12,12 @@ use Rattle.pb_value.specs.View.{body_view, key_view, value_view}
 use Rattle.pb_parts.specs.declared.open.part.Part.TheVariants as part_kept
 use Rattle.pb_parts.specs.declared.open.part.Slot.TheVariants as slot
 use Rattle.pb_parts.specs.declared.open.target.Target.TheVariants.{Message}
-use Rattle.pb_parts.specs.Open.Frames.{Part, entry_part, one_more_in, Stands}
+use Rattle.pb_parts.specs.Open.Parents.{Part, entry_part, one_more_in, Stands}
 use Rattle.pb_parts.specs.Open.PartView.{part_view}
 use Rattle.pb_parts.specs.Open.Targets.{Means, part_context}
 use Rattle.pb_parts.specs.Close.Mapped.{pairs_view, put_mapped, put_all_mapped}
 use Rattle.pb_parts.specs.Values.Run.{put_listed}
-use Rattle.pb_parts.proofs.PlaceLemmas.{slice_from, place_behind}
+use Rattle.pb_parts.proofs.PlaceLemmas.{slice_from, place_after}
 use Rattle.pb_parts.proofs.WellLemmas.{can_hold}
 use Rattle.pb_parts.proofs.GroupSteps.{unknown_group_means}
 use Rattle.pb_whole.specs.declared.reader.Left.{Left}
@@ -28,8 +28,8 @@ use Rattle.pb_whole.specs.Entries.{more_in, IsMapOpen, IsEntry}
 use Rattle.pb_whole.proofs.Payloads.{open_can, still_open, filled_further, typed_tag, message_in_part, entry_inside, message_inside, message_over}
 use Rattle.pb_whole.proofs.GroupReads.{field_group_in_part, field_group_inside, field_group_over, unknown_group_in_part, unknown_group_inside, unknown_group_over, end_reached}
 use Rattle.pb_whole.proofs.ListedLemmas.{values_further, none_listed, list_further, message_listed}
-use Rattle.pb_whole.proofs.MapRuns.{entry_in_map, entry_taken, rises_in, map_open_in, run_filled, more_room, means_along, run_further, open_further, none_read}
-use Rattle.pb_whole.proofs.Held.{frame_can_hold}
+use Rattle.pb_whole.proofs.MapRuns.{entry_in_map, entry_taken, rises_in, map_open_in, run_filled, more_depth, means_along, run_further, open_further, none_read}
+use Rattle.pb_whole.proofs.Held.{parent_can_hold}
 use Rattle.pb_whole.proofs.reader.Reader.+read.Goals as goal
 
 -- one more entry, where it is read
@@ -106,11 +106,11 @@ read_message-put_message-requires t c =
     let from = c.requires.at_tag.can.is_open in
     let has = typed_tag c.args.bytes.now (Some c.args.left.remaining) c.args.tag.number c.args.tag.wire_type 2 c.args.tag.size c.requires.bytes c.requires.at_tag.there in
     let read = message_inside from.at (Some c.args.left.remaining) c.args.bytes.now c.args.tag.number c.args.tag.size c.in-Some.start c.in-Some.size c.args.left.depth_left c.depth_left_in.result c.args.message_type c.args.slot (part_view c.take_message.new.outer) (body_view c.take_message.result) c.requires.at_tag.can.rules from.stands c.depth_left_in.ensures (has from.at) (c.in-Some.ensures.whole from.at c.args.tag.number c.args.tag.wire_type (c.requires.at_tag.there from.at)) c.requires.means (c.if-not-has_level.ensures.depth_left refl) c.take_message.ensures.left c.take_message.ensures.taken c.in_ok-read_records.ensures (ap part_view c.in-Message.is) in
-    frame_can_hold read.1
+    parent_can_hold read.1
 
 pub read_message-returns-in_ok-put_message-in-Message-clause-read : goal.read_message-returns-in_ok-put_message-in-Message-clause-read
 read_message-returns-in_ok-put_message-in-Message-clause-read t c =
-    λ m depth levels at base p0 frames there.
+    λ m depth levels at base p0 parents there.
     let has = typed_tag c.args.bytes.now (Some c.args.left.remaining) c.args.tag.number c.args.tag.wire_type 2 c.args.tag.size c.requires.bytes c.requires.at_tag.there in
     let read = message_inside at (Some c.args.left.remaining) c.args.bytes.now c.args.tag.number c.args.tag.size c.in-Some.start c.in-Some.size c.args.left.depth_left c.depth_left_in.result c.args.message_type c.args.slot (part_view c.take_message.new.outer) (body_view c.take_message.result) c.requires.at_tag.can.rules there c.depth_left_in.ensures (has at) (c.in-Some.ensures.whole at c.args.tag.number c.args.tag.wire_type (c.requires.at_tag.there at)) c.requires.means (c.if-not-has_level.ensures.depth_left refl) c.take_message.ensures.left c.take_message.ensures.taken c.in_ok-read_records.ensures (ap part_view c.in-Message.is) in
     message_over at c.args.left.remaining c.args.bytes.now c.args.tag.number c.in-Some.start c.in-Some.size c.args.left.depth_left c.depth_left_in.result c.in-Message._kind.0 c.args.slot (body_view c.in-Message.message) (part_view c.put_message.new.outer) there.1 there.2 read
@@ -144,7 +144,7 @@ message_after-read_records-requires t c =
 
 pub message_after-returns-in-Message-clause-put : goal.message_after-returns-in-Message-clause-put
 message_after-returns-in-Message-clause-put t c =
-    λ now meant m depth levels at base p0 frames there.
+    λ now meant m depth levels at base p0 parents there.
     let number = c.args.tag.number in
     let has = typed_tag c.args.bytes.now (Some c.args.left.remaining) number c.args.tag.wire_type 2 c.args.tag.size c.requires.bytes c.requires.tag in
     let means = subst (λ (z : ℕ). Means c.args.self.now.pool.now (part_context now) number z (Message c.args.message_type (slot.List number))) c.requires.bytes meant in
@@ -175,7 +175,7 @@ group_after-read_to_end-requires t c =
 
 pub group_after-returns-in-Message-clause-put : goal.group_after-returns-in-Message-clause-put
 group_after-returns-in-Message-clause-put t c =
-    λ now meant m depth levels at base p0 frames there.
+    λ now meant m depth levels at base p0 parents there.
     let number = c.args.tag.number in
     let start = typed_tag c.args.bytes.now (Some c.args.left.remaining) number c.args.tag.wire_type 3 c.args.tag.size c.requires.start c.requires.tag in
     let means = subst (λ (z : ℕ). Means c.args.self.now.pool.now (part_context now) number z (Message c.args.message_type (slot.List number))) c.requires.start meant in
@@ -329,7 +329,7 @@ pub entry_after-returns-in_ok-push-in-Entry-clause-put : goal.entry_after-return
 entry_after-returns-in_ok-push-in-Entry-clause-put t c = (
   (c.key_or_default-key.result, c.value_or_missing-value.result),
   c.in_ok-push-in-Entry.ensures.items,
-  λ m depth levels at base p0 frames scope now stands level means.
+  λ m depth levels at base p0 parents scope now stands level means.
       let has = typed_tag c.args.bytes.now (Some c.args.left.remaining) c.args.tag.number c.args.tag.wire_type 2 c.args.tag.size c.requires.bytes c.requires.tag in
       let read = entry_inside at (Some c.args.left.remaining) c.args.bytes.now c.args.tag.number c.args.tag.size c.in-Some.start c.in-Some.size c.args.left.depth_left c.args.key_kind c.args.value_kind c.requires.rules (scope, stands, level) (has at) (c.in-Some.ensures.whole at c.args.tag.number c.args.tag.wire_type (c.requires.tag at)) means c.requires.level c.in_ok-read_entry.ensures (ap part_view c.in-Entry.is) in
       entry_taken at (Some c.args.left.remaining) c.args.bytes.now c.args.tag.number c.in-Some.start c.in-Some.size (c.args.left.depth_left - 1) c.in-Entry.entry.key_kind c.in-Entry.entry.value_kind (option_map key_view c.in-Entry.entry.key) (option_map value_view c.in-Entry.entry.value) (key_view c.key_or_default-key.result) (value_view c.value_or_missing-value.result) c.requires.rules stands read c.key_or_default-key.ensures c.value_or_missing-value.ensures,
@@ -339,7 +339,7 @@ entry_after-returns-in_ok-push-in-Entry-clause-put t c = (
 pub entries_from-loop-tag-init : goal.entries_from-loop-tag-init
 entries_from-loop-tag-init t c = record {
   within = omega arith;
-  put = λ m depth levels at base p0 frames scope now stands level means. none_read at (Some c.args.left.remaining) c.args.bytes.now c.args.number c.new-entries.result.items c.new-entries.ensures.items stands;
+  put = λ m depth levels at base p0 parents scope now stands level means. none_read at (Some c.args.left.remaining) c.args.bytes.now c.args.number c.new-entries.result.items c.new-entries.ensures.items stands;
 }
 
 pub entries_from-entry_after-requires : goal.entries_from-entry_after-requires
@@ -357,7 +357,7 @@ entries_from-entry_after-requires t c =
           subst (λ (z : Left). IsMapOpen c.args.self.now.pool.now c.in-Some.tag.number c.args.key_kind c.args.value_kind rest (Some z.remaining) z.depth_left) (sym c.after-in-Some.ensures)
               (subst (λ (z : ℕ). IsMapOpen c.args.self.now.pool.now z c.args.key_kind c.args.value_kind rest (Some (c.args.left.remaining - here)) c.args.left.depth_left) (sym c.in-Some.ensures.own.0)
               (open_further from here (Some (c.args.left.remaining - here)) c.loop-tag.entries.items refl
-              (c.loop-tag.invariant.put from.m from.depth from.levels from.at from.base from.p0 from.frames from.scope from.now from.stands from.level from.means).1)),
+              (c.loop-tag.invariant.put from.m from.depth from.levels from.at from.base from.p0 from.parents from.scope from.now from.stands from.level from.means).1)),
           (
             subst (λ (z : Left). 0 < z.depth_left) (sym c.after-in-Some.ensures) c.requires.level,
             (
@@ -389,17 +389,17 @@ entries_from-loop-tag-preserved t c =
     let entry = added.0 in
     record {
       within = omega (arith, size, enough, within);
-      put = λ m depth levels at base p0 frames scope now stands level means.
+      put = λ m depth levels at base p0 parents scope now stands level means.
           let p : Place = given_at at (Some c.args.left.remaining) c.args.bytes.now in
           let items = c.loop-tag.entries.items in
-          let was = c.loop-tag.invariant.put m depth levels at base p0 frames scope now stands level means in
-          let behind = place_behind at (Some c.args.left.remaining) (Some (c.args.left.remaining - here)) c.args.bytes.now here refl in
-          let there = subst (Stands c.args.self.now.pool.now m depth levels base p0 frames (put_all_mapped number (pairs_view items) now) (more_in number (length items) scope)) behind was.1 in
-          let told = added.2 m depth levels (at + here) base p0 frames (more_in number (length items) scope) (put_all_mapped number (pairs_view items) now) there
-          (more_room number (length items) scope ∙ level) (means_along c.args.self.now.pool.now number number (pairs_view items) now c.args.key_kind c.args.value_kind means) in
-          run_further scope now p here c.in_ok-size.size number items c.entry_after.new.entries.items entry added.1 was.0 told.0
-          (subst (Stands c.args.self.now.pool.now m depth levels base p0 frames (put_mapped number (key_view entry.0, value_view entry.1) (put_all_mapped number (pairs_view items) now)) (one_more_in number (more_in number (length items) scope)))
-          (ap (λ (z : Place). passed z c.in_ok-size.size) (sym behind)) told.1);
+          let was = c.loop-tag.invariant.put m depth levels at base p0 parents scope now stands level means in
+          let after = place_after at (Some c.args.left.remaining) (Some (c.args.left.remaining - here)) c.args.bytes.now here refl in
+          let there = subst (Stands c.args.self.now.pool.now m depth levels base p0 parents (put_all_mapped number (pairs_view items) now) (more_in number (length items) scope)) after was.1 in
+          let reported = added.2 m depth levels (at + here) base p0 parents (more_in number (length items) scope) (put_all_mapped number (pairs_view items) now) there
+          (more_depth number (length items) scope ∙ level) (means_along c.args.self.now.pool.now number number (pairs_view items) now c.args.key_kind c.args.value_kind means) in
+          run_further scope now p here c.in_ok-size.size number items c.entry_after.new.entries.items entry added.1 was.0 reported.0
+          (subst (Stands c.args.self.now.pool.now m depth levels base p0 parents (put_mapped number (key_view entry.0, value_view entry.1) (put_all_mapped number (pairs_view items) now)) (one_more_in number (more_in number (length items) scope)))
+          (ap (λ (z : Place). passed z c.in_ok-size.size) (sym after)) reported.1);
     }
 
 -- THEY GO into their map
@@ -420,16 +420,16 @@ read_entries-entries_from-requires t c =
 pub read_entries-put_entries-requires-clause-fits : goal.read_entries-put_entries-requires-clause-fits
 read_entries-put_entries-requires-clause-fits t c =
     let from = c.requires.at_tag.can.is_open in
-    (c.in_ok-entries.ensures.put from.m from.depth from.levels from.at from.base from.p0 from.frames from.stands.0 (part_view c.args.part.now) from.stands.1 from.stands.2 c.requires.means).0
+    (c.in_ok-entries.ensures.put from.m from.depth from.levels from.at from.base from.p0 from.parents from.stands.0 (part_view c.args.part.now) from.stands.1 from.stands.2 c.requires.means).0
 
 pub read_entries-put_entries-requires-clause-rises : goal.read_entries-put_entries-requires-clause-rises
 read_entries-put_entries-requires-clause-rises t c = rises_in c.requires.at_tag.can.rules (part_view c.args.part.now) c.requires.at_tag.can.is_open.stands.1
 
 pub read_entries-returns-clause-read : goal.read_entries-returns-clause-read
 read_entries-returns-clause-read t c =
-    λ m depth levels at base p0 frames there.
+    λ m depth levels at base p0 parents there.
     run_filled there.0 (part_view c.args.part.now) c.args.tag.number c.args.left.depth_left c.in_ok-entries.entries.items there.2 c.in_ok-put_entries.ensures
-    (c.in_ok-entries.ensures.put m depth levels at base p0 frames there.0 (part_view c.args.part.now) there.1 there.2 c.requires.means).1
+    (c.in_ok-entries.ensures.put m depth levels at base p0 parents there.0 (part_view c.args.part.now) there.1 there.2 c.requires.means).1
 
 -- THE GROUP OF A FIELD
 pub read_field_group-read_to_end-requires : goal.read_field_group-read_to_end-requires
@@ -456,11 +456,11 @@ read_field_group-put_message-requires t c =
     let below = c.below-within.ensures ∙ ap (λ (z : Left). record { remaining = z.remaining; depth_left = z.depth_left - 1 }) c.after.ensures in
     let reads = subst (λ (z : Left). ReadsToEnd c.args.self.now.pool.now c.args.tag.number (part_view (part_kept.Message c.args.message_type c.take_message.result)) (part_view c.read_to_end.new.part) (take (length c.args.bytes.now - c.args.tag.size) (drop c.args.tag.size c.args.bytes.now)) z.remaining z.depth_left c.in_ok-size.size) below c.in_ok-size.ensures.read in
     let read = field_group_inside from.at c.args.left.remaining c.args.bytes.now c.args.tag.number c.args.tag.size (c.args.left.remaining - c.args.tag.size) c.in_ok-size.size c.args.left.depth_left c.args.message_type c.args.slot (part_view c.take_message.new.outer) (body_view c.take_message.result) c.requires.at_tag.can.rules from.stands start c.requires.means c.requires.level c.take_message.ensures.left c.take_message.ensures.taken refl reads (ap part_view c.in-Message.is) in
-    frame_can_hold read.1.1
+    parent_can_hold read.1.1
 
 pub read_field_group-returns-in_ok-put_message-in-Message-clause-read : goal.read_field_group-returns-in_ok-put_message-in-Message-clause-read
 read_field_group-returns-in_ok-put_message-in-Message-clause-read t c =
-    λ m depth levels at base p0 frames there.
+    λ m depth levels at base p0 parents there.
     let start = typed_tag c.args.bytes.now (Some c.args.left.remaining) c.args.tag.number c.args.tag.wire_type 3 c.args.tag.size c.requires.start c.requires.at_tag.there in
     let below = c.below-within.ensures ∙ ap (λ (z : Left). record { remaining = z.remaining; depth_left = z.depth_left - 1 }) c.after.ensures in
     let reads = subst (λ (z : Left). ReadsToEnd c.args.self.now.pool.now c.args.tag.number (part_view (part_kept.Message c.args.message_type c.take_message.result)) (part_view c.read_to_end.new.part) (take (length c.args.bytes.now - c.args.tag.size) (drop c.args.tag.size c.args.bytes.now)) z.remaining z.depth_left c.in_ok-size.size) below c.in_ok-size.ensures.read in
@@ -487,7 +487,7 @@ read_unknown_group-read_to_end-requires t c =
 
 pub read_unknown_group-returns-in_ok-put_group-in-Group-clause-read : goal.read_unknown_group-returns-in_ok-put_group-in-Group-clause-read
 read_unknown_group-returns-in_ok-put_group-in-Group-clause-read t c =
-    λ m depth levels at base p0 frames there.
+    λ m depth levels at base p0 parents there.
     let start = typed_tag c.args.bytes.now (Some c.args.left.remaining) c.args.tag.number c.args.tag.wire_type 3 c.args.tag.size c.requires.start c.requires.at_tag.there in
     let below = c.below-within.ensures ∙ ap (λ (z : Left). record { remaining = z.remaining; depth_left = z.depth_left - 1 }) c.after.ensures in
     let reads = subst (λ (z : Left). ReadsToEnd c.args.self.now.pool.now c.args.tag.number (part_view (part_kept.Group c.new.result)) (part_view c.read_to_end.new.part) (take (length c.args.bytes.now - c.args.tag.size) (drop c.args.tag.size c.args.bytes.now)) z.remaining z.depth_left c.in_ok-size.size) below c.in_ok-size.ensures.read in

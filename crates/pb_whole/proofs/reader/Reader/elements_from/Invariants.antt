@@ -5,7 +5,7 @@ use Rattle.pb_whole.proofs.reader.Reader.elements_from.Given as goal
 
 abbrev pub invariant-loop-value : goal.invariant-loop-value
 invariant-loop-value l = record {
-  behind : l.size ≤ l.here;
+  after : l.size ≤ l.here;
   within : l.here ≤ length l.bytes;
   put : ReadsList l.self.pool.now l.kind l.number (map value_view l.values.items) l.bytes l.remaining l.here;
 }

@@ -2,7 +2,7 @@
 use Rattle.std.proofs.Common.{ℕ, sym, ◌∙◌, refl, subst}
 use Rattle.pb_value.specs.View.{value_view}
 use Rattle.pb_parts.specs.declared.open.target.Target.TheVariants.{Element}
-use Rattle.pb_parts.specs.Open.Frames.{Part}
+use Rattle.pb_parts.specs.Open.Parents.{Part}
 use Rattle.pb_parts.specs.Open.PartView.{part_view}
 use Rattle.pb_parts.specs.Open.Targets.{Means, part_context}
 use Rattle.pb_parts.specs.Tokens.Number.{IsNumberType}

@@ -4,10 +4,10 @@ use Rattle.pb_wire.specs.Fault.{Place}
 use Rattle.pb_wire.specs.Token.{given_at, passed}
 use Rattle.pb_parts.specs.Tokens.Number.{number_view}
 use Rattle.pb_parts.specs.Tokens.Numbers.{Follows}
-use Rattle.pb_parts.specs.Open.Frames.{one_more_in}
+use Rattle.pb_parts.specs.Open.Parents.{one_more_in}
 use Rattle.pb_parts.specs.Tokens.After.{tag}
 use Rattle.pb_parts.proofs.PlaceLemmas.{slice_from}
-use Rattle.pb_whole.proofs.Tags.{there_behind, number_next}
+use Rattle.pb_whole.proofs.Tags.{there_after, number_next}
 use Rattle.pb_whole.proofs.Payloads.{open_can}
 use Rattle.pb_whole.proofs.reader.Reader.read_one.Goals as goal
 
@@ -16,29 +16,29 @@ put_number-requires-clause-can c = open_can c.requires.at_tag.can.rules c.requir
 
 pub returns-in_ok-put_number-in-Whole-clause-read : goal.returns-in_ok-put_number-in-Whole-clause-read
 returns-in_ok-put_number-in-Whole-clause-read c =
-    λ m depth levels at base p0 frames there.
+    λ m depth levels at base p0 parents there.
     let p = given_at at (Some c.args.left.remaining) c.args.bytes.now in
-    let told = c.in-Whole.ensures (at + c.args.tag.size) in
+    let reported = c.in-Whole.ensures (at + c.args.tag.size) in
     let follows =
-    there_behind (λ (q r : Place). Follows q (number_view c.in-Whole.value) r) at (Some c.args.left.remaining) c.left_after-after.result c.args.bytes.now c.args.tag.size c.in-Whole.size c.left_after-after.ensures told.2 in
+    there_after (λ (q r : Place). Follows q (number_view c.in-Whole.value) r) at (Some c.args.left.remaining) c.left_after-after.result c.args.bytes.now c.args.tag.size c.in-Whole.size c.left_after-after.ensures reported.2 in
     let next = number_next c.args.tag.number c.args.tag.wire_type c.args.target c.requires.number there.1 (c.requires.at_tag.there at) c.requires.means in (
       one_more_in c.args.tag.number there.0,
-      c.in_ok-put_number-in-Whole.ensures m depth levels base p0 (passed p c.args.tag.size) (passed p (c.args.tag.size + c.in-Whole.size)) frames there.0 next.0 next.2
-          (next.1 ∙ ap (λ (z : ℕ). Some (tag c.args.tag.number z c.args.target)) (sym told.0)) follows,
+      c.in_ok-put_number-in-Whole.ensures m depth levels base p0 (passed p c.args.tag.size) (passed p (c.args.tag.size + c.in-Whole.size)) parents there.0 next.0 next.2
+          (next.1 ∙ ap (λ (z : ℕ). Some (tag c.args.tag.number z c.args.target)) (sym reported.0)) follows,
       there.2,
     )
 
 pub returns-in_ok-put_number-in-Whole-clause-passes : goal.returns-in_ok-put_number-in-Whole-clause-passes
 returns-in_ok-put_number-in-Whole-clause-passes c =
     let is = ap length (slice_from c.args.tag.size c.args.bytes.now) ∙ length-drop c.args.tag.size c.args.bytes.now in
-    let behind = (c.in-Whole.ensures 0).1 in
+    let after = (c.in-Whole.ensures 0).1 in
     let within = c.requires.at_tag.within in
-    (omega arith, omega (arith, is, behind, within))
+    (omega arith, omega (arith, is, after, within))
 
 pub overflow_add-result : goal.overflow_add-result
 overflow_add-result c =
     let is = ap length (slice_from c.args.tag.size c.args.bytes.now) ∙ length-drop c.args.tag.size c.args.bytes.now in
-    let behind = (c.in-Whole.ensures 0).1 in
+    let after = (c.in-Whole.ensures 0).1 in
     let within = c.requires.at_tag.within in
     let small = c.requires.at_tag.can.small in
-    omega (arith, is, behind, within, small)
+    omega (arith, is, after, within, small)

@@ -2,10 +2,10 @@
 use Rattle.std.proofs.Common.{◌≡◌, ◌∙◌, ◌+◌, ◌-◌, ℕ, Some, sym, ap, subst, arith, take, drop, length}
 use Rattle.pb_wire.specs.Token.{given_at, passed}
 use Rattle.pb_parts.specs.declared.tokens.step.Step.TheVariants.{Elements}
-use Rattle.pb_parts.specs.Open.Frames.{Part}
+use Rattle.pb_parts.specs.Open.Parents.{Part}
 use Rattle.pb_parts.specs.Open.PartView.{part_view}
 use Rattle.pb_parts.specs.Tokens.After.{After}
-use Rattle.pb_parts.proofs.AnswerLemmas.{told_of}
+use Rattle.pb_parts.proofs.AnswerLemmas.{reported_of}
 use Rattle.pb_parts.proofs.PlaceLemmas.{slice_from, slice_size}
 use Rattle.pb_whole.specs.Reads.{StandsIn}
 use Rattle.pb_whole.proofs.Payloads.{payload_place, typed_tag, list_filled}
@@ -13,7 +13,7 @@ use Rattle.pb_whole.proofs.reader.Reader.read_open_list.Goals as goal
 
 pub returns-clause-read : goal.returns-clause-read
 returns-clause-read c =
-    λ m depth levels at base p0 frames there.
+    λ m depth levels at base p0 parents there.
     let bytes = c.args.bytes.now in
     let number = c.args.tag.number in
     let kind = c.args.kind in
@@ -28,6 +28,6 @@ returns-clause-read c =
     list_filled at c.args.left.remaining bytes number c.args.tag.size start size (length (take ((start + size) - start) (drop start bytes))) c.args.left.depth_left kind (part_view c.put_elements.new.part) c.requires.at_tag.can.rules there
     (typed_tag bytes (Some c.args.left.remaining) number c.args.tag.wire_type 2 c.args.tag.size c.requires.bytes c.requires.at_tag.there at) (c.in-Some.ensures.whole at number c.args.tag.wire_type (c.requires.at_tag.there at)) c.requires.means
     (λ outer scope begun.
-    subst (λ (z : Part). After c.args.self.now.pool.now m depth levels base p0 frames (Elements number kind outer) z scope (passed (payload_place at bytes start size) (length (take ((start + size) - start) (drop start bytes))))) (sym c.in_ok-put_elements.ensures)
-    (told_of _ _ c.in-Some-2.values c.in-Some-2.is c.in_ok-values.ensures c.args.self.now.pool.now number size rest payload m depth levels (at + start) outer base p0 frames scope (part_view c.args.part.now) begun)) all in
-    subst (λ (z : ℕ). StandsIn c.args.self.now.pool.now m depth levels base p0 frames c.args.left.depth_left (part_view c.put_elements.new.part) (passed (given_at at (Some c.args.left.remaining) bytes) (start + z))) all filled
+    subst (λ (z : Part). After c.args.self.now.pool.now m depth levels base p0 parents (Elements number kind outer) z scope (passed (payload_place at bytes start size) (length (take ((start + size) - start) (drop start bytes))))) (sym c.in_ok-put_elements.ensures)
+    (reported_of _ _ c.in-Some-2.values c.in-Some-2.is c.in_ok-values.ensures c.args.self.now.pool.now number size rest payload m depth levels (at + start) outer base p0 parents scope (part_view c.args.part.now) begun)) all in
+    subst (λ (z : ℕ). StandsIn c.args.self.now.pool.now m depth levels base p0 parents c.args.left.depth_left (part_view c.put_elements.new.part) (passed (given_at at (Some c.args.left.remaining) bytes) (start + z))) all filled

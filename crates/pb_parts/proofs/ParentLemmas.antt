@@ -28,28 +28,28 @@ use Rattle.pb_value.proofs.ListLemmas.{all_append}
 use Rattle.pb_parts.specs.declared.open.part.Slot.{Slot}
 use Rattle.pb_parts.specs.declared.open.part.Slot.TheVariants as slot
 use Rattle.pb_parts.specs.Open.Occurrences.{CountsOf}
-use Rattle.pb_parts.specs.Open.Opened.{Behind, Begun, Opened, below, outside}
+use Rattle.pb_parts.specs.Open.Opened.{SoFar, Begun, Opened, below, outside}
 use Rattle.pb_parts.specs.Open.Opened as opened
-use Rattle.pb_parts.specs.Open.Frames.{Part, message_part, entry_part, group_part, put_message, put_group, put_entry, put_child, IsWorth, IsSameForm, IsPartOf, opening_type, open_type, Scope, one_more_in, Frame, EndsAt, up_to, GoesOnFrom, Takes, Held, at_top, inside, Stands}
+use Rattle.pb_parts.specs.Open.Parents.{Part, message_part, entry_part, group_part, put_message, put_group, put_entry, put_child, IsWorth, IsSameForm, IsPartOf, opening_type, open_type, Scope, one_more_in, Parent, EndsAt, up_to, GoesOnFrom, Takes, Held, at_top, inside, Stands}
 use Rattle.pb_parts.specs.Open.Targets.{part_context}
 use Rattle.pb_parts.proofs.StepCounts.{counts_of_none, counts_of_push}
-use Rattle.pb_parts.proofs.OpenedLemmas.{RecordTo, lift, bad_behind, behind_more, behind_nothing, behind_longer, begun_longer, begun_ends, begun_short}
+use Rattle.pb_parts.proofs.OpenedLemmas.{RecordTo, lift, bad_after, so_far_more, so_far_nothing, so_far_longer, begun_longer, begun_ends, begun_short}
 
 -- FAULTS
 
 -- what is held is open
 pub held_opened :
-    {pool : Types} {m depth levels : ℕ} {base : List Record} {p0 : Place} {frames : List Frame} {now : Part} {o : Open Context} {depth_left inner : ℕ} {path : List PathStep} {p : Place} {earlier : List Record}
-    → Held pool m depth levels base p0 frames now o depth_left inner path p earlier → Opened (schema_of pool) (records (in_message m)) depth p0 o depth_left path p
-held_opened (at_top v form is_open is_room is_inner is_path is_place is_base goes_on) = opened.at_top is_open is_room is_path is_place
+    {pool : Types} {m depth levels : ℕ} {base : List Record} {p0 : Place} {parents : List Parent} {now : Part} {o : Open Context} {depth_left inner : ℕ} {path : List PathStep} {p : Place} {earlier : List Record}
+    → Held pool m depth levels base p0 parents now o depth_left inner path p earlier → Opened (schema_of pool) (records (in_message m)) depth p0 o depth_left path p
+held_opened (at_top v form is_open is_depth is_inner is_path is_place is_base goes_on) = opened.at_top is_open is_depth is_path is_place
 held_opened (inside up h begun form can deep completes is_path counts ends goes_on takes) = opened.inner (held_opened up) h begun is_path
 
 -- THE FAULT REPORTED: a record that has a fault at the reader's position gives the fault of the whole, below the numbers of the open records
-pub told :
-    {pool : Types} {m depth levels : ℕ} {base : List Record} {p0 : Place} {frames : List Frame} {scope : Scope} {now : Part} {q : Place} (f : Fault)
-    → (s : Stands pool m depth levels base p0 frames now scope q) → Begins s.open_now q → RecordFault (schema_of pool) s.open_now s.records_so_far scope.depth_left q f
+pub reported :
+    {pool : Types} {m depth levels : ℕ} {base : List Record} {p0 : Place} {parents : List Parent} {scope : Scope} {now : Part} {q : Place} (f : Fault)
+    → (s : Stands pool m depth levels base p0 parents now scope q) → Begins s.open_now q → RecordFault (schema_of pool) s.open_now s.records_so_far scope.depth_left q f
     → Bad (schema_of pool) (records (in_message m)) depth p0 (below s.path f)
-told f s goes bad = lift f (held_opened s.held) (bad_behind s.behind goes bad)
+reported f s goes bad = lift f (held_opened s.held) (bad_after s.so_far goes bad)
 
 -- what a part is of is its context
 pub part_of_context : (now : Part) (c : Context) → IsPartOf now c → c ≡ part_context now
@@ -78,14 +78,14 @@ place_up_to q (Some e) (left, is, at) = let same : left ≡ e - q.at = omega (ar
 
 -- MORE BYTES: what is there after some bytes stays, whatever follows
 pub held_longer :
-    {pool : Types} {m depth levels : ℕ} {base : List Record} {p0 : Place} {frames : List Frame} {now : Part} {o : Open Context} {depth_left inner : ℕ} {path : List PathStep} {p : Place} {earlier : List Record} (more : List ℕ)
-    → Held pool m depth levels base p0 frames now o depth_left inner path p earlier → Held pool m depth levels base (longer p0 more) frames now o depth_left inner path (longer p more) earlier
-held_longer more (at_top v form is_open is_room is_inner is_path is_place is_base goes_on) = at_top v form is_open is_room is_inner is_path (ap (λ (z : Place). longer z more) is_place) is_base goes_on
-held_longer more (inside {frame = frame} {q = q} up h begun form can deep completes is_path counts ends goes_on takes) = inside (held_longer more up) (behind_longer more h) (begun_longer more begun) form can deep completes is_path counts (ends_longer q more frame.scope.end ends) goes_on takes
+    {pool : Types} {m depth levels : ℕ} {base : List Record} {p0 : Place} {parents : List Parent} {now : Part} {o : Open Context} {depth_left inner : ℕ} {path : List PathStep} {p : Place} {earlier : List Record} (more : List ℕ)
+    → Held pool m depth levels base p0 parents now o depth_left inner path p earlier → Held pool m depth levels base (longer p0 more) parents now o depth_left inner path (longer p more) earlier
+held_longer more (at_top v form is_open is_depth is_inner is_path is_place is_base goes_on) = at_top v form is_open is_depth is_inner is_path (ap (λ (z : Place). longer z more) is_place) is_base goes_on
+held_longer more (inside {parent = parent} {q = q} up h begun form can deep completes is_path counts ends goes_on takes) = inside (held_longer more up) (so_far_longer more h) (begun_longer more begun) form can deep completes is_path counts (ends_longer q more parent.scope.end ends) goes_on takes
 
 pub stands_longer :
-    {pool : Types} {m depth levels : ℕ} {base : List Record} {p0 : Place} {frames : List Frame} {scope : Scope} {now : Part} {q : Place} (more : List ℕ) → AreBytes more
-    → Stands pool m depth levels base p0 frames now scope q → Stands pool m depth levels base (longer p0 more) frames now scope (longer q more)
+    {pool : Types} {m depth levels : ℕ} {base : List Record} {p0 : Place} {parents : List Parent} {scope : Scope} {now : Part} {q : Place} (more : List ℕ) → AreBytes more
+    → Stands pool m depth levels base p0 parents now scope q → Stands pool m depth levels base (longer p0 more) parents now scope (longer q more)
 stands_longer {p0 = p0} {scope = scope} {q = q} more more_bytes s = record {
   open_now = s.open_now;
   inner = s.inner;
@@ -96,7 +96,7 @@ stands_longer {p0 = p0} {scope = scope} {q = q} more more_bytes s = record {
   held = held_longer more s.held;
   form = s.form;
   deep = s.deep;
-  behind = behind_longer more s.behind;
+  so_far = so_far_longer more s.so_far;
   counted = s.counted;
   ends = ends_longer q more scope.end s.ends;
   bytes = all_append IsByte p0.rest more s.bytes more_bytes;
@@ -119,7 +119,7 @@ stands_at_start pool m depth levels base p0 scope v deep is within good low byte
       (subst (λ (z : Message). (m < length pool.messages) × IsBody pool m z × (message_depth z < levels)) is (within, good, low));
   form = refl;
   deep = subst (λ (z : ℕ). z < levels) (sym depth_left) deep;
-  behind = behind_nothing p0;
+  so_far = so_far_nothing p0;
   counted = counts_of_none scope.counts none;
   ends = ends;
   bytes = bytes;
@@ -271,17 +271,17 @@ takes_as s p (group_part us) (message_part k w) e h = absurd e
 takes_as s p (group_part us) (entry_part key2 k2 x2 d2) e h = absurd e
 
 pub held_as_well :
-    {pool : Types} {m depth levels : ℕ} {base : List Record} {p0 : Place} {frames : List Frame} {now : Part} {o : Open Context} {depth_left inner : ℕ} {path : List PathStep} {p : Place} {earlier : List Record} (other : Part)
-    → IsSameForm now other → Held pool m depth levels base p0 frames now o depth_left inner path p earlier → Held pool m depth levels base p0 frames other o depth_left inner path p earlier
-held_as_well {pool} {m = m} {now = now} {inner = inner} {earlier = earlier} other same (at_top v form is_open is_room is_inner is_path is_place is_base goes_on) =
-    at_top v (form_through now other (message_part m v) same form) is_open is_room is_inner is_path is_place is_base (goes_on_as pool inner earlier now other same goes_on)
-held_as_well {pool} {now = now} {inner = inner} {earlier = earlier} other same (inside {frame = frame} up h begun form can deep completes is_path counts ends goes_on takes) =
-    inside up h begun form can deep (λ p q type alike worth. completes p q type (form_through2 now other q same alike) worth) is_path counts ends (goes_on_as pool inner earlier now other same goes_on) (takes_as frame.slot frame.part now other same takes.0, takes.1)
+    {pool : Types} {m depth levels : ℕ} {base : List Record} {p0 : Place} {parents : List Parent} {now : Part} {o : Open Context} {depth_left inner : ℕ} {path : List PathStep} {p : Place} {earlier : List Record} (other : Part)
+    → IsSameForm now other → Held pool m depth levels base p0 parents now o depth_left inner path p earlier → Held pool m depth levels base p0 parents other o depth_left inner path p earlier
+held_as_well {pool} {m = m} {now = now} {inner = inner} {earlier = earlier} other same (at_top v form is_open is_depth is_inner is_path is_place is_base goes_on) =
+    at_top v (form_through now other (message_part m v) same form) is_open is_depth is_inner is_path is_place is_base (goes_on_as pool inner earlier now other same goes_on)
+held_as_well {pool} {now = now} {inner = inner} {earlier = earlier} other same (inside {parent = parent} up h begun form can deep completes is_path counts ends goes_on takes) =
+    inside up h begun form can deep (λ p q type alike worth. completes p q type (form_through2 now other q same alike) worth) is_path counts ends (goes_on_as pool inner earlier now other same goes_on) (takes_as parent.slot parent.part now other same takes.0, takes.1)
 
 -- ONE MORE RECORD: a whole sound record after which the part is worth the records with it
 pub one_more :
-    {pool : Types} {m depth levels : ℕ} {base : List Record} {p0 : Place} {frames : List Frame} {scope : Scope} {now : Part} {q u : Place} (s : Stands pool m depth levels base p0 frames now scope q) (r : Record) (next : Part)
-    → RecordTo (schema_of pool) (context_of s.open_now) scope.depth_left q r u → IsSameForm now next → IsWorth pool s.inner next ((s.earlier ++ s.records_so_far) ++ r ∷ []) → Stands pool m depth levels base p0 frames next (one_more_in r.number scope) u
+    {pool : Types} {m depth levels : ℕ} {base : List Record} {p0 : Place} {parents : List Parent} {scope : Scope} {now : Part} {q u : Place} (s : Stands pool m depth levels base p0 parents now scope q) (r : Record) (next : Part)
+    → RecordTo (schema_of pool) (context_of s.open_now) scope.depth_left q r u → IsSameForm now next → IsWorth pool s.inner next ((s.earlier ++ s.records_so_far) ++ r ∷ []) → Stands pool m depth levels base p0 parents next (one_more_in r.number scope) u
 one_more {pool} {scope = scope} {now = now} s r next h same worth = record {
   open_now = s.open_now;
   inner = s.inner;
@@ -292,7 +292,7 @@ one_more {pool} {scope = scope} {now = now} s r next h same worth = record {
   held = held_as_well next same s.held;
   form = part_of_form now next (context_of s.open_now) same s.form;
   deep = s.deep;
-  behind = behind_more s.behind h;
+  so_far = so_far_more s.so_far h;
   counted = counts_of_push scope.counts s.records_so_far r s.counted;
   ends = ends_along h.first scope.end h.moves s.ends;
   bytes = s.bytes;
@@ -301,32 +301,32 @@ one_more {pool} {scope = scope} {now = now} s r next h same worth = record {
 
 -- AN OPEN PART IS COMPLETE: with it the outer part is worth one record more, and the reader is in the outer part, after it
 pub closed_stands :
-    {pool : Types} {m depth levels : ℕ} {base : List Record} {p0 : Place} {frames : List Frame} {a : Open Context} {outer : ℕ} {steps : List PathStep} {p q w : Place} {rs before : List Record} (frame : Frame)
-    → Held pool m depth levels base p0 frames frame.part a frame.scope.depth_left outer steps p before → Behind (schema_of pool) a frame.scope.depth_left p rs q → IsPartOf frame.part (context_of a) → frame.scope.depth_left < outer
-    → CountsOf frame.scope.counts rs → EndsAt q frame.scope.end → AreBytes p0.rest → (pl : Payload) → RecordTo (schema_of pool) (context_of a) frame.scope.depth_left q (record { number = frame.number; payload = pl }) w
-    → (next : Part) → IsSameForm frame.part next → IsWorth pool outer next ((before ++ rs) ++ record { number = frame.number; payload = pl } ∷ [])
-    → Stands pool m depth levels base p0 frames next (one_more_in frame.number frame.scope) w
-closed_stands {pool} {a = a} {outer = outer} {steps = steps} {p = p} {rs = rs} {before = before} frame up h form deep counts ends bytes pl to next same worth = record {
+    {pool : Types} {m depth levels : ℕ} {base : List Record} {p0 : Place} {parents : List Parent} {a : Open Context} {outer : ℕ} {steps : List PathStep} {p q w : Place} {rs before : List Record} (parent : Parent)
+    → Held pool m depth levels base p0 parents parent.part a parent.scope.depth_left outer steps p before → SoFar (schema_of pool) a parent.scope.depth_left p rs q → IsPartOf parent.part (context_of a) → parent.scope.depth_left < outer
+    → CountsOf parent.scope.counts rs → EndsAt q parent.scope.end → AreBytes p0.rest → (pl : Payload) → RecordTo (schema_of pool) (context_of a) parent.scope.depth_left q (record { number = parent.number; payload = pl }) w
+    → (next : Part) → IsSameForm parent.part next → IsWorth pool outer next ((before ++ rs) ++ record { number = parent.number; payload = pl } ∷ [])
+    → Stands pool m depth levels base p0 parents next (one_more_in parent.number parent.scope) w
+closed_stands {pool} {a = a} {outer = outer} {steps = steps} {p = p} {rs = rs} {before = before} parent up h form deep counts ends bytes pl to next same worth = record {
   open_now = a;
   inner = outer;
   path = steps;
   begin = p;
   earlier = before;
-  records_so_far = rs ++ record { number = frame.number; payload = pl } ∷ [];
+  records_so_far = rs ++ record { number = parent.number; payload = pl } ∷ [];
   held = held_as_well next same up;
-  form = part_of_form frame.part next (context_of a) same form;
+  form = part_of_form parent.part next (context_of a) same form;
   deep = deep;
-  behind = behind_more h to;
-  counted = counts_of_push frame.scope.counts rs (record { number = frame.number; payload = pl }) counts;
-  ends = ends_along to.first frame.scope.end to.moves ends;
+  so_far = so_far_more h to;
+  counted = counts_of_push parent.scope.counts rs (record { number = parent.number; payload = pl }) counts;
+  ends = ends_along to.first parent.scope.end to.moves ends;
   bytes = bytes;
-  worth = subst (λ (z : List Record). IsWorth pool outer next z) (append_assoc before rs (record { number = frame.number; payload = pl } ∷ [])) worth;
+  worth = subst (λ (z : List Record). IsWorth pool outer next z) (append_assoc before rs (record { number = parent.number; payload = pl } ∷ [])) worth;
 }
 
 -- WHAT ENDS the open part: an end tag ends a group, and a known end a payload
 flag_held :
-    {pool : Types} {m depth levels : ℕ} {base : List Record} {p0 : Place} {frame : Frame} {frames : List Frame} {now : Part} {o : Open Context} {depth_left inner : ℕ} {path : List PathStep} {p : Place} {earlier : List Record}
-    → Held pool m depth levels base p0 (frame ∷ frames) now o depth_left inner path p earlier → opening_type frame.group ≡ open_type o
+    {pool : Types} {m depth levels : ℕ} {base : List Record} {p0 : Place} {parent : Parent} {parents : List Parent} {now : Part} {o : Open Context} {depth_left inner : ℕ} {path : List PathStep} {p : Place} {earlier : List Record}
+    → Held pool m depth levels base p0 (parent ∷ parents) now o depth_left inner path p earlier → opening_type parent.group ≡ open_type o
 flag_held (inside up h begun form can deep completes is_path counts ends goes_on takes) = takes.1
 
 pub payload_open : (o : Open Context) → open_type o ≡ 2 → o ≡ records (context_of o)
@@ -334,8 +334,8 @@ payload_open (records c) e = refl
 payload_open (in_group k c) e = absurd (omega (arith, e))
 
 pub is_payload :
-    {pool : Types} {m depth levels : ℕ} {base : List Record} {p0 : Place} {frame : Frame} {frames : List Frame} {scope : Scope} {now : Part} {q : Place} (s : Stands pool m depth levels base p0 (frame ∷ frames) now scope q)
-    → frame.group ≡ false → s.open_now ≡ records (context_of s.open_now)
+    {pool : Types} {m depth levels : ℕ} {base : List Record} {p0 : Place} {parent : Parent} {parents : List Parent} {scope : Scope} {now : Part} {q : Place} (s : Stands pool m depth levels base p0 (parent ∷ parents) now scope q)
+    → parent.group ≡ false → s.open_now ≡ records (context_of s.open_now)
 is_payload s none = payload_open s.open_now (sym (flag_held s.held) ∙ ap opening_type none)
 
 -- what a group is open in has the number of the frame
@@ -345,41 +345,41 @@ begun_group pool (opened.a_value levels tag re l is_open is_place) e = absurd (l
 begun_group pool {k = k} (opened.a_group levels tag is_open is_place) e = is_open ∙ ap (in_group k) (sym (ap context_of is_open))
 
 group_held :
-    {pool : Types} {m depth levels : ℕ} {base : List Record} {p0 : Place} {frame : Frame} {frames : List Frame} {now : Part} {o : Open Context} {depth_left inner : ℕ} {path : List PathStep} {p : Place} {earlier : List Record}
-    → Held pool m depth levels base p0 (frame ∷ frames) now o depth_left inner path p earlier → frame.group ≡ true → o ≡ in_group frame.number (context_of o)
+    {pool : Types} {m depth levels : ℕ} {base : List Record} {p0 : Place} {parent : Parent} {parents : List Parent} {now : Part} {o : Open Context} {depth_left inner : ℕ} {path : List PathStep} {p : Place} {earlier : List Record}
+    → Held pool m depth levels base p0 (parent ∷ parents) now o depth_left inner path p earlier → parent.group ≡ true → o ≡ in_group parent.number (context_of o)
 group_held {pool} (inside up h begun form can deep completes is_path counts ends goes_on takes) some = begun_group pool begun (sym takes.1 ∙ ap opening_type some)
 
 pub is_group :
-    {pool : Types} {m depth levels : ℕ} {base : List Record} {p0 : Place} {frame : Frame} {frames : List Frame} {scope : Scope} {now : Part} {q : Place} (s : Stands pool m depth levels base p0 (frame ∷ frames) now scope q)
-    → frame.group ≡ true → s.open_now ≡ in_group frame.number (context_of s.open_now)
+    {pool : Types} {m depth levels : ℕ} {base : List Record} {p0 : Place} {parent : Parent} {parents : List Parent} {scope : Scope} {now : Part} {q : Place} (s : Stands pool m depth levels base p0 (parent ∷ parents) now scope q)
+    → parent.group ≡ true → s.open_now ≡ in_group parent.number (context_of s.open_now)
 is_group s some = group_held s.held some
 
 -- A MESSAGE OR ENTRY THAT ENDS AT ITS KNOWN END: it goes into its slot, and the reader is in its parent
 pub ends_at_known_end :
-    {pool : Types} {m depth levels : ℕ} {base : List Record} {p0 : Place} {frame : Frame} {frames : List Frame} {scope : Scope} {now : Part} {v : Place} (s : Stands pool m depth levels base p0 (frame ∷ frames) now scope v)
-    → frame.group ≡ false → v.known ≡ Some 0
-    → Stands pool m depth levels base p0 frames (put_child pool frame.slot frame.part now) (one_more_in frame.number frame.scope) (up_to frame.scope.end v)
-ends_at_known_end {pool} {m} {depth} {levels} {base} {p0} {frame} {frames} {scope} {now} {v} s none end = from_held s.held s.behind s.worth (is_payload s none)
+    {pool : Types} {m depth levels : ℕ} {base : List Record} {p0 : Place} {parent : Parent} {parents : List Parent} {scope : Scope} {now : Part} {v : Place} (s : Stands pool m depth levels base p0 (parent ∷ parents) now scope v)
+    → parent.group ≡ false → v.known ≡ Some 0
+    → Stands pool m depth levels base p0 parents (put_child pool parent.slot parent.part now) (one_more_in parent.number parent.scope) (up_to parent.scope.end v)
+ends_at_known_end {pool} {m} {depth} {levels} {base} {p0} {parent} {parents} {scope} {now} {v} s none end = from_held s.held s.so_far s.worth (is_payload s none)
   where
     there : Part
-    there = put_child pool frame.slot frame.part now
+    there = put_child pool parent.slot parent.part now
 
     from_held :
-        {o : Open Context} {below inner : ℕ} {path : List PathStep} {u : Place} {earlier ss : List Record} → Held pool m depth levels base p0 (frame ∷ frames) now o below inner path u earlier → Behind (schema_of pool) o below u ss v
-        → IsWorth pool inner now (earlier ++ ss) → o ≡ records (context_of o) → Stands pool m depth levels base p0 frames there (one_more_in frame.number frame.scope) (up_to frame.scope.end v)
+        {o : Open Context} {below inner : ℕ} {path : List PathStep} {u : Place} {earlier ss : List Record} → Held pool m depth levels base p0 (parent ∷ parents) now o below inner path u earlier → SoFar (schema_of pool) o below u ss v
+        → IsWorth pool inner now (earlier ++ ss) → o ≡ records (context_of o) → Stands pool m depth levels base p0 parents there (one_more_in parent.number parent.scope) (up_to parent.scope.end v)
     from_held {inner = inner} {earlier = earlier} {ss = ss} (inside {o = o} {a = a} {below = below} up h begun form can deep completes is_path counts ends goes_on takes) b worth is =
-        let closed = begun_ends a o frame.scope.depth_left below frame.number begun is b end in
+        let closed = begun_ends a o parent.scope.depth_left below parent.number begun is b end in
         let read : records_spelled b.front ≡ ss = records_spelled-AreRecords ss b.front b.spelled (begun_short begun is b) in
         let inside_worth : IsWorth pool inner now (earlier ++ records_inside (len b.front)) = subst (λ (z : List Record). IsWorth pool inner now (earlier ++ z)) (sym read) worth in
         let to = closed.2 in
-        let same_place : outside closed.0 closed.1 v ≡ up_to frame.scope.end v = place_up_to (outside closed.0 closed.1 v) frame.scope.end (ends_along to.first frame.scope.end to.moves ends) in
-        subst (λ (z : Place). Stands pool m depth levels base p0 frames there (one_more_in frame.number frame.scope) z) same_place
-        (closed_stands frame up h form deep counts ends s.bytes (len b.front) to there (put_child-form pool frame.slot frame.part now) (completes (len b.front) now (sym (ap opening_type none)) (same_self now) inside_worth))
+        let same_place : outside closed.0 closed.1 v ≡ up_to parent.scope.end v = place_up_to (outside closed.0 closed.1 v) parent.scope.end (ends_along to.first parent.scope.end to.moves ends) in
+        subst (λ (z : Place). Stands pool m depth levels base p0 parents there (one_more_in parent.number parent.scope) z) same_place
+        (closed_stands parent up h form deep counts ends s.bytes (len b.front) to there (put_child-form pool parent.slot parent.part now) (completes (len b.front) now (sym (ap opening_type none)) (same_self now) inside_worth))
 
 -- AN ENTRY is open in a payload, whatever its frame says
 pub entry_is_payload :
-    {pool : Types} {m depth levels : ℕ} {base : List Record} {p0 : Place} {frames : List Frame} {scope : Scope} {key kd : Kind} {x : Option Scalar} {d : Option Datum} {q : Place}
-    (s : Stands pool m depth levels base p0 frames (entry_part key kd x d) scope q) → s.open_now ≡ records (context_of s.open_now)
+    {pool : Types} {m depth levels : ℕ} {base : List Record} {p0 : Place} {parents : List Parent} {scope : Scope} {key kd : Kind} {x : Option Scalar} {d : Option Datum} {q : Place}
+    (s : Stands pool m depth levels base p0 parents (entry_part key kd x d) scope q) → s.open_now ≡ records (context_of s.open_now)
 entry_is_payload {pool} {key = key} {kd = kd} {x = x} {d = d} s = from_held s.held s.form
   where
     no_entry_kind : (k : Kind) → group_of_kind k ≡ an_entry key kd → ⊥
@@ -411,34 +411,34 @@ entry_is_payload {pool} {key = key} {kd = kd} {x = x} {d = d} s = from_held s.he
     from_begun {a = a} {o = o} {n = n} (opened.a_group levels tag is_open is_place) f = absurd (no_group o (context_of a) n is_open f)
 
     from_held :
-        {m depth levels : ℕ} {base : List Record} {p0 : Place} {frames : List Frame} {o : Open Context} {depth_left inner : ℕ} {path : List PathStep} {p : Place} {earlier : List Record}
-        → Held pool m depth levels base p0 frames (entry_part key kd x d) o depth_left inner path p earlier → context_of o ≡ an_entry key kd → o ≡ records (context_of o)
-    from_held (at_top v form is_open is_room is_inner is_path is_place is_base goes_on) f = absurd form
+        {m depth levels : ℕ} {base : List Record} {p0 : Place} {parents : List Parent} {o : Open Context} {depth_left inner : ℕ} {path : List PathStep} {p : Place} {earlier : List Record}
+        → Held pool m depth levels base p0 parents (entry_part key kd x d) o depth_left inner path p earlier → context_of o ≡ an_entry key kd → o ≡ records (context_of o)
+    from_held (at_top v form is_open is_depth is_inner is_path is_place is_base goes_on) f = absurd form
     from_held (inside up h begun form can deep completes is_path counts ends goes_on takes) f = from_begun begun f
 
 -- no end tag ends an entry
 pub entry_no_group :
-    {pool : Types} {m depth levels : ℕ} {base : List Record} {p0 : Place} {frame : Frame} {frames : List Frame} {scope : Scope} {key kd : Kind} {x : Option Scalar} {d : Option Datum} {q : Place}
-    → Stands pool m depth levels base p0 (frame ∷ frames) (entry_part key kd x d) scope q → frame.group ≡ true → ⊥
-entry_no_group {frame = frame} s some =
+    {pool : Types} {m depth levels : ℕ} {base : List Record} {p0 : Place} {parent : Parent} {parents : List Parent} {scope : Scope} {key kd : Kind} {x : Option Scalar} {d : Option Datum} {q : Place}
+    → Stands pool m depth levels base p0 (parent ∷ parents) (entry_part key kd x d) scope q → parent.group ≡ true → ⊥
+entry_no_group {parent = parent} s some =
     let typed : open_type s.open_now ≡ 2 = ap open_type (entry_is_payload s) in
     let flag : 3 ≡ open_type s.open_now = sym (ap opening_type some) ∙ flag_held s.held in
     omega (arith, typed, flag)
 
 -- a message that ends, as its slot says
 pub message_closes :
-    {pool : Types} {m depth levels : ℕ} {base : List Record} {p0 : Place} {frame : Frame} {frames : List Frame} {scope : Scope} {k : ℕ} {w : Message} {q : Place} (next : Part)
-    → Stands pool m depth levels base p0 (frame ∷ frames) (message_part k w) scope q → frame.group ≡ false → q.known ≡ Some 0 → next ≡ put_message pool frame.slot frame.part w
-    → Stands pool m depth levels base p0 frames next (one_more_in frame.number frame.scope) (up_to frame.scope.end q)
-message_closes {pool} {m} {depth} {levels} {base} {p0} {frame} {frames} {scope} {k} {w} {q} next s none end is =
-    subst (λ (z : Part). Stands pool m depth levels base p0 frames z (one_more_in frame.number frame.scope) (up_to frame.scope.end q)) (sym is)
+    {pool : Types} {m depth levels : ℕ} {base : List Record} {p0 : Place} {parent : Parent} {parents : List Parent} {scope : Scope} {k : ℕ} {w : Message} {q : Place} (next : Part)
+    → Stands pool m depth levels base p0 (parent ∷ parents) (message_part k w) scope q → parent.group ≡ false → q.known ≡ Some 0 → next ≡ put_message pool parent.slot parent.part w
+    → Stands pool m depth levels base p0 parents next (one_more_in parent.number parent.scope) (up_to parent.scope.end q)
+message_closes {pool} {m} {depth} {levels} {base} {p0} {parent} {parents} {scope} {k} {w} {q} next s none end is =
+    subst (λ (z : Part). Stands pool m depth levels base p0 parents z (one_more_in parent.number parent.scope) (up_to parent.scope.end q)) (sym is)
     (ends_at_known_end s none end)
 
 -- and an entry
 pub entry_closes :
-    {pool : Types} {m depth levels : ℕ} {base : List Record} {p0 : Place} {frame : Frame} {frames : List Frame} {scope : Scope} {key kd : Kind} {x : Option Scalar} {d : Option Datum} {q : Place} (next : Part)
-    → Stands pool m depth levels base p0 (frame ∷ frames) (entry_part key kd x d) scope q → frame.group ≡ false → q.known ≡ Some 0 → next ≡ put_entry frame.slot frame.part key kd x d
-    → Stands pool m depth levels base p0 frames next (one_more_in frame.number frame.scope) (up_to frame.scope.end q)
-entry_closes {pool} {m} {depth} {levels} {base} {p0} {frame} {frames} {scope} {key} {kd} {x} {d} {q} next s none end is =
-    subst (λ (z : Part). Stands pool m depth levels base p0 frames z (one_more_in frame.number frame.scope) (up_to frame.scope.end q)) (sym is)
+    {pool : Types} {m depth levels : ℕ} {base : List Record} {p0 : Place} {parent : Parent} {parents : List Parent} {scope : Scope} {key kd : Kind} {x : Option Scalar} {d : Option Datum} {q : Place} (next : Part)
+    → Stands pool m depth levels base p0 (parent ∷ parents) (entry_part key kd x d) scope q → parent.group ≡ false → q.known ≡ Some 0 → next ≡ put_entry parent.slot parent.part key kd x d
+    → Stands pool m depth levels base p0 parents next (one_more_in parent.number parent.scope) (up_to parent.scope.end q)
+entry_closes {pool} {m} {depth} {levels} {base} {p0} {parent} {parents} {scope} {key} {kd} {x} {d} {q} next s none end is =
+    subst (λ (z : Part). Stands pool m depth levels base p0 parents z (one_more_in parent.number parent.scope) (up_to parent.scope.end q)) (sym is)
     (ends_at_known_end s none end)

@@ -27,11 +27,11 @@ use Rattle.pb_parts.specs.declared.tokens.step.Step.{Step}
 use Rattle.pb_parts.specs.Open.Opened.{Begun, below}
 use Rattle.pb_parts.specs.Open.Opened as opened
 use Rattle.pb_parts.specs.Open.Targets.{OfShape, AtField, Means, part_context}
-use Rattle.pb_parts.specs.Open.Frames.{Part, message_part, entry_part, group_part, opening_type, open_type, Scope, Frame, EndsAt, next_step, path_of, Held, at_top, inside, Stands}
+use Rattle.pb_parts.specs.Open.Parents.{Part, message_part, entry_part, group_part, opening_type, open_type, Scope, Parent, EndsAt, next_step, path_of, Held, at_top, inside, Stands}
 use Rattle.pb_parts.specs.Tokens.After.{tag, awaited, HasLevelFor, After}
 use Rattle.pb_parts.specs.Open.Openings.{innermost_group}
-use Rattle.pb_parts.proofs.FrameLemmas.{part_of_context, ends_along}
-use Rattle.pb_parts.proofs.AfterLemmas.{at_tag, told_here, told_inside}
+use Rattle.pb_parts.proofs.ParentLemmas.{part_of_context, ends_along}
+use Rattle.pb_parts.proofs.AfterLemmas.{at_tag, reported_here, reported_inside}
 
 -- TAGS
 
@@ -51,19 +51,19 @@ begins_at_number {C} o {q} {u} {n} h = by_open o
 
 -- a tag that is refused, with no step of its own
 pub tag_refused :
-    {pool : Types} {m depth levels : ℕ} {base : List Record} {p0 : Place} {frames : List Frame} {scope : Scope} {now : Part} {q u : Place} {n : ℕ} (c : Cause)
-    → (s : Stands pool m depth levels base p0 frames now scope q) → Reads q n u → TagFault (open_group s.open_now) q (fault q.at [] c) → Bad (schema_of pool) (records (in_message m)) depth p0 (fault q.at (path_of frames) c)
-tag_refused {pool} {m} {depth} {p0 = p0} {frames} {q = q} c s h bad =
-    subst (λ (z : List PathStep). Bad (schema_of pool) (records (in_message m)) depth p0 (fault q.at z c)) (append-nil (path_of frames))
-    (told_here (fault q.at [] c) s (begins_at_number s.open_now h) (RecordFault.tag bad))
+    {pool : Types} {m depth levels : ℕ} {base : List Record} {p0 : Place} {parents : List Parent} {scope : Scope} {now : Part} {q u : Place} {n : ℕ} (c : Cause)
+    → (s : Stands pool m depth levels base p0 parents now scope q) → Reads q n u → TagFault (open_group s.open_now) q (fault q.at [] c) → Bad (schema_of pool) (records (in_message m)) depth p0 (fault q.at (path_of parents) c)
+tag_refused {pool} {m} {depth} {p0 = p0} {parents} {q = q} c s h bad =
+    subst (λ (z : List PathStep). Bad (schema_of pool) (records (in_message m)) depth p0 (fault q.at z c)) (append-nil (path_of parents))
+    (reported_here (fault q.at [] c) s (begins_at_number s.open_now h) (RecordFault.tag bad))
 
 -- a tag whose number is refused
-pub tag_number_told :
-    {pool : Types} {m depth levels : ℕ} {base : List Record} {p0 : Place} {frames : List Frame} {scope : Scope} {now : Part} {q : Place} (c : Cause)
-    → Stands pool m depth levels base p0 frames now scope q → q.known ≢ Some 0 → q.rest ≢ [] → VarintFault q (fault q.at [] c) → Bad (schema_of pool) (records (in_message m)) depth p0 (fault q.at (path_of frames) c)
-tag_number_told {pool} {m} {depth} {p0 = p0} {frames} {q = q} c s open_here some bad =
-    subst (λ (z : List PathStep). Bad (schema_of pool) (records (in_message m)) depth p0 (fault q.at z c)) (append-nil (path_of frames))
-    (told_here (fault q.at [] c) s (goes s.open_now) (RecordFault.tag (TagFault.token bad)))
+pub tag_number_reported :
+    {pool : Types} {m depth levels : ℕ} {base : List Record} {p0 : Place} {parents : List Parent} {scope : Scope} {now : Part} {q : Place} (c : Cause)
+    → Stands pool m depth levels base p0 parents now scope q → q.known ≢ Some 0 → q.rest ≢ [] → VarintFault q (fault q.at [] c) → Bad (schema_of pool) (records (in_message m)) depth p0 (fault q.at (path_of parents) c)
+tag_number_reported {pool} {m} {depth} {p0 = p0} {parents} {q = q} c s open_here some bad =
+    subst (λ (z : List PathStep). Bad (schema_of pool) (records (in_message m)) depth p0 (fault q.at z c)) (append-nil (path_of parents))
+    (reported_here (fault q.at [] c) s (goes s.open_now) (RecordFault.tag (TagFault.token bad)))
   where
     goes : (o : Open Context) → Begins o q
     goes (records d) = (open_here, λ known. some)
@@ -81,20 +81,20 @@ begun_open pool true (opened.a_group levels has is_open is_place) type = ap open
 begun_open pool false (opened.a_group levels has is_open is_place) type = absurd (let three : 2 ≡ 3 = type ∙ ap open_type is_open in omega (arith, three))
 
 pub held_open :
-    {pool : Types} {m depth levels : ℕ} {base : List Record} {p0 : Place} {frames : List Frame} {now : Part} {o : Open Context} {depth_left inner : ℕ} {path : List PathStep} {p : Place} {earlier : List Record}
-    → Held pool m depth levels base p0 frames now o depth_left inner path p earlier → open_group o ≡ innermost_group frames
-held_open (at_top v form is_open is_room is_inner is_path is_place is_base goes_on) = ap open_group is_open
-held_open {pool} (inside {frame = frame} up h begun form can deep completes is_path counts ends goes_on takes) = begun_open pool frame.group begun takes.1
+    {pool : Types} {m depth levels : ℕ} {base : List Record} {p0 : Place} {parents : List Parent} {now : Part} {o : Open Context} {depth_left inner : ℕ} {path : List PathStep} {p : Place} {earlier : List Record}
+    → Held pool m depth levels base p0 parents now o depth_left inner path p earlier → open_group o ≡ innermost_group parents
+held_open (at_top v form is_open is_depth is_inner is_path is_place is_base goes_on) = ap open_group is_open
+held_open {pool} (inside {parent = parent} up h begun form can deep completes is_path counts ends goes_on takes) = begun_open pool parent.group begun takes.1
 
-pub wrong_end_told :
-    {pool : Types} {m depth levels : ℕ} {base : List Record} {p0 : Place} {frames : List Frame} {scope : Scope} {now : Part} {q u : Place} (k j : ℕ) → Stands pool m depth levels base p0 frames now scope q → HasTag q k 4 u → innermost_group frames ≡ Some j → j ≢ k
-    → Bad (schema_of pool) (records (in_message m)) depth p0 (fault q.at (path_of frames) WrongEnd)
-wrong_end_told k j s has inner other = tag_refused WrongEnd s has.tag (TagFault.wrong_end has (held_open s.held ∙ inner) other refl)
+pub wrong_end_reported :
+    {pool : Types} {m depth levels : ℕ} {base : List Record} {p0 : Place} {parents : List Parent} {scope : Scope} {now : Part} {q u : Place} (k j : ℕ) → Stands pool m depth levels base p0 parents now scope q → HasTag q k 4 u → innermost_group parents ≡ Some j → j ≢ k
+    → Bad (schema_of pool) (records (in_message m)) depth p0 (fault q.at (path_of parents) WrongEnd)
+wrong_end_reported k j s has inner other = tag_refused WrongEnd s has.tag (TagFault.wrong_end has (held_open s.held ∙ inner) other refl)
 
-pub stray_end_told :
-    {pool : Types} {m depth levels : ℕ} {base : List Record} {p0 : Place} {frames : List Frame} {scope : Scope} {now : Part} {q u : Place} (k : ℕ) → Stands pool m depth levels base p0 frames now scope q → HasTag q k 4 u → innermost_group frames ≡ None
-    → Bad (schema_of pool) (records (in_message m)) depth p0 (fault q.at (path_of frames) StrayEnd)
-stray_end_told k s has inner = tag_refused StrayEnd s has.tag (TagFault.stray_end has (held_open s.held ∙ inner) refl)
+pub stray_end_reported :
+    {pool : Types} {m depth levels : ℕ} {base : List Record} {p0 : Place} {parents : List Parent} {scope : Scope} {now : Part} {q u : Place} (k : ℕ) → Stands pool m depth levels base p0 parents now scope q → HasTag q k 4 u → innermost_group parents ≡ None
+    → Bad (schema_of pool) (records (in_message m)) depth p0 (fault q.at (path_of parents) StrayEnd)
+stray_end_reported k s has inner = tag_refused StrayEnd s has.tag (TagFault.stray_end has (held_open s.held ∙ inner) refl)
 
 -- LENGTHS
 
@@ -196,13 +196,13 @@ reads_allowed pool (group_part us) k depth_left meant h some = tt
 
 -- a length that is refused, below the step of its record
 pub length_refused :
-    {pool : Types} {m depth levels : ℕ} {base : List Record} {p0 : Place} {frames : List Frame} {scope : Scope} {next : Step} {now : Part} {u : Place} (k : ℕ) (meant : Target) (g : Fault)
-    → After pool m depth levels base p0 frames next now scope u → awaited next ≡ Some (tag k 2 meant) → LengthFault u g → Bad (schema_of pool) (records (in_message m)) depth p0 (below (path_of frames) (in_record (next_step k scope) g))
+    {pool : Types} {m depth levels : ℕ} {base : List Record} {p0 : Place} {parents : List Parent} {scope : Scope} {next : Step} {now : Part} {u : Place} (k : ℕ) (meant : Target) (g : Fault)
+    → After pool m depth levels base p0 parents next now scope u → awaited next ≡ Some (tag k 2 meant) → LengthFault u g → Bad (schema_of pool) (records (in_message m)) depth p0 (below (path_of parents) (in_record (next_step k scope) g))
 length_refused {pool} {scope = scope} {now = now} k meant g a is bad =
-    let behind = at_tag (tag k 2 meant) a is in
-    told_inside k 2 g behind.stands behind.has
-    (RecordFault.length_of behind.has
-    (subst (λ (c : Context). IsAllowed scope.depth_left ((schema_of pool).reading c k)) (sym (part_of_context now (context_of behind.stands.open_now) behind.stands.form)) (reads_allowed pool now k scope.depth_left meant behind.means behind.room_for)) bad refl)
+    let after = at_tag (tag k 2 meant) a is in
+    reported_inside k 2 g after.stands after.has
+    (RecordFault.length_of after.has
+    (subst (λ (c : Context). IsAllowed scope.depth_left ((schema_of pool).reading c k)) (sym (part_of_context now (context_of after.stands.open_now) after.stands.form)) (reads_allowed pool now k scope.depth_left meant after.means after.has_level)) bad refl)
 
 -- a payload that passes the known end
 pub passes_end : {u t : Place} {n : ℕ} (begin e : ℕ) → Reads u n t → n < 2 ^ 31 → t.at ≡ begin → EndsAt u (Some e) → e - begin < n → LengthFault u (fault u.at [] PastEnd)

@@ -20,7 +20,7 @@ use Rattle.pb_value.specs.Change.{stored_at, push_at, insert_at, with_fields, en
 use Rattle.pb_parts.specs.declared.open.part.Slot.{Slot}
 use Rattle.pb_parts.specs.declared.open.part.Slot.TheVariants as slot
 use Rattle.pb_parts.specs.Open.Occurrences.{one_more_of, CountsOf}
-use Rattle.pb_parts.specs.Open.Opened.{Behind, Begun}
+use Rattle.pb_parts.specs.Open.Opened.{SoFar, Begun}
 
 -- what there is of a message of a type, of a map entry with these kinds, or of a group
 pub data Part : Type 0 where
@@ -112,15 +112,15 @@ next_step k scope = record { number = k; occurrence = scope.counts k }
 
 -- a part that holds the open part inside it, the number of that record, where that goes, whether an end tag ends it, and the scope of the part up to that
 -- record
-pub record Frame : Type 0 where
+pub record Parent : Type 0 where
   pub part : Part
   pub number : ℕ
   pub slot : Slot
   pub group : Bool
   pub scope : Scope
 
-abbrev pub frame_of : Part → ℕ → Slot → Bool → Scope → Frame
-frame_of p n s g scope = record { part = p; number = n; slot = s; group = g; scope = scope }
+abbrev pub parent_of : Part → ℕ → Slot → Bool → Scope → Parent
+parent_of p n s g scope = record { part = p; number = n; slot = s; group = g; scope = scope }
 
 -- the wire type of a record that has a group open, or a payload after a length
 abbrev pub opening_type : Bool → ℕ
@@ -132,13 +132,13 @@ open_type (records c) = 2
 open_type (in_group k c) = 3
 
 -- the steps into the records that are open, outermost first
-abbrev pub path_of : List Frame → List PathStep
+abbrev pub path_of : List Parent → List PathStep
 path_of [] = []
-path_of (frame ∷ frames) = path_of frames ++ next_step frame.number frame.scope ∷ []
+path_of (parent ∷ parents) = path_of parents ++ next_step parent.number parent.scope ∷ []
 
 -- and on to the record of a number that comes next in the innermost part
-abbrev pub path_to : List Frame → Scope → ℕ → List PathStep
-path_to frames scope n = path_of frames ++ next_step n scope ∷ []
+abbrev pub path_to : List Parent → Scope → ℕ → List PathStep
+path_to parents scope n = path_of parents ++ next_step n scope ∷ []
 
 -- the known end of this place is at this position
 abbrev pub EndsAt : Place → Option ℕ → Type 0
@@ -156,10 +156,10 @@ IsPartOf (entry_part key k x d) c = c ≡ an_entry key k
 IsPartOf (group_part us) c = c ≡ unknown_group
 
 -- Whatever the payload comes to be, with its part in the slot the outer part is worth the records with that record too.
-abbrev pub Completes : Types → ℕ → ℕ → Frame → List Record → Part → List Record → Type 0
-Completes pool levels inner frame rs now earlier =
-    (p : Payload) (q : Part) → wire_type p ≡ opening_type frame.group → IsSameForm now q → IsWorth pool inner q (earlier ++ records_inside p)
-    → IsWorth pool levels (put_child pool frame.slot frame.part q) (rs ++ record { number = frame.number; payload = p } ∷ [])
+abbrev pub Completes : Types → ℕ → ℕ → Parent → List Record → Part → List Record → Type 0
+Completes pool levels inner parent rs now earlier =
+    (p : Payload) (q : Part) → wire_type p ≡ opening_type parent.group → IsSameForm now q → IsWorth pool inner q (earlier ++ records_inside p)
+    → IsWorth pool levels (put_child pool parent.slot parent.part q) (rs ++ record { number = parent.number; payload = p } ∷ [])
 
 -- What a part of this form goes on from: its types are those of the pool; the value of the earlier records of a message is well formed and less deep than
 -- may be; an entry and a group have none, and no value of an entry is a group or of a closed enum.
@@ -206,36 +206,36 @@ Takes (slot.Unknown n) (group_part vs) (group_part us) = Unit {0}
 -- These frames, innermost first, hold the open part: it has this many levels left and may hold this many levels of values, is below this path, begins at p,
 -- and goes on from the earlier records.
 pub data Held (pool : Types) (m depth levels : ℕ) (base : List Record) (p0 : Place) :
-    List Frame → Part → Open Context → ℕ → ℕ → List PathStep → Place → List Record → Type 0 where
+    List Parent → Part → Open Context → ℕ → ℕ → List PathStep → Place → List Record → Type 0 where
   at_top :
       {now : Part} {o : Open Context} {depth_left inner : ℕ} {path : List PathStep} {p : Place} {earlier : List Record}
       → (v : Message) → IsSameForm now (message_part m v) → o ≡ records (a_message m) → depth_left ≡ depth → inner ≡ levels
       → path ≡ [] → p ≡ p0 → earlier ≡ base → GoesOnFrom pool inner now earlier
       → Held pool m depth levels base p0 [] now o depth_left inner path p earlier
   inside :
-      {frame : Frame} {frames : List Frame} {now : Part} {o a : Open Context} {below outer inner : ℕ}
+      {parent : Parent} {parents : List Parent} {now : Part} {o a : Open Context} {below outer inner : ℕ}
       {path steps : List PathStep} {p q u : Place} {rs before earlier : List Record}
-      → Held pool m depth levels base p0 frames frame.part a frame.scope.depth_left outer steps p before → Behind (schema_of pool) a frame.scope.depth_left p rs q
-      → Begun (schema_of pool) a frame.scope.depth_left frame.number q o below u → IsPartOf frame.part (context_of a) → CanHold pool frame.part
-      → frame.scope.depth_left < outer → Completes pool outer inner frame (before ++ rs) now earlier → path ≡ steps ++ step frame.number rs ∷ []
-      → CountsOf frame.scope.counts rs → EndsAt q frame.scope.end
-      → GoesOnFrom pool inner now earlier → Takes frame.slot frame.part now × (opening_type frame.group ≡ open_type o)
-      → Held pool m depth levels base p0 (frame ∷ frames) now o below inner path u earlier
+      → Held pool m depth levels base p0 parents parent.part a parent.scope.depth_left outer steps p before → SoFar (schema_of pool) a parent.scope.depth_left p rs q
+      → Begun (schema_of pool) a parent.scope.depth_left parent.number q o below u → IsPartOf parent.part (context_of a) → CanHold pool parent.part
+      → parent.scope.depth_left < outer → Completes pool outer inner parent (before ++ rs) now earlier → path ≡ steps ++ step parent.number rs ∷ []
+      → CountsOf parent.scope.counts rs → EndsAt q parent.scope.end
+      → GoesOnFrom pool inner now earlier → Takes parent.slot parent.part now × (opening_type parent.group ≡ open_type o)
+      → Held pool m depth levels base p0 (parent ∷ parents) now o below inner path u earlier
 
 -- What there is of the innermost part is worth the earlier records and those after the reader's position, and its scope says what is left there
 -- and what was there.
 pub record Stands
-    (pool : Types) (m depth levels : ℕ) (base : List Record) (p0 : Place) (frames : List Frame) (now : Part) (scope : Scope) (q : Place) : Type 0 where
+    (pool : Types) (m depth levels : ℕ) (base : List Record) (p0 : Place) (parents : List Parent) (now : Part) (scope : Scope) (q : Place) : Type 0 where
   pub open_now : Open Context
   pub inner : ℕ
   pub path : List PathStep
   pub begin : Place
   pub earlier : List Record
   pub records_so_far : List Record
-  pub held : Held pool m depth levels base p0 frames now open_now scope.depth_left inner path begin earlier
+  pub held : Held pool m depth levels base p0 parents now open_now scope.depth_left inner path begin earlier
   pub form : IsPartOf now (context_of open_now)
   pub deep : scope.depth_left < inner
-  pub behind : Behind (schema_of pool) open_now scope.depth_left begin records_so_far q
+  pub so_far : SoFar (schema_of pool) open_now scope.depth_left begin records_so_far q
   pub counted : CountsOf scope.counts records_so_far
   pub ends : EndsAt q scope.end
   pub bytes : AreBytes p0.rest
