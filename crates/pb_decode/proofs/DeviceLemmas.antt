@@ -149,9 +149,3 @@ pub fault_left :
     (pool : Types) {k : ℕ} {limits : Bounds} (base : List Record) (x y : Option (List ℕ)) (bytes : List ℕ) (f : Fault) → length bytes ≤ limits.bytes → Consumes x y bytes → IsAtEnd y
     → BadFrom pool (further (origin k limits.depth base None) bytes) f → IfSome x (λ left. HasFault (schema_of pool) (a_message k) limits left f)
 fault_left pool {k} {limits} base x y bytes f size given ended bad = Consumes-whole x y bytes (λ left. HasFault (schema_of pool) (a_message k) limits left f) given ended (whole_fault pool base f size bad)
-
--- and nothing is left then
-pub nothing_left : (x y : Option (List ℕ)) (bytes : List ℕ) → Consumes x y bytes → IsAtEnd y → IfSome x (λ left. y ≡ Some [])
-nothing_left None y bytes given ended = tt
-nothing_left (Some left) None bytes given ended = absurd given
-nothing_left (Some left) (Some rest) bytes given ended = ap (λ (z : List ℕ). Some z) ended

@@ -155,12 +155,3 @@ pub elements_more :
     → (more : List ℕ) × AreElements e more × Moves p more r
 elements_more front whole moves next =
     (front ++ next.0, push_element front next.0 whole next.1, moves_both front next.0 moves next.2)
-
--- whole elements up to the known end
-pub elements_whole :
-    {e : Element} (b front : List ℕ) (start size at : ℕ) → AreElements e front → Moves (here b start (Some (start + size))) front (here b at (Some (start + size)))
-    → at ≤ length b → start + size ≤ at → (at ≡ start + size) × AreElements e (take size (drop start b))
-elements_whole {e} b front start size at whole moves within ends =
-    let n : length front ≡ size = let h = moves.at in let w = moves.within in omega (arith, h, w, ends) in
-    let same : front ≡ take size (drop start b) = sym (ap (take size) moves.given ∙ take_at front (drop at b) size n) in
-    ((let h = moves.at in omega (arith, h, n)), subst (AreElements e) same whole)

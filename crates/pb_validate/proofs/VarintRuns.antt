@@ -164,9 +164,3 @@ begun_after_last b at begun within from low =
     let whole = whole_up_to b (at - begun) (at + 1) from.whole (omega arith) (omega (arith, within)) (omega (arith, few, there))
     (λ _. ap (ends_varint b) (sym e) ∙ lt-ltb _ _ low) in
     record { few = omega arith; there = omega arith; whole = subst (λ (z : ℕ). AreElements a_varint (take z b)) all whole }
-
-pub begun_further : (b : List ℕ) (at begun n : ℕ) → Begun b at begun → begun + n ≤ 9 → Begun b (at + n) (begun + n)
-begun_further b at begun n from few =
-    let there = from.there in
-    let e : at - begun ≡ at + n - (begun + n) = omega arith in
-    record { few = few; there = omega (arith, there); whole = subst (λ (z : ℕ). AreElements a_varint (take z b)) e from.whole }

@@ -30,14 +30,6 @@ eights (a ∷ b ∷ c ∷ d ∷ f ∷ g ∷ h ∷ []) e = absurd (omega (arith, 
 eights (a ∷ b ∷ c ∷ d ∷ f ∷ g ∷ h ∷ i ∷ s) e =
     element {first = a ∷ b ∷ c ∷ d ∷ f ∷ g ∷ h ∷ i ∷ []} (IsElement.eight_element refl) (eights s (omega (arith, e))) refl
 
--- whole records up to the end are all
-pub whole_at_end :
-    (S : Schema) (c : S.Context) (levels : ℕ) (b : List ℕ) (at : ℕ) (rs : List Record) → Front S c levels (here b 0 None) rs (here b at None) → at ≤ length b
-    → length b ≤ at → AreWhole S c levels b
-whole_at_end S c levels b at rs front within all =
-    let spelled = records_between levels b 0 at None rs front in
-    (rs, subst (AreRecords rs) (take_all (at - 0) b (omega (arith, all))) spelled, front.sound)
-
 -- the records of a group up to its end tag
 pub group_ended :
     (S : Schema) (c d : S.Context) (levels k n w : ℕ) (p e q : Place) (rs : List Record) → 0 < levels → d ≡ S.group_context c k → Front S d (levels - 1) p rs e

@@ -12,13 +12,6 @@ use Rattle.pb_parts.specs.declared.open.target.Target.{Target}
 use Rattle.pb_parts.specs.declared.open.target.Target.TheVariants as target
 use Rattle.pb_parts.specs.Open.Parents.{Part, message_part, entry_part, group_part}
 
-abbrev pub IsList : Shape → Type 0
-IsList (shape.List p) = Unit {0}
-IsList shape.Implicit = ⊥
-IsList shape.Explicit = ⊥
-IsList (shape.OneofMember _) = ⊥
-IsList (shape.Map _) = ⊥
-
 -- what a record is for that fits a field of one value, of this kind and number
 abbrev pub OfSingle : Kind → Shape → ℕ → Target → Type 0
 OfSingle k s n (target.One k2 s2) = (k2 ≡ k) × (s2 ≡ s) × (message_of_kind k ≡ None)

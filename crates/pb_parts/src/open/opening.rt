@@ -122,7 +122,7 @@ fn new_scope(alloc: Global, depth_left: u8, end: Option<u32>) -> Scope
 }
 
 /// After the length of a record of a message the message is open, up to its end. It goes on from what its slot holds, and
-/// the frame is that of its parent.
+/// the scope and slot of its parent are kept.
 #[inline(always)]
 pub fn open_message(
     alloc: Global,

@@ -49,7 +49,7 @@ returns-in_ok-close_message-in-Message-clause-reads c =
     let same : number ≡ c.in-Some.parent.number = sym (popped_number c.args.reader.now.parents.items c.pop.new.self.items c.in-Some.parent number c.in-Some.ensures.items inner) in
     stands_here (state_view (record { at = c.args.reader.now.at + c.args.size; part = c.close_message.new.outer; scope = c.close_message.new.scope; parents = c.pop.new.self; step = c.args.reader.now.step })) (drop c.args.size rest)
     (passed (here (state_view c.args.reader.now) rest) c.args.size)
-    (c.in_ok-close_message-in-Message.ensures.so_far m depth levels c.in-Message.field-0.0 base p0 (here (state_view c.args.reader.now) rest) (passed (here (state_view c.args.reader.now) rest) c.args.size) (parents_view c.pop.new.self.items) (scope_view c.args.reader.now.scope)
+    (c.in_ok-close_message-in-Message.ensures.after m depth levels c.in-Message.field-0.0 base p0 (here (state_view c.args.reader.now) rest) (passed (here (state_view c.args.reader.now) rest) c.args.size) (parents_view c.pop.new.self.items) (scope_view c.args.reader.now.scope)
     (standing (state_view c.args.reader.now) rest
     (parent_of (part_view c.replace-inner.new.dest) c.in-Some.parent.number c.in-Some.parent.slot true (scope_view c.in-Some.parent.scope) ∷ parents_view c.pop.new.self.items) (message_part c.in-Message.field-0.0 (body_view c.in-Message.message)) begun c.requires.step around
     (ap part_view (sym c.replace-inner.ensures.value ∙ c.in-Message.is)))
