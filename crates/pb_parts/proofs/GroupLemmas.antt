@@ -1,6 +1,6 @@
 -- A group that is open: it ends at its end tag alone, and no known end may come before that.
 use Rattle.std.proofs.Common.{◌≡◌, ℕ, List, [], ◌∷◌, refl, sym, ap, ◌∙◌, subst, arith, Option, Some, None}
-use Rattle.std.specs.Prelude.{true, false}
+use Rattle.std.specs.Prelude.{Bool, true, false}
 use Rattle.pb_wire.specs.Record.{Record}
 use Rattle.pb_wire.specs.declared.fault.PathStep.{PathStep}
 use Rattle.pb_wire.specs.declared.fault.Cause.TheVariants.{PastEnd}
@@ -17,9 +17,10 @@ use Rattle.pb_schema.specs.Context.{Context, a_message as in_message, an_entry, 
 use Rattle.pb_value.specs.Data.{Message}
 use Rattle.pb_parts.specs.Open.Opened.{Begun}
 use Rattle.pb_parts.specs.Open.Opened as opened
-use Rattle.pb_parts.specs.Open.Parents.{Part, message_part, group_part, put_message, put_group, open_type, one_more_in, Scope, Parent, path_of, Held, inside, Stands}
+use Rattle.pb_parts.specs.Open.Parents.{Part, message_part, group_part, put_child, open_type, one_more_in, Scope, Parent, path_of, Held, inside, Stands}
+use Rattle.pb_parts.specs.Close.Closes.{ClosesAt}
 use Rattle.pb_parts.proofs.OpenedLemmas.{lift}
-use Rattle.pb_parts.proofs.ParentLemmas.{held_opened, is_payload, is_group}
+use Rattle.pb_parts.proofs.ParentLemmas.{held_opened, is_payload, is_group, ends_at_known_end}
 use Rattle.pb_parts.proofs.StepsOfParts.{ends_at_tag}
 use Rattle.pb_parts.proofs.AfterLemmas.{path_held}
 
@@ -88,20 +89,15 @@ past_end_reported {pool} {m} {depth} {p0 = p0} {parent} {parents} {scope} {q = q
     (lift (fault q.at [] PastEnd) (held_opened s.held)
     (Bad.at_end (is_group s some) (s.records_so_far, s.so_far.spelled, s.so_far.sound) s.so_far.moves end refl))
 
--- A GROUP THAT ENDS at its end tag, as its slot says: unknown records
-pub group_closes :
-    {pool : Types} {m depth levels : ℕ} {base : List Record} {p0 : Place} {parent : Parent} {parents : List Parent} {scope : Scope} {us : List Record} {q w : Place} (next : Part)
-    → Stands pool m depth levels base p0 (parent ∷ parents) (group_part us) scope q → parent.group ≡ true → HasTag q parent.number 4 w → next ≡ put_group parent.slot parent.part us
+-- A PART THAT CLOSES goes into its slot
+pub part_closes :
+    {pool : Types} {m depth levels : ℕ} {base : List Record} {p0 : Place} {parent : Parent} {parents : List Parent} {scope : Scope} {now : Part} {q w : Place} (next : Part)
+    → Stands pool m depth levels base p0 (parent ∷ parents) now scope q → ClosesAt parent.group parent.number parent.scope.end q w → next ≡ put_child pool parent.slot parent.part now
     → Stands pool m depth levels base p0 parents next (one_more_in parent.number parent.scope) w
-group_closes {pool} {m} {depth} {levels} {base} {p0} {parent} {parents} {scope} {us} {q} {w} next s some end is =
-    subst (λ (z : Part). Stands pool m depth levels base p0 parents z (one_more_in parent.number parent.scope) w) (sym is)
-    (ends_at_tag s (is_group s some) some end)
-
--- and the message of a field
-pub message_group_closes :
-    {pool : Types} {m depth levels : ℕ} {base : List Record} {p0 : Place} {parent : Parent} {parents : List Parent} {scope : Scope} {k : ℕ} {v : Message} {q w : Place} (next : Part)
-    → Stands pool m depth levels base p0 (parent ∷ parents) (message_part k v) scope q → parent.group ≡ true → HasTag q parent.number 4 w → next ≡ put_message pool parent.slot parent.part v
-    → Stands pool m depth levels base p0 parents next (one_more_in parent.number parent.scope) w
-message_group_closes {pool} {m} {depth} {levels} {base} {p0} {parent} {parents} {scope} {k} {v} {q} {w} next s some end is =
-    subst (λ (z : Part). Stands pool m depth levels base p0 parents z (one_more_in parent.number parent.scope) w) (sym is)
-    (ends_at_tag s (is_group s some) some end)
+part_closes {pool} {m} {depth} {levels} {base} {p0} {parent} {parents} {scope} {now} {q} {w} next s closes is =
+    subst (λ (z : Part). Stands pool m depth levels base p0 parents z (one_more_in parent.number parent.scope) w) (sym is) (by_group parent.group refl closes)
+  where
+    by_group : (g : Bool) → parent.group ≡ g → ClosesAt g parent.number parent.scope.end q w
+        → Stands pool m depth levels base p0 parents (put_child pool parent.slot parent.part now) (one_more_in parent.number parent.scope) w
+    by_group false none at = subst (Stands pool m depth levels base p0 parents (put_child pool parent.slot parent.part now) (one_more_in parent.number parent.scope)) (sym at.1) (ends_at_known_end s none at.0)
+    by_group true some at = ends_at_tag s (is_group s some) some at

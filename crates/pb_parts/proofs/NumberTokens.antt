@@ -71,7 +71,7 @@ follows_on x at size used bytes rest is within (front, spelled, moves) = (front,
     whole = ap (λ (z : List ℕ). z ++ drop size bytes) is ∙ take-append-drop size bytes
 
     after : drop used rest ++ drop size bytes ≡ drop used bytes
-    so_far = sym (drop-append-le used rest (drop size bytes) within) ∙ ap (drop used) whole
+    after = sym (drop-append-le used rest (drop size bytes) within) ∙ ap (drop used) whole
 
     given : bytes ≡ front ++ drop used bytes
     given =

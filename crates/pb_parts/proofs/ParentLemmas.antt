@@ -424,21 +424,3 @@ entry_no_group {parent = parent} s some =
     let typed : open_type s.open_now ≡ 2 = ap open_type (entry_is_payload s) in
     let flag : 3 ≡ open_type s.open_now = sym (ap opening_type some) ∙ flag_held s.held in
     omega (arith, typed, flag)
-
--- a message that ends, as its slot says
-pub message_closes :
-    {pool : Types} {m depth levels : ℕ} {base : List Record} {p0 : Place} {parent : Parent} {parents : List Parent} {scope : Scope} {k : ℕ} {w : Message} {q : Place} (next : Part)
-    → Stands pool m depth levels base p0 (parent ∷ parents) (message_part k w) scope q → parent.group ≡ false → q.known ≡ Some 0 → next ≡ put_message pool parent.slot parent.part w
-    → Stands pool m depth levels base p0 parents next (one_more_in parent.number parent.scope) (up_to parent.scope.end q)
-message_closes {pool} {m} {depth} {levels} {base} {p0} {parent} {parents} {scope} {k} {w} {q} next s none end is =
-    subst (λ (z : Part). Stands pool m depth levels base p0 parents z (one_more_in parent.number parent.scope) (up_to parent.scope.end q)) (sym is)
-    (ends_at_known_end s none end)
-
--- and an entry
-pub entry_closes :
-    {pool : Types} {m depth levels : ℕ} {base : List Record} {p0 : Place} {parent : Parent} {parents : List Parent} {scope : Scope} {key kd : Kind} {x : Option Scalar} {d : Option Datum} {q : Place} (next : Part)
-    → Stands pool m depth levels base p0 (parent ∷ parents) (entry_part key kd x d) scope q → parent.group ≡ false → q.known ≡ Some 0 → next ≡ put_entry parent.slot parent.part key kd x d
-    → Stands pool m depth levels base p0 parents next (one_more_in parent.number parent.scope) (up_to parent.scope.end q)
-entry_closes {pool} {m} {depth} {levels} {base} {p0} {parent} {parents} {scope} {key} {kd} {x} {d} {q} next s none end is =
-    subst (λ (z : Part). Stands pool m depth levels base p0 parents z (one_more_in parent.number parent.scope) (up_to parent.scope.end q)) (sym is)
-    (ends_at_known_end s none end)

@@ -18,7 +18,7 @@ use Rattle.pb_parts.proofs.PlaceLemmas.{place_after, passed_twice}
 use Rattle.pb_whole.proofs.Tags.{there_after}
 use Rattle.pb_parts.proofs.OpenSteps.{message_group_opened}
 use Rattle.pb_parts.proofs.GroupSteps.{group_opened}
-use Rattle.pb_parts.proofs.GroupLemmas.{group_closes, message_group_closes}
+use Rattle.pb_parts.proofs.GroupLemmas.{part_closes}
 use Rattle.pb_whole.proofs.Payloads.{filled_so_far, typed_tag}
 use Rattle.pb_parts.specs.declared.open.part.Slot.TheVariants as slot
 use Rattle.pb_parts.specs.declared.open.target.Target.TheVariants as target
@@ -119,12 +119,12 @@ unknown_group_inside at left bytes number tag_size before size depth_left conten
 pub unknown_group_over :
     {pool : Types} {m depth levels : ℕ} {base : List Record} {p0 : Place} {parents : List Parent} {depth_left inner number : ℕ} {s : Slot} {scope : Scope} {outer : Part} {us : List Record} {q w : Place} (next : Part) → scope.depth_left ≡ depth_left
     → StandsIn pool m depth levels base p0 (parent_of outer number s true scope ∷ parents) inner (group_part us) q → HasTag q number 4 w → next ≡ put_group s outer us → StandsIn pool m depth levels base p0 parents depth_left next w
-unknown_group_over {number = number} {scope = scope} next level there end is = (one_more_in number scope, group_closes next there.1 refl end is, level)
+unknown_group_over {number = number} {scope = scope} next level there end is = (one_more_in number scope, part_closes next there.1 end is, level)
 
 pub field_group_over :
     {pool : Types} {m depth levels : ℕ} {base : List Record} {p0 : Place} {parents : List Parent} {depth_left inner number k : ℕ} {s : Slot} {scope : Scope} {outer : Part} {v : Message} {q w : Place} (next : Part) → scope.depth_left ≡ depth_left
     → StandsIn pool m depth levels base p0 (parent_of outer number s true scope ∷ parents) inner (message_part k v) q → HasTag q number 4 w → next ≡ put_message pool s outer v → StandsIn pool m depth levels base p0 parents depth_left next w
-field_group_over {number = number} {scope = scope} next level there end is = (one_more_in number scope, message_group_closes next there.1 refl end is, level)
+field_group_over {number = number} {scope = scope} next level there end is = (one_more_in number scope, part_closes next there.1 end is, level)
 
 -- THE END TAG after the records that are read
 pub end_reached :

@@ -12,8 +12,8 @@ use Rattle.pb_schema.specs.Context.{Context}
 use Rattle.pb_value.specs.Data.{Datum}
 use Rattle.pb_parts.specs.declared.open.part.Slot.{Slot}
 use Rattle.pb_parts.specs.Open.Parents.{Part, message_part, entry_part, group_part, CanHold, Scope, Parent, Held, inside, Stands}
-use Rattle.pb_parts.specs.Close.Closing.{FitsSlot}
-use Rattle.pb_parts.proofs.WellLemmas.{fits_keys}
+use Rattle.pb_parts.specs.Close.Closing.{FitsSlot, CanGoInto}
+use Rattle.pb_parts.proofs.WellLemmas.{can_hold, fits_keys}
 use Rattle.pb_parts.specs.declared.open.part.Slot.TheVariants as slot
 
 -- THE PARENT may be changed
@@ -38,3 +38,11 @@ entry_fits {pool} {m} {depth} {levels} {base} {p0} {parent} {parents} {scope} {q
     by_slot (slot.List n) p is_slot is_part = tt
     by_slot slot.Entry p is_slot is_part = tt
     by_slot (slot.Unknown n) p is_slot is_part = tt
+
+-- and any part goes into its slot of its parent
+pub part_fits :
+    {pool : Types} {m depth levels : ℕ} {base : List Record} {p0 : Place} {parent : Parent} {parents : List Parent} {scope : Scope} {q : Place} (ok : IsPool pool) (now : Part)
+    → Stands pool m depth levels base p0 (parent ∷ parents) now scope q → CanGoInto parent.slot parent.part now
+part_fits ok (message_part m v) s = tt
+part_fits ok (entry_part key kd x d) s = (can_hold ok (entry_part key kd x d) s, entry_fits ok key kd x d s)
+part_fits ok (group_part us) s = tt

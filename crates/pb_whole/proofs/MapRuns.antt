@@ -25,7 +25,7 @@ use Rattle.pb_whole.specs.Entries.{more_in, IsMapOpen}
 use Rattle.pb_parts.proofs.PlaceLemmas.{passed_twice, place_after, slice_from}
 use Rattle.pb_parts.proofs.WellLemmas.{message_good}
 use Rattle.pb_whole.proofs.Held.{entry_fits}
-use Rattle.pb_parts.proofs.ParentLemmas.{entry_closes}
+use Rattle.pb_parts.proofs.GroupLemmas.{part_closes}
 use Rattle.pb_whole.proofs.Payloads.{payload_place, place_before, after_inner, entry_begun, none_left, typed_tag}
 use Rattle.pb_parts.proofs.MapPuts.{mapped_next, pairs_next, fit_next, size_next, all_context}
 use Rattle.pb_parts.specs.declared.open.part.Slot.TheVariants as slot
@@ -91,7 +91,7 @@ pub entry_taken :
 entry_taken {pool} {m} {depth} {levels} {base} {p0} {parents} {scope} {now} at left bytes number start size inner key kd x d y e ok s read a b = (
   fits_mapped number now key x y a (entry_fits ok key kd x d read.1),
   subst (Stands pool m depth levels base p0 parents (put_mapped number (y, e) now) (one_more_in number scope)) (after_payload at left bytes start size scope.end s.ends)
-      (entry_closes (put_mapped number (y, e) now) read.1 refl (none_left size) (mapped_is number now key kd x d y e a b)),
+      (part_closes (put_mapped number (y, e) now) read.1 (none_left size, refl) (mapped_is number now key kd x d y e a b)),
 )
 
 -- THE MAP is open where its message is

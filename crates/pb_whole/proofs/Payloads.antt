@@ -22,7 +22,7 @@ use Rattle.pb_parts.proofs.ListSteps.{list_begins, list_over}
 use Rattle.pb_whole.proofs.ListHolds.{list_can_hold}
 use Rattle.pb_whole.proofs.Tags.{tag_next, opening_next}
 use Rattle.pb_parts.proofs.OpenSteps.{message_opened, entry_opened}
-use Rattle.pb_parts.proofs.ParentLemmas.{message_closes, entry_closes}
+use Rattle.pb_parts.proofs.GroupLemmas.{part_closes}
 use Rattle.pb_parts.specs.declared.open.part.Slot.TheVariants as slot
 use Rattle.pb_parts.specs.declared.open.target.Target.TheVariants as target
 use Rattle.pb_parts.specs.declared.tokens.step.Step.TheVariants as step
@@ -130,23 +130,23 @@ filled_inside {pool} {m} {depth} {levels} {base} {p0} {parents} at bytes start s
     subst (λ (z : Part). StandsIn pool m depth levels base p0 parents depth_left z (passed (payload_place at bytes start size) size)) is (fills m depth levels (at + start) base p0 parents there)
 
 pub entry_inside :
-    {pool : Types} {m depth levels : ℕ} {base : List Record} {p0 : Place} {parents : List Parent} {now : Part} (at : ℕ) (left : Option ℕ) (bytes : List ℕ) (number tag_size start size depth_left : ℕ) (key kd : Kind) {key2 kd2 : Kind} {x : Option Scalar} {d : Option Datum} {filled : Part}
+    {pool : Types} {m depth levels : ℕ} {base : List Record} {p0 : Place} {parents : List Parent} {now : Part} (at : ℕ) (left : Option ℕ) (bytes : List ℕ) (number tag_size start size depth_left : ℕ) (key kd : Kind) {filled is_now : Part}
     → IsPool pool → (there : StandsIn pool m depth levels base p0 parents depth_left now (given_at at left bytes))
     → HasTag (given_at at left bytes) number 2 (passed (given_at at left bytes) tag_size) → HasLength (passed (given_at at left bytes) tag_size) size (passed (given_at at left bytes) start)
-    → Means pool (part_context now) number 2 (target.Entry key kd) → 0 < depth_left → ReadsTo pool (entry_part key kd None None) filled (take (length bytes - start) (drop start bytes)) size (depth_left - 1) size → filled ≡ entry_part key2 kd2 x d
-    → StandsIn pool m depth levels base p0 (parent_of now number (slot.Map number) false there.0 ∷ parents) (depth_left - 1) (entry_part key2 kd2 x d) (passed (payload_place at bytes start size) size)
-entry_inside {pool} {m} {depth} {levels} {base} {p0} {parents} {now} at left bytes number tag_size start size depth_left key kd {key2} {kd2} {x} {d} {filled} ok there has l means some fills is =
-    filled_inside at bytes start size (depth_left - 1) (entry_part key kd None None) filled (entry_part key2 kd2 x d) (entry_begun at left bytes number tag_size start size depth_left key kd ok there.1 there.2 has l means some) fills is
+    → Means pool (part_context now) number 2 (target.Entry key kd) → 0 < depth_left → ReadsTo pool (entry_part key kd None None) filled (take (length bytes - start) (drop start bytes)) size (depth_left - 1) size → filled ≡ is_now
+    → StandsIn pool m depth levels base p0 (parent_of now number (slot.Map number) false there.0 ∷ parents) (depth_left - 1) is_now (passed (payload_place at bytes start size) size)
+entry_inside {pool} {m} {depth} {levels} {base} {p0} {parents} {now} at left bytes number tag_size start size depth_left key kd {filled} {is_now} ok there has l means some fills is =
+    filled_inside at bytes start size (depth_left - 1) (entry_part key kd None None) filled is_now (entry_begun at left bytes number tag_size start size depth_left key kd ok there.1 there.2 has l means some) fills is
 
 pub message_inside :
-    {pool : Types} {m depth levels : ℕ} {base : List Record} {p0 : Place} {parents : List Parent} {now : Part} (at : ℕ) (left : Option ℕ) (bytes : List ℕ) (number tag_size start size depth_left below : ℕ) (j : MessageId) (s : Slot) (outer : Part) (w : Message) {k : ℕ} {v : Message} {filled : Part}
+    {pool : Types} {m depth levels : ℕ} {base : List Record} {p0 : Place} {parents : List Parent} {now : Part} (at : ℕ) (left : Option ℕ) (bytes : List ℕ) (number tag_size start size depth_left below : ℕ) (j : MessageId) (s : Slot) (outer : Part) (w : Message) {filled is_now : Part}
     → IsPool pool → (there : StandsIn pool m depth levels base p0 parents depth_left now (given_at at left bytes)) → below ≡ depth_left_in s depth_left
     → HasTag (given_at at left bytes) number 2 (passed (given_at at left bytes) tag_size) → HasLength (passed (given_at at left bytes) tag_size) size (passed (given_at at left bytes) start)
     → Means pool (part_context now) number 2 (target.Message j s) → HasLevelFor depth_left (target.Message j s) → outer ≡ without_message s now → w ≡ taken_message s now
-    → ReadsTo pool (message_part j.0 w) filled (take (length bytes - start) (drop start bytes)) size below size → filled ≡ message_part k v
-    → StandsIn pool m depth levels base p0 (parent_of outer number s false there.0 ∷ parents) below (message_part k v) (passed (payload_place at bytes start size) size)
-message_inside {pool} {m} {depth} {levels} {base} {p0} {parents} {now} at left bytes number tag_size start size depth_left below j s outer w {k} {v} {filled} ok there is_below has l means some is_outer is_taken fills is =
-    filled_inside at bytes start size below (message_part j.0 w) filled (message_part k v) (message_begun at left bytes number tag_size start size depth_left below j s outer w ok there.1 there.2 is_below has l means some is_outer is_taken) fills is
+    → ReadsTo pool (message_part j.0 w) filled (take (length bytes - start) (drop start bytes)) size below size → filled ≡ is_now
+    → StandsIn pool m depth levels base p0 (parent_of outer number s false there.0 ∷ parents) below is_now (passed (payload_place at bytes start size) size)
+message_inside {pool} {m} {depth} {levels} {base} {p0} {parents} {now} at left bytes number tag_size start size depth_left below j s outer w {filled} {is_now} ok there is_below has l means some is_outer is_taken fills is =
+    filled_inside at bytes start size below (message_part j.0 w) filled is_now (message_begun at left bytes number tag_size start size depth_left below j s outer w ok there.1 there.2 is_below has l means some is_outer is_taken) fills is
 
 -- a tag of this wire type
 pub typed_tag : (bytes : List ℕ) (left : Option ℕ) (number type wanted size : ℕ) → type ≡ wanted → HasTagAt bytes left number type size → HasTagAt bytes left number wanted size
@@ -177,7 +177,7 @@ pub message_over :
     → StandsIn pool m depth levels base p0 (parent_of outer number t false scope ∷ parents) inner (message_part k w) (passed (payload_place at bytes start size) size) → next ≡ put_message pool t outer w
     → StandsIn pool m depth levels base p0 parents depth_left next (passed (given_at at (Some left) bytes) (start + size))
 message_over {pool} {m} {depth} {levels} {base} {p0} {parents} {scope} {now} {outer} at left bytes number start size depth_left inner k t w next s level there is =
-    (one_more_in number scope, subst (Stands pool m depth levels base p0 parents next (one_more_in number scope)) (after_inner at left bytes start size scope.end s.ends) (message_closes next there.1 refl (none_left size) is), level)
+    (one_more_in number scope, subst (Stands pool m depth levels base p0 parents next (one_more_in number scope)) (after_inner at left bytes start size scope.end s.ends) (part_closes next there.1 (none_left size, refl) is), level)
 
 -- A PACKED LIST whose elements take its whole payload
 pub list_filled :

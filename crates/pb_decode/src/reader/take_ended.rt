@@ -14,10 +14,10 @@ use crate::error::DecodeError;
 use crate::reader::fault::fault_at;
 use crate::reader::state::{Reader, left};
 use crate::reader::take_tag::innermost;
-use pb_parts::close::closing::close_entry;
-use pb_parts::close::put::{close_message, count_one};
+use pb_parts::close::closing::close_part;
+use pb_parts::close::put::count_one;
 use pb_parts::error::NoMemory;
-use pb_parts::open::part::{Parent, Part};
+use pb_parts::open::part::Parent;
 use pb_parts::tokens::step::Step;
 use pb_schema::Pool;
 use pb_wire::Cause;
@@ -78,17 +78,8 @@ fn close_innermost(alloc: Global, pool: &Pool, reader: &mut Reader) -> Result<()
     reader.scope = scope;
     let outer = &mut reader.part;
     let around = &mut reader.scope;
-    match inner {
-        Part::Message(_, message) => {
-            close_message(alloc, pool, outer, around, number, slot, message)?;
-            Ok(())
-        }
-        Part::Entry(entry) => {
-            close_entry(alloc, outer, around, number, slot, entry)?;
-            Ok(())
-        }
-        Part::Group(_) => unreachable!(),
-    }
+    close_part(alloc, pool, outer, around, number, slot, inner)?;
+    Ok(())
 }
 
 /// Closes the parts that end at a tag, innermost first. The top stays open.

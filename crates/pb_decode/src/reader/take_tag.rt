@@ -16,11 +16,10 @@ use crate::error::DecodeError;
 use crate::reader::fault::{fault_at, fault_inside};
 use crate::reader::pass_length::enter;
 use crate::reader::state::{Reader, left};
-use pb_parts::close::closing::close_group;
-use pb_parts::close::put::close_message;
+use pb_parts::close::closing::close_part;
 use pb_parts::error::NoMemory;
 use pb_parts::open::opening::open_group;
-use pb_parts::open::part::{Parent, Part};
+use pb_parts::open::part::Parent;
 use pb_parts::open::target::{Target, target_of};
 use pb_parts::tokens::prefix::prefix_number;
 use pb_parts::tokens::tag::{group_end, group_refusal, tag_parts};
@@ -129,6 +128,7 @@ pub(crate) fn leave_group(
     reader: &mut Reader,
     size: usize,
 ) -> Result<(), NoMemory>
+    requires rules { IsPool pool.now }
     requires reading { (rest : List ℕ) × IsReading pool.now (state_view reader.old) rest }
     requires step { reader.old.step ≡ Tag }
     requires group { (number : ℕ) × (innermost_group (parents_view reader.old.parents.items) ≡ Some number) }
@@ -152,17 +152,8 @@ pub(crate) fn leave_group(
     reader.at += size as u32;
     let outer = &mut reader.part;
     let around = &mut reader.scope;
-    match inner {
-        Part::Message(_, message) => {
-            close_message(alloc, pool, outer, around, number, slot, message)?;
-            Ok(())
-        }
-        Part::Group(records) => {
-            close_group(outer, around, number, slot, records)?;
-            Ok(())
-        }
-        Part::Entry(_) => unreachable!(),
-    }
+    close_part(alloc, pool, outer, around, number, slot, inner)?;
+    Ok(())
 }
 
 /// After the last tag of a group the reader is in what holds the group.
@@ -173,6 +164,7 @@ fn pass_group_end(
     number: u32,
     size: usize,
 ) -> Result<(), DecodeError>
+    requires rules { IsPool pool.now }
     requires reading { (rest : List ℕ) × IsReading pool.now (state_view reader.old) rest }
     requires step { reader.old.step ≡ Tag }
     requires fits { reader.old.at + size < 2 ^ 32 }

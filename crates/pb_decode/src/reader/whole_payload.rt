@@ -1,4 +1,4 @@
-//! Messages and map entries that are complete in the bytes: each is read by `pb_whole` and goes into its slot, without a frame.
+//! Messages and map entries that are complete in the bytes: each is read by `pb_whole` and goes into its slot, without being opened.
 
 ghost use Rattle.std.specs.Prelude.{◌≡◌, ◌+◌, ◌≤◌, length, IfOk, IfSome, IfNone};
 ghost use Rattle.pb_parts.specs.declared.open.target.Target.TheVariants as targets;
@@ -7,8 +7,7 @@ ghost use Rattle.pb_parts.specs.Open.Targets.{Means, part_context};
 ghost use Rattle.pb_decode.specs.Reader.Steps.{IsAtTag, TakesWhole};
 
 use crate::reader::state::{Reader, left};
-use pb_parts::close::closing::close_entry;
-use pb_parts::close::put::close_message;
+use pb_parts::close::closing::close_part;
 use pb_parts::error::NoMemory;
 use pb_parts::open::opening::{depth_left_in, is_free};
 use pb_parts::open::part::{Entry, Part, Slot};
@@ -57,26 +56,19 @@ pub(crate) fn take_message(
         *by_tokens = true;
         return Ok(None);
     };
-    match inner {
-        Part::Message(_kind, message) => {
-            let outer = &mut reader.part;
-            let around = &mut reader.scope;
-            let number = tag.number;
-            close_message(
-                whole.alloc,
-                whole.pool,
-                outer,
-                around,
-                number,
-                slot,
-                message,
-            )?;
-            reader.at += end as u32;
-            Ok(Some(end))
-        }
-        Part::Entry(_entry) => Ok(None),
-        Part::Group(_records) => Ok(None),
-    }
+    let outer = &mut reader.part;
+    let around = &mut reader.scope;
+    close_part(
+        whole.alloc,
+        whole.pool,
+        outer,
+        around,
+        tag.number,
+        slot,
+        inner,
+    )?;
+    reader.at += end as u32;
+    Ok(Some(end))
 }
 
 /// Takes the map entry after whose tag its payload is complete, and how many bytes it takes, as `take_message` does.
@@ -117,17 +109,18 @@ pub(crate) fn take_entry(
         *by_tokens = true;
         return Ok(None);
     };
-    match entry {
-        Part::Entry(entry) => {
-            let number = tag.number;
-            let slot = Slot::Map(number);
-            let outer = &mut reader.part;
-            let around = &mut reader.scope;
-            close_entry(whole.alloc, outer, around, number, slot, entry)?;
-            reader.at += end as u32;
-            Ok(Some(end))
-        }
-        Part::Message(_kind, _body) => Ok(None),
-        Part::Group(_records) => Ok(None),
-    }
+    let number = tag.number;
+    let outer = &mut reader.part;
+    let around = &mut reader.scope;
+    close_part(
+        whole.alloc,
+        whole.pool,
+        outer,
+        around,
+        number,
+        Slot::Map(number),
+        entry,
+    )?;
+    reader.at += end as u32;
+    Ok(Some(end))
 }

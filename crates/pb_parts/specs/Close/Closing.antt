@@ -1,8 +1,8 @@
--- What closing an entry asks of the part that holds it.
-use Rattle.std.specs.Prelude.{Option, unwrap_or}
+-- What closing a part asks of its parent.
+use Rattle.std.specs.Prelude.{IsTrue, Option, unwrap_or}
 use Rattle.pb_schema.specs.declared.types.Kind.{Kind}
 use Rattle.pb_schema.specs.Scalar.{Scalar}
-use Rattle.pb_schema.specs.Kinds.{default_of}
+use Rattle.pb_schema.specs.Kinds.{default_of, is_key_kind}
 use Rattle.pb_value.specs.Data.{fields_of, get_field}
 use Rattle.pb_value.specs.Change.{entries_of, FitsKeys}
 use Rattle.pb_parts.specs.declared.open.part.Slot.{Slot}
@@ -18,3 +18,9 @@ FitsSlot (slot.One s n) p key x = Unit {0}
 FitsSlot (slot.List n) p key x = Unit {0}
 FitsSlot slot.Entry p key x = Unit {0}
 FitsSlot (slot.Unknown n) p key x = Unit {0}
+
+-- a part that is whole can go into the slot: an entry has a key of a kind that keys have, for which there is a place
+abbrev pub CanGoInto : Slot → Part → Part → Type 0
+CanGoInto s p (message_part m v) = Unit {0}
+CanGoInto s p (entry_part key k x d) = IsTrue (is_key_kind key) × FitsSlot s p key x
+CanGoInto s p (group_part us) = Unit {0}

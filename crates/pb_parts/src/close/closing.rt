@@ -1,23 +1,22 @@
-//! Entries and groups that are whole go where they belong.
+//! Parts that are whole go where they belong in their parents.
 
 ghost use Rattle.std.specs.Prelude.{◌≡◌, ◌<◌, ◌-◌, ◌^◌, IsTrue, unwrap_or, option_map, OnOk};
 ghost use Rattle.pb_wire.specs.Unknown.{records_of};
-ghost use Rattle.pb_schema.specs.Types.{Types};
 ghost use Rattle.pb_schema.specs.Kinds.{default_of, is_key_kind};
 ghost use Rattle.pb_value.specs.View.{key_view, value_view};
 ghost use Rattle.pb_value.specs.Value.{missing};
 ghost use Rattle.pb_value.specs.Data.{empty};
-ghost use Rattle.pb_parts.specs.Open.Parents.{put_entry as put_entry_view, put_group as put_group_view, group_part};
-ghost use Rattle.pb_parts.specs.Close.Closing.{FitsSlot};
+ghost use Rattle.pb_parts.specs.Open.Parents.{put_entry as put_entry_view, put_group as put_group_view, put_child, CanHold};
+ghost use Rattle.pb_parts.specs.Close.Closing.{FitsSlot, CanGoInto};
 ghost use Rattle.pb_parts.specs.Open.Occurrences.{counts_view};
-ghost use Rattle.pb_parts.specs.Open.PartView.{part_view, entry_view};
-ghost use Rattle.pb_parts.specs.Close.Closes.{ClosesAtEnd, ClosesAtTag};
+ghost use Rattle.pb_parts.specs.Open.PartView.{part_view};
+ghost use Rattle.pb_parts.specs.Close.Closes.{Closes};
 
-use crate::close::put::count_one;
+use crate::close::put::{count_one, put_message};
 use crate::error::{NoMemory, memory_alone};
 use crate::open::part::{Entry, Part, Scope, Slot};
 use crate::values::put_unknown::put_unknown;
-use pb_schema::Kind;
+use pb_schema::{Kind, Pool};
 use pb_value::parts::{empty_body, insert_entry};
 use pb_value::{MapKey, Value, default_value};
 use pb_wire::Unknown;
@@ -80,7 +79,7 @@ pub fn value_or_missing(alloc: Global, kind: Kind, value: Option<Value>) -> Valu
 }
 
 /// Puts an entry into the map of the part that holds it.
-pub fn put_entry(alloc: Global, slot: Slot, outer: &mut Part, entry: Entry) -> Result<(), NoMemory>
+fn put_entry(alloc: Global, slot: Slot, outer: &mut Part, entry: Entry) -> Result<(), NoMemory>
     requires key { IsTrue (is_key_kind entry.key_kind) }
     requires fits { FitsSlot slot (part_view outer.old) entry.key_kind (option_map key_view entry.key) }
     ensures { OnOk result (part_view outer.new
@@ -116,47 +115,48 @@ pub fn put_group(slot: Slot, outer: &mut Part, records: Vec<(u32, Unknown)>) -> 
             put_unknown(outer, number, Unknown::Group(records))?;
             Ok(())
         }
-        Slot::One(_, _) => Ok(()),
-        Slot::List(_) => Ok(()),
-        Slot::Map(_) => Ok(()),
-        Slot::Entry => Ok(()),
+        Slot::One(_, _) | Slot::List(_) | Slot::Map(_) | Slot::Entry => Ok(()),
     }
 }
 
-/// An entry whose known end is reached goes into its map, and its record is counted: the reader is in its parent.
-pub fn close_entry(
+/// Puts a part that is whole into its slot of its parent.
+#[inline(always)]
+fn put_part(
     alloc: Global,
-    outer: &mut Part,
-    scope: &mut Scope,
-    number: u32,
+    pool: &Pool,
     slot: Slot,
-    entry: Entry,
+    outer: &mut Part,
+    inner: Part,
 ) -> Result<(), NoMemory>
-    requires key { IsTrue (is_key_kind entry.key_kind) }
-    requires fits { FitsSlot slot (part_view outer.old) entry.key_kind (option_map key_view entry.key) }
-    requires few { counts_view scope.old.occurrences number < 2 ^ 32 - 1 }
-    ensures same_end { OnOk result (scope.new.end ≡ scope.old.end) }
-    ensures stands { (pool : Types) → ClosesAtEnd pool number slot (entry_view entry) outer.old scope.old outer.new scope.new result }
+    requires can { CanHold pool.now (part_view outer.old) }
+    requires fits { CanGoInto slot (part_view outer.old) (part_view inner) }
+    ensures { OnOk result (part_view outer.new ≡ put_child pool.now slot (part_view outer.old) (part_view inner)) }
 {
-    put_entry(alloc, slot, outer, entry)?;
-    count_one(scope, number)?;
-    Ok(())
+    match inner {
+        Part::Message(_, message) => put_message(alloc, pool, slot, outer, message),
+        Part::Entry(entry) => put_entry(alloc, slot, outer, entry),
+        Part::Group(records) => put_group(slot, outer, records),
+    }
 }
 
-/// A group whose end tag is there goes among the unknown records of its parent, and its record is counted: the reader is in
-/// that.
-pub fn close_group(
+/// A part whose known end is reached, or whose end tag is there, goes into its slot, and its record is counted: the reader is in
+/// its parent.
+pub fn close_part(
+    alloc: Global,
+    pool: &Pool,
     outer: &mut Part,
     scope: &mut Scope,
     number: u32,
     slot: Slot,
-    records: Vec<(u32, Unknown)>,
+    inner: Part,
 ) -> Result<(), NoMemory>
+    requires can { CanHold pool.now (part_view outer.old) }
+    requires fits { CanGoInto slot (part_view outer.old) (part_view inner) }
     requires few { counts_view scope.old.occurrences number < 2 ^ 32 - 1 }
     ensures same_end { OnOk result (scope.new.end ≡ scope.old.end) }
-    ensures stands { (pool : Types) → ClosesAtTag pool number slot (group_part (records_of records.items)) outer.old scope.old outer.new scope.new result }
+    ensures closes { Closes pool.now number slot (part_view inner) outer.old scope.old outer.new scope.new result }
 {
-    put_group(slot, outer, records)?;
+    put_part(alloc, pool, slot, outer, inner)?;
     count_one(scope, number)?;
     Ok(())
 }

@@ -5,7 +5,6 @@ ghost use Rattle.pb_value.specs.View.{body_view};
 ghost use Rattle.pb_parts.specs.Open.Parents.{put_message as put_message_view, CanHold, message_part, one_more_in};
 ghost use Rattle.pb_parts.specs.Open.PartView.{part_view, scope_view};
 ghost use Rattle.pb_parts.specs.Open.Occurrences.{counts_view};
-ghost use Rattle.pb_parts.specs.Close.Closes.{ClosesMessageAtEnd, ClosesMessageAtTag};
 
 use crate::error::{NoMemory, memory_alone};
 use crate::open::part::{Part, Scope, Slot};
@@ -76,27 +75,5 @@ pub fn count_one(scope: &mut Scope, number: u32) -> Result<(), NoMemory>
     ensures same_end { OnOk result (scope.new.end ≡ scope.old.end) }
 {
     scope.occurrences.add(number)?;
-    Ok(())
-}
-
-/// A message whose known end is reached, or whose end tag is there, goes into its slot, and its record is counted: the reader is
-/// in its parent.
-pub fn close_message(
-    alloc: Global,
-    pool: &Pool,
-    outer: &mut Part,
-    scope: &mut Scope,
-    number: u32,
-    slot: Slot,
-    message: Body,
-) -> Result<(), NoMemory>
-    requires can { CanHold pool.now (part_view outer.old) }
-    requires few { counts_view scope.old.occurrences number < 2 ^ 32 - 1 }
-    ensures same_end { OnOk result (scope.new.end ≡ scope.old.end) }
-    ensures stands { ClosesMessageAtEnd pool.now number slot (body_view message) outer.old scope.old outer.new scope.new result }
-    ensures after { ClosesMessageAtTag pool.now number slot (body_view message) outer.old scope.old outer.new scope.new result }
-{
-    put_message(alloc, pool, slot, outer, message)?;
-    count_one(scope, number)?;
     Ok(())
 }
