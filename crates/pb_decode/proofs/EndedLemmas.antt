@@ -27,7 +27,7 @@ use Rattle.pb_decode.proofs.FewRecords.{counts_fit}
 use Rattle.pb_parts.proofs.ListSteps.{at_list, list_over}
 use Rattle.pb_whole.proofs.ListHolds.{list_can_hold}
 
--- frames are kept outermost first, so the last is the innermost
+-- parents are kept outermost first, so the last is the innermost
 pub parents_split : (fs gs : List ParentKept) (f : ParentKept) → fs ≡ gs ++ f ∷ [] → parents_view fs ≡ parent_view f ∷ parents_view gs
 parents_split fs gs f is = ap parents_view is ∙ ap reverse (map-append parent_view gs (f ∷ [])) ∙ reverse-append (map parent_view gs) (parent_view f ∷ [])
 
@@ -57,7 +57,7 @@ closed_reads {pool} {m} {depth} {levels} {base} {p0} s t end rest at tag is h =
     subst (λ (z : Step). After pool m depth levels base p0 t.parents z t.now t.scope (here t rest)) (sym tag)
     (after_record (subst (StandsAt pool m depth levels base p0 t) (closed_here s t end rest at is) h))
 
--- THE FRAME THAT IS TAKEN OUT, where no end tag ends what was open in it, and where one does
+-- THE PARENT THAT IS TAKEN OUT, where no end tag ends what was open in it, and where one does
 
 in_group_of : (parent : Parent) (parents : List Parent) (k : ℕ) → innermost_group (parent ∷ parents) ≡ Some k → parent.group ≡ true
 in_group_of parent parents k some = by_flag parent.group some

@@ -17,7 +17,7 @@ use Rattle.pb_decode.specs.Reader.{State, state_view, parents_view, left_of, her
 use Rattle.pb_parts.proofs.ParentLemmas.{place_up_to}
 use Rattle.pb_parts.proofs.AfterLemmas.{after_record}
 
--- a frame more is the innermost
+-- one more parent is the innermost
 pub parents_pushed : (fs : List ParentKept) (f : ParentKept) → parents_view (fs ++ f ∷ []) ≡ parent_view f ∷ parents_view fs
 parents_pushed fs f = ap reverse (map-append parent_view fs (f ∷ [])) ∙ reverse-append (map parent_view fs) (parent_view f ∷ [])
 

@@ -8,7 +8,7 @@ pub mod FewRecords
 pub mod ReaderLemmas
 -- for what a reader may do wherever it has some input read
 pub mod ReaderSafe
--- for the path of a fault: the steps of the frames, outermost first
+-- for the path of a fault: the steps of the parents, outermost first
 pub mod PathLemmas
 -- for an element of a packed list, where the reader is
 pub mod ElementLemmas

@@ -1,4 +1,4 @@
--- The path of the frames, outermost first.
+-- The path of the parents, outermost first.
 use Rattle.std.proofs.Common.{◌≡◌, List, [], ◌∷◌, ◌++◌, map, refl, sym, ap, ◌∙◌, append-nil, append_assoc}
 use Rattle.std.proofs.lemmas.List.{reverse-append}
 use Rattle.pb_wire.specs.declared.fault.PathStep.{PathStep}

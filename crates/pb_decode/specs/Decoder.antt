@@ -27,7 +27,7 @@ pub record OpenParent : Type 0 where
   pub group : Bool
   pub scope : OpenScope
 
--- how far an input is read: the innermost part and what comes next in it at a position, the frames around it, outermost first, and the bytes that are
+-- how far an input is read: the innermost part and what comes next in it at a position, its parents, outermost first, and the bytes that are
 -- held of the open token or payload
 pub record Reading : Type 0 where
   pub at : ℕ

@@ -26,7 +26,7 @@ use Rattle.pb_parts.specs.Open.Parents.{Part, Scope, Parent, path_of, path_to, n
 use Rattle.pb_parts.specs.Open.PartView.{part_view, scope_view, parent_view}
 use Rattle.pb_parts.specs.Tokens.After.{After}
 
--- where a reader is: the innermost part with its scope, the frames around it, innermost first, and what comes next at a position
+-- where a reader is: the innermost part with its scope, its parents, innermost first, and what comes next at a position
 pub record State : Type 0 where
   pub at : ℕ
   pub now : Part
@@ -34,7 +34,7 @@ pub record State : Type 0 where
   pub parents : List Parent
   pub next : Step
 
--- frames are kept outermost first
+-- parents are kept outermost first
 abbrev pub parents_view : List ParentKept → List Parent
 parents_view fs = reverse (map parent_view fs)
 

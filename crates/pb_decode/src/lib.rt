@@ -31,7 +31,7 @@ mod validating;
 
 pub use decoder_parts::DecoderParts;
 pub use error::DecodeError;
-pub use parent::decode_frame;
+pub use frame::decode_frame;
 pub use from_device::decode_from;
 pub use onto::decode_onto;
 pub use push::decode;

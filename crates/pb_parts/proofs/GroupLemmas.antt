@@ -4,7 +4,7 @@ use Rattle.std.specs.Prelude.{Bool, true, false}
 use Rattle.pb_wire.specs.Record.{Record}
 use Rattle.pb_wire.specs.declared.fault.PathStep.{PathStep}
 use Rattle.pb_wire.specs.declared.fault.Cause.TheVariants.{PastEnd}
-use Rattle.pb_wire.specs.Fault.{fault, Place, HasTag}
+use Rattle.pb_wire.specs.Fault.{fault, Place}
 use Rattle.pb_wire.specs.Schema.{Reading, message as message_reading, same_level, Open, records, in_group, context_of}
 use Rattle.pb_wire.specs.Grammar.{Bad}
 use Rattle.std.proofs.lemmas.List.{append-nil}
@@ -14,10 +14,9 @@ use Rattle.pb_schema.specs.declared.types.Shape.{Shape}
 use Rattle.pb_schema.specs.declared.types.Shape.TheVariants as shape
 use Rattle.pb_schema.specs.Types.{FieldView, Types, field_numbered}
 use Rattle.pb_schema.specs.Context.{Context, a_message as in_message, an_entry, unknown_group, message_in, read_singular, read_listed, read_shaped, read_field, fields_in, schema_of}
-use Rattle.pb_value.specs.Data.{Message}
 use Rattle.pb_parts.specs.Open.Opened.{Begun}
 use Rattle.pb_parts.specs.Open.Opened as opened
-use Rattle.pb_parts.specs.Open.Parents.{Part, message_part, group_part, put_child, open_type, one_more_in, Scope, Parent, path_of, Held, inside, Stands}
+use Rattle.pb_parts.specs.Open.Parents.{Part, group_part, put_child, open_type, one_more_in, Scope, Parent, path_of, Held, inside, Stands}
 use Rattle.pb_parts.specs.Close.Closes.{ClosesAt}
 use Rattle.pb_parts.proofs.OpenedLemmas.{lift}
 use Rattle.pb_parts.proofs.ParentLemmas.{held_opened, is_payload, is_group, ends_at_known_end}

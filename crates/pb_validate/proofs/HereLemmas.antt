@@ -1,7 +1,7 @@
 -- Places at an index of the bytes, and the tokens that are read there.
 use Rattle.std.proofs.Common.{◌≡◌, ℕ, ◌+◌, ◌-◌, ◌<◌, ◌≤◌, ◌^◌, List, [], length, take, drop, refl, sym, ap, subst, ◌∙◌, arith, length-drop, drop-drop, Option, Some, None, ◌++◌, append_assoc}
 use Rattle.std.specs.Prelude.{option_map}
-use Rattle.std.proofs.lemmas.List.{take_all, length-take-le, append-nil, take_at}
+use Rattle.std.proofs.lemmas.List.{take_all, length-take-le, append-nil}
 use Rattle.pb_wire.specs.Record.{len}
 use Rattle.pb_wire.specs.Spell.{Body}
 use Rattle.pb_wire.specs.Fault.{fault, Place, input_end, Leads, Reads, Moves, VarintFault, FixedFault, HasLength}

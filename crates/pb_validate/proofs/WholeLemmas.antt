@@ -1,15 +1,11 @@
 -- Bytes that are whole records: lists of fixed width, and records up to the end.
-use Rattle.std.proofs.Common.{◌≡◌, ℕ, ◌-◌, ◌<◌, ◌≤◌, ◌%◌, List, [], ◌∷◌, length, refl, subst, arith, None, Some}
-use Rattle.std.proofs.lemmas.List.{take_all}
+use Rattle.std.proofs.Common.{◌≡◌, ℕ, ◌-◌, ◌<◌, ◌%◌, List, [], ◌∷◌, length, refl, arith, Some}
 use Rattle.pb_wire.specs.Record.{Record, Payload}
 use Rattle.pb_wire.specs.Schema.{Schema, four_bytes, eight_bytes}
 use Rattle.pb_wire.specs.Sound.{IsElement, AreElements, no_elements, element}
-use Rattle.pb_wire.specs.Spell.{AreRecords}
 use Rattle.pb_wire.specs.Fault.{Place, HasTag}
-use Rattle.pb_validate.specs.Here.{here}
 use Rattle.pb_validate.specs.Judging.{Front, ReadsValue}
-use Rattle.pb_validate.specs.Whole.{AreWhole}
-use Rattle.pb_validate.proofs.JudgeLemmas.{records_between, group_value}
+use Rattle.pb_validate.proofs.JudgeLemmas.{group_value}
 
 pub fours : (s : List ℕ) → length s % 4 ≡ 0 → AreElements four_bytes s
 fours [] e = no_elements

@@ -14,7 +14,7 @@ use Rattle.pb_schema.specs.Types.{Types}
 use Rattle.pb_schema.specs.Context.{Context, schema_of}
 use Rattle.pb_validate.specs.declared.refusal.Refusal.{Refusal}
 use Rattle.pb_validate.specs.declared.refusal.Refusal.TheVariants as refusal
-use Rattle.pb_validate.specs.declared.judging.Parent.{Parent}
+use Rattle.pb_validate.specs.declared.judging.Scope.{Scope}
 use Rattle.pb_validate.specs.Contexts.{context_view}
 
 -- ---- records
@@ -40,7 +40,7 @@ abbrev pub opened : Option ℕ → Context → Open Context
 opened None c = records c
 opened (Some k) c = in_group k c
 
-abbrev pub open_view : Parent → Open Context
+abbrev pub open_view : Scope → Open Context
 open_view f = opened f.group (context_view f.context)
 
 -- ---- refusals

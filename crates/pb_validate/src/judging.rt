@@ -27,7 +27,7 @@ use std::alloc::Global;
 
 /// What is open innermost.
 #[derive(Clone, Copy)]
-pub(crate) struct Parent {
+pub(crate) struct Scope {
     pub context: Context,
     /// The number of the group, if it is one.
     pub group: Option<u32>,
@@ -39,15 +39,15 @@ pub(crate) struct Parent {
 
 /// Says that the records of what is open end at an index. Those of a group end at its end tag alone.
 #[inline(always)]
-fn is_at_end(bytes: &[u8], at: usize, parent: Parent) -> bool
+fn is_at_end(bytes: &[u8], at: usize, scope: Scope) -> bool
     requires { at ≤ length bytes.now }
-    ensures ends { result ≡ true → (parent.group ≡ None) × IsOver (here bytes.now at parent.to) }
-    ensures goes_on { result ≡ false → parent.group ≡ None → Begins (open_view parent) (here bytes.now at parent.to) }
+    ensures ends { result ≡ true → (scope.group ≡ None) × IsOver (here bytes.now at scope.to) }
+    ensures goes_on { result ≡ false → scope.group ≡ None → Begins (open_view scope) (here bytes.now at scope.to) }
 {
-    if parent.group.is_some() {
+    if scope.group.is_some() {
         return false;
     }
-    match parent.to {
+    match scope.to {
         None => at == bytes.len(),
         Some(end) => at >= end as usize,
     }
@@ -60,28 +60,28 @@ fn records_end(
     pool: &Pool,
     bytes: &[u8],
     at: usize,
-    parent: Parent,
+    scope: Scope,
     steps: &mut Vec<PathStep>,
 ) -> Result<usize, Refusal>
     requires at_in_bounds { at ≤ length bytes.now }
     requires small { length bytes.now < 2 ^ 31 }
-    requires levels { parent.levels ≤ 100 }
+    requires levels { scope.levels ≤ 100 }
     requires rules { IsPool pool.now }
-    requires of_pool { IsIn pool.now (context_view parent.context) }
+    requires of_pool { IsIn pool.now (context_view scope.context) }
     requires no_steps { steps.old.items ≡ [] }
     ensures within { IfOk result (λ end. (at ≤ end) × (end ≤ length bytes.now)) }
     ensures ok { IfOk result (λ end. (rs : List Record)
-        × ReadsAll (schema_of pool.now) (open_view parent) parent.levels (here bytes.now at parent.to) rs (here bytes.now end parent.to)) }
+        × ReadsAll (schema_of pool.now) (open_view scope) scope.levels (here bytes.now at scope.to) rs (here bytes.now end scope.to)) }
     ensures steps { OnOk result (steps.new.items ≡ []) }
-    ensures fault { IfErr result (λ e. RefusesFrom pool.now (open_view parent) parent.levels (here bytes.now at parent.to) e steps.new.items) }
+    ensures fault { IfErr result (λ e. RefusesFrom pool.now (open_view scope) scope.levels (here bytes.now at scope.to) e steps.new.items) }
 {
     let mut here = at;
-    'records: while !is_at_end(bytes, here, parent) {
-        let tag = tag_at(bytes, here, parent.group, parent.to)?;
+    'records: while !is_at_end(bytes, here, scope) {
+        let tag = tag_at(bytes, here, scope.group, scope.to)?;
         if tag.wire_type == 4 {
             return Ok(tag.end);
         }
-        match record_end(pool, bytes, tag, parent, steps) {
+        match record_end(pool, bytes, tag, scope, steps) {
             Ok(end) => here = end,
             Err(error) => {
                 steps.push(step_after(&bytes[at..here], tag.number))?;
@@ -99,30 +99,30 @@ pub(crate) fn record_end(
     pool: &Pool,
     bytes: &[u8],
     tag: RecordTag,
-    parent: Parent,
+    scope: Scope,
     steps: &mut Vec<PathStep>,
 ) -> Result<usize, Refusal>
     requires end_in_bounds { tag.end ≤ length bytes.now }
     requires small { length bytes.now < 2 ^ 31 }
-    requires levels { parent.levels ≤ 100 }
+    requires levels { scope.levels ≤ 100 }
     requires rules { IsPool pool.now }
-    requires of_pool { IsIn pool.now (context_view parent.context) }
-    requires is_tag { HasTag (here bytes.now tag.at parent.to) tag.number tag.wire_type (here bytes.now tag.end parent.to) }
+    requires of_pool { IsIn pool.now (context_view scope.context) }
+    requires is_tag { HasTag (here bytes.now tag.at scope.to) tag.number tag.wire_type (here bytes.now tag.end scope.to) }
     requires no_end { tag.wire_type ≢ 4 }
     requires no_steps { steps.old.items ≡ [] }
     ensures within { IfOk result (λ end. (tag.end ≤ end) × (end ≤ length bytes.now)) }
-    ensures ok { IfOk result (λ end. (payload : Payload) × ReadsValue (schema_of pool.now) (context_view parent.context) parent.levels
-        tag.number tag.wire_type (here bytes.now tag.end parent.to) payload (here bytes.now end parent.to)) }
+    ensures ok { IfOk result (λ end. (payload : Payload) × ReadsValue (schema_of pool.now) (context_view scope.context) scope.levels
+        tag.number tag.wire_type (here bytes.now tag.end scope.to) payload (here bytes.now end scope.to)) }
     ensures steps { OnOk result (steps.new.items ≡ []) }
     ensures fault { IfErr result (λ e.
-        RefusesRecord pool.now (open_view parent) parent.levels tag.number (here bytes.now tag.at parent.to) e steps.new.items) }
+        RefusesRecord pool.now (open_view scope) scope.levels tag.number (here bytes.now tag.at scope.to) e steps.new.items) }
 {
     if tag.wire_type == 2 {
-        length_record_end(pool, bytes, tag, parent, steps)
+        length_record_end(pool, bytes, tag, scope, steps)
     } else if tag.wire_type == 3 {
-        group_record_end(pool, bytes, tag, parent, steps)
+        group_record_end(pool, bytes, tag, scope, steps)
     } else {
-        Ok(number_end(bytes, tag.end, tag.wire_type, parent.to)?)
+        Ok(number_end(bytes, tag.end, tag.wire_type, scope.to)?)
     }
 }
 
@@ -132,31 +132,31 @@ fn group_record_end(
     pool: &Pool,
     bytes: &[u8],
     tag: RecordTag,
-    parent: Parent,
+    scope: Scope,
     steps: &mut Vec<PathStep>,
 ) -> Result<usize, Refusal>
     requires end_in_bounds { tag.end ≤ length bytes.now }
     requires small { length bytes.now < 2 ^ 31 }
-    requires levels { parent.levels ≤ 100 }
+    requires levels { scope.levels ≤ 100 }
     requires rules { IsPool pool.now }
-    requires of_pool { IsIn pool.now (context_view parent.context) }
-    requires is_tag { HasTag (here bytes.now tag.at parent.to) tag.number 3 (here bytes.now tag.end parent.to) }
+    requires of_pool { IsIn pool.now (context_view scope.context) }
+    requires is_tag { HasTag (here bytes.now tag.at scope.to) tag.number 3 (here bytes.now tag.end scope.to) }
     requires no_steps { steps.old.items ≡ [] }
     ensures within { IfOk result (λ end. (tag.end ≤ end) × (end ≤ length bytes.now)) }
-    ensures ok { IfOk result (λ end. (payload : Payload) × ReadsValue (schema_of pool.now) (context_view parent.context) parent.levels
-        tag.number 3 (here bytes.now tag.end parent.to) payload (here bytes.now end parent.to)) }
+    ensures ok { IfOk result (λ end. (payload : Payload) × ReadsValue (schema_of pool.now) (context_view scope.context) scope.levels
+        tag.number 3 (here bytes.now tag.end scope.to) payload (here bytes.now end scope.to)) }
     ensures steps { OnOk result (steps.new.items ≡ []) }
     ensures fault { IfErr result (λ e.
-        RefusesRecord pool.now (open_view parent) parent.levels tag.number (here bytes.now tag.at parent.to) e steps.new.items) }
+        RefusesRecord pool.now (open_view scope) scope.levels tag.number (here bytes.now tag.at scope.to) e steps.new.items) }
 {
-    if parent.levels == 0 {
+    if scope.levels == 0 {
         return Err(Refusal::Fault(refused(tag.at, Cause::TooDeep)));
     }
-    let inner = Parent {
-        context: group_context(pool, parent.context, tag.number),
+    let inner = Scope {
+        context: group_context(pool, scope.context, tag.number),
         group: Some(tag.number),
-        levels: parent.levels - 1,
-        to: parent.to,
+        levels: scope.levels - 1,
+        to: scope.to,
     };
     let end = records_end(pool, bytes, tag.end, inner, steps)?;
     Ok(end)
@@ -168,43 +168,43 @@ fn length_record_end(
     pool: &Pool,
     bytes: &[u8],
     tag: RecordTag,
-    parent: Parent,
+    scope: Scope,
     steps: &mut Vec<PathStep>,
 ) -> Result<usize, Refusal>
     requires end_in_bounds { tag.end ≤ length bytes.now }
     requires small { length bytes.now < 2 ^ 31 }
-    requires levels { parent.levels ≤ 100 }
+    requires levels { scope.levels ≤ 100 }
     requires rules { IsPool pool.now }
-    requires of_pool { IsIn pool.now (context_view parent.context) }
-    requires is_tag { HasTag (here bytes.now tag.at parent.to) tag.number 2 (here bytes.now tag.end parent.to) }
+    requires of_pool { IsIn pool.now (context_view scope.context) }
+    requires is_tag { HasTag (here bytes.now tag.at scope.to) tag.number 2 (here bytes.now tag.end scope.to) }
     requires no_steps { steps.old.items ≡ [] }
     ensures within { IfOk result (λ end. (tag.end ≤ end) × (end ≤ length bytes.now)) }
-    ensures ok { IfOk result (λ end. (payload : Payload) × ReadsValue (schema_of pool.now) (context_view parent.context) parent.levels
-        tag.number 2 (here bytes.now tag.end parent.to) payload (here bytes.now end parent.to)) }
+    ensures ok { IfOk result (λ end. (payload : Payload) × ReadsValue (schema_of pool.now) (context_view scope.context) scope.levels
+        tag.number 2 (here bytes.now tag.end scope.to) payload (here bytes.now end scope.to)) }
     ensures steps { OnOk result (steps.new.items ≡ []) }
     ensures fault { IfErr result (λ e.
-        RefusesRecord pool.now (open_view parent) parent.levels tag.number (here bytes.now tag.at parent.to) e steps.new.items) }
+        RefusesRecord pool.now (open_view scope) scope.levels tag.number (here bytes.now tag.at scope.to) e steps.new.items) }
 {
-    match reading_of(pool, parent.context, tag.number) {
-        Reading::Unread => Ok(unread_end(bytes, tag.end, parent.to)?),
-        Reading::Text => Ok(text_end(bytes, tag.end, parent.to)?),
-        Reading::Packed(element) => Ok(list_end(bytes, tag.end, element, parent.to)?),
+    match reading_of(pool, scope.context, tag.number) {
+        Reading::Unread => Ok(unread_end(bytes, tag.end, scope.to)?),
+        Reading::Text => Ok(text_end(bytes, tag.end, scope.to)?),
+        Reading::Packed(element) => Ok(list_end(bytes, tag.end, element, scope.to)?),
         Reading::Message(context) => {
-            if parent.levels == 0 {
+            if scope.levels == 0 {
                 return Err(Refusal::Fault(refused(tag.at, Cause::TooDeep)));
             }
             message_end(
                 pool,
                 bytes,
                 tag.end,
-                parent.to,
+                scope.to,
                 context,
-                parent.levels - 1,
+                scope.levels - 1,
                 steps,
             )
         }
         Reading::SameLevel(context) => {
-            message_end(pool, bytes, tag.end, parent.to, context, parent.levels, steps)
+            message_end(pool, bytes, tag.end, scope.to, context, scope.levels, steps)
         }
     }
 }
@@ -235,7 +235,7 @@ fn message_end(
         Refuses e steps.new.items (MessageFault (schema_of pool.now) (context_view context) levels (here bytes.now at to))) }
 {
     let (size, start) = length_at(bytes, at, to)?;
-    let inner = Parent {
+    let inner = Scope {
         context,
         group: None,
         levels,
@@ -319,7 +319,7 @@ fn fault_within(
     ensures fault { IfErr result (λ e. IsRefusal e (HasFault (schema_of pool.now) (a_message message_type.0) limits bytes.now)) }
 {
     let max_bytes = limits.max_bytes() as usize;
-    let top = Parent {
+    let top = Scope {
         context: Context::Message(message_type),
         group: None,
         levels: limits.max_depth(),

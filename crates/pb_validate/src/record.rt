@@ -9,7 +9,7 @@ ghost use Rattle.pb_validate.specs.Here.{here};
 ghost use Rattle.pb_validate.specs.Judging.{ReadsValue};
 
 use crate::context::Context;
-use crate::judging::{Parent, record_end as exact_record_end};
+use crate::judging::{Scope, record_end as exact_record_end};
 use crate::tokens::RecordTag;
 use crate::whole::record_end as whole_record_end;
 use pb_schema::{MessageId, Pool};
@@ -68,14 +68,14 @@ fn exact_end(
     ensures none { result ≡ None → (payload : Payload) → (q : Place) → ReadsValue (schema_of pool.now) (a_message message_type.0) levels
         tag.number tag.wire_type (here bytes.now tag.end None) payload q → ⊥ }
 {
-    let parent = Parent {
+    let scope = Scope {
         context: Context::Message(message_type),
         group: None,
         levels,
         to: None,
     };
     let mut steps = Vec::new(alloc);
-    let Ok(end) = exact_record_end(pool, bytes, tag, parent, &mut steps) else {
+    let Ok(end) = exact_record_end(pool, bytes, tag, scope, &mut steps) else {
         return None;
     };
     Some(end)

@@ -26,7 +26,7 @@ use Rattle.pb_parts.proofs.PlaceLemmas.{passed_twice, place_after, slice_from}
 use Rattle.pb_parts.proofs.WellLemmas.{message_good}
 use Rattle.pb_whole.proofs.Held.{entry_fits}
 use Rattle.pb_parts.proofs.GroupLemmas.{part_closes}
-use Rattle.pb_whole.proofs.Payloads.{payload_place, place_before, after_inner, entry_begun, none_left, typed_tag}
+use Rattle.pb_whole.proofs.Payloads.{payload_place, place_before, after_inner, entry_begun, none_left}
 use Rattle.pb_parts.proofs.MapPuts.{mapped_next, pairs_next, fit_next, size_next, all_context}
 use Rattle.pb_parts.specs.declared.open.part.Slot.TheVariants as slot
 use Rattle.pb_parts.specs.declared.open.target.Target.TheVariants as target

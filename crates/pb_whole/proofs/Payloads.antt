@@ -8,10 +8,9 @@ use Rattle.pb_schema.specs.declared.types.Kind.{Kind}
 use Rattle.pb_schema.specs.declared.types.MessageId.{MessageId}
 use Rattle.pb_schema.specs.Types.{Types}
 use Rattle.pb_schema.specs.Rules.{IsPool}
-use Rattle.pb_schema.specs.Scalar.{Scalar}
-use Rattle.pb_value.specs.Data.{Datum, Message}
+use Rattle.pb_value.specs.Data.{Message}
 use Rattle.pb_parts.specs.declared.open.part.Slot.{Slot}
-use Rattle.pb_parts.specs.Open.Parents.{Part, message_part, entry_part, put_entry, put_message, Scope, Parent, parent_of, CanHold, up_to, one_more_in, EndsAt, Stands}
+use Rattle.pb_parts.specs.Open.Parents.{Part, message_part, entry_part, put_message, Scope, Parent, parent_of, CanHold, up_to, one_more_in, EndsAt, Stands}
 use Rattle.pb_parts.specs.Open.Openings.{taken_message, without_message, depth_left_in}
 use Rattle.pb_parts.specs.Open.Targets.{Means, part_context}
 use Rattle.pb_parts.specs.Tokens.After.{HasLevelFor, After}

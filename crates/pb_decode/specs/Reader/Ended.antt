@@ -12,7 +12,7 @@ use Rattle.pb_schema.specs.Rules.{IsPool}
 use Rattle.pb_decode.specs.declared.reader.state.Reader.{Reader}
 use Rattle.pb_parts.specs.declared.tokens.step.Step.TheVariants.{Elements}
 
--- with these frames around the part, and this many bytes before the known end, nothing ends before what comes next: at a tag no part below the top, and
+-- with these parents of the part, and this many bytes before the known end, nothing ends before what comes next: at a tag no part below the top, and
 -- inside a packed list not the list
 abbrev pub StepGoesOn : Step → List Parent → Option ℕ → Type 0
 StepGoesOn step.Tag parents left = (parents ≡ []) ⊎ (left ≢ Some 0)

@@ -9,7 +9,7 @@ use Rattle.pb_parts.specs.Open.Parents.{Parent}
 use Rattle.pb_parts.specs.Tokens.Numbers.{IsCutVarint, IsCutNumber}
 use Rattle.pb_decode.specs.Reader.{State, here}
 
--- With these frames around the part, what comes next at this place is not whole in the bytes that are given. Where a tag may come, the message may
+-- With these parents of the part, what comes next at this place is not whole in the bytes that are given. Where a tag may come, the message may
 -- also be over.
 abbrev pub WaitsAt : Step → List Parent → Place → Type 0
 WaitsAt step.Tag parents p = IsCutVarint p ⊎ ((parents ≡ []) × IsOver p)

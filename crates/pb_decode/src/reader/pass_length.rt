@@ -18,7 +18,7 @@ use pb_parts::tokens::step::Step;
 use pb_schema::{Kind, MessageId};
 use std::alloc::Global;
 
-/// What is opened is the innermost part, which begins here; this is the frame of its parent.
+/// What is opened is the innermost part, which begins here; this is its parent.
 #[inline(always)]
 pub(crate) fn enter(reader: &mut Reader, parent: Parent, at: u32) -> Result<(), NoMemory>
     ensures at { OnOk result (reader.new.at ≡ at) }

@@ -113,7 +113,10 @@ pub fn read_run(
     ensures put { TellsRun pool.now number kind bytes.now left result }
 {
     let mut run = Run {
-        values: Vec::with_capacity(alloc, most_elements(kind, &bytes[..before_end(bytes, left)]))?,
+        values: Vec::with_capacity(
+            alloc,
+            most_elements(kind, &bytes[..before_end(bytes, left)]),
+        )?,
         undeclared: Vec::new(alloc),
     };
     let used = add_elements(pool, kind, number, bytes, left, &mut run)?;

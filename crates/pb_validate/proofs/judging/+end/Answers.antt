@@ -18,47 +18,47 @@ use Rattle.pb_validate.proofs.JudgeLemmas.{message_sound, message_whole, tag_ref
 use Rattle.pb_validate.proofs.JudgeLemmas.{number_bad, group_bad, unread_bad, text_bad, list_bad, message_bad, value_bad}
 use Rattle.pb_validate.proofs.judging.+end.Goals as goal
 
-pub group_record_end-returns-then-parent-eq0-clause-fault : goal.group_record_end-returns-then-parent-eq0-clause-fault
-group_record_end-returns-then-parent-eq0-clause-fault t c =
-    group_too_deep c.args.pool.now (open_view c.args.parent) c.args.parent.levels c.args.tag.number (here c.args.bytes.now c.args.tag.at c.args.parent.to) (here c.args.bytes.now c.args.tag.end c.args.parent.to) c.refused.result c.args.steps.now.items
-    c.requires.is_tag c.if-parent-eq0.true c.requires.no_steps c.refused.ensures
+pub group_record_end-returns-then-scope-eq0-clause-fault : goal.group_record_end-returns-then-scope-eq0-clause-fault
+group_record_end-returns-then-scope-eq0-clause-fault t c =
+    group_too_deep c.args.pool.now (open_view c.args.scope) c.args.scope.levels c.args.tag.number (here c.args.bytes.now c.args.tag.at c.args.scope.to) (here c.args.bytes.now c.args.tag.end c.args.scope.to) c.refused.result c.args.steps.now.items
+    c.requires.is_tag c.if-scope-eq0.true c.requires.no_steps c.refused.ensures
 
 pub group_record_end-returns-in_err-end-clause-fault : goal.group_record_end-returns-in_err-end-clause-fault
 group_record_end-returns-in_err-end-clause-fault t c =
     let p = err_from_is_err_and c.from_residual.result c.from_residual.ensures.1 in
     rw (p.1, p.2)
-    (below_tag c.args.pool.now (open_view c.args.parent) c.args.parent.levels c.args.tag.number (here c.args.bytes.now c.args.tag.at c.args.parent.to) _ c.records_end.new.steps.items _
-    (group_bad c.args.pool.now c.args.parent.group (context_view c.args.parent.context) c.args.parent.levels c.args.tag.number (here c.args.bytes.now c.args.tag.at c.args.parent.to) (here c.args.bytes.now c.args.tag.end c.args.parent.to) (omega (arith, c.if-parent-eq0.false)) c.requires.is_tag)
+    (below_tag c.args.pool.now (open_view c.args.scope) c.args.scope.levels c.args.tag.number (here c.args.bytes.now c.args.tag.at c.args.scope.to) _ c.records_end.new.steps.items _
+    (group_bad c.args.pool.now c.args.scope.group (context_view c.args.scope.context) c.args.scope.levels c.args.tag.number (here c.args.bytes.now c.args.tag.at c.args.scope.to) (here c.args.bytes.now c.args.tag.end c.args.scope.to) (omega (arith, c.if-scope-eq0.false)) c.requires.is_tag)
     (rw c.group_context.ensures.read at c.in_err-end.ensures.fault))
 
 pub group_record_end-returns-clause-ok : goal.group_record_end-returns-clause-ok
 group_record_end-returns-clause-ok t c =
-    group_value (schema_of c.args.pool.now) (context_view c.args.parent.context) c.args.parent.levels c.args.tag.number (here c.args.bytes.now c.args.tag.end c.args.parent.to) (here c.args.bytes.now c.in_ok-end.end c.args.parent.to) (omega (arith, c.if-parent-eq0.false))
+    group_value (schema_of c.args.pool.now) (context_view c.args.scope.context) c.args.scope.levels c.args.tag.number (here c.args.bytes.now c.args.tag.end c.args.scope.to) (here c.args.bytes.now c.in_ok-end.end c.args.scope.to) (omega (arith, c.if-scope-eq0.false))
     (rw c.group_context.ensures.read at c.in_ok-end.ensures.ok)
 
 pub length_record_end-returns-in_err-unread_end-in-Unread-clause-fault : goal.length_record_end-returns-in_err-unread_end-in-Unread-clause-fault
 length_record_end-returns-in_err-unread_end-in-Unread-clause-fault t c =
     let p = err_from_is_err_and c.from_residual.result c.from_residual.ensures.1 in
     rw (p.1, p.2, c.requires.no_steps)
-    (λ before. unread_bad c.args.pool.now c.args.parent.group (context_view c.args.parent.context) c.args.parent.levels c.args.tag.number (here c.args.bytes.now c.args.tag.at c.args.parent.to) (here c.args.bytes.now c.args.tag.end c.args.parent.to) c.requires.is_tag (sym c.reading_of.ensures.read ∙ ap reading_view c.in-Unread.is) before _ c.in_err-unread_end-in-Unread.ensures.fault)
+    (λ before. unread_bad c.args.pool.now c.args.scope.group (context_view c.args.scope.context) c.args.scope.levels c.args.tag.number (here c.args.bytes.now c.args.tag.at c.args.scope.to) (here c.args.bytes.now c.args.tag.end c.args.scope.to) c.requires.is_tag (sym c.reading_of.ensures.read ∙ ap reading_view c.in-Unread.is) before _ c.in_err-unread_end-in-Unread.ensures.fault)
 
 pub length_record_end-returns-in_err-text_end-in-Text-clause-fault : goal.length_record_end-returns-in_err-text_end-in-Text-clause-fault
 length_record_end-returns-in_err-text_end-in-Text-clause-fault t c =
     let p = err_from_is_err_and c.from_residual-in_err-text_end-in-Text.result c.from_residual-in_err-text_end-in-Text.ensures.1 in
     rw (p.1, p.2, c.requires.no_steps)
-    (λ before. text_bad c.args.pool.now c.args.parent.group (context_view c.args.parent.context) c.args.parent.levels c.args.tag.number (here c.args.bytes.now c.args.tag.at c.args.parent.to) (here c.args.bytes.now c.args.tag.end c.args.parent.to) c.requires.is_tag (sym c.reading_of.ensures.read ∙ ap reading_view c.in-Text.is) before _ c.in_err-text_end-in-Text.ensures.fault)
+    (λ before. text_bad c.args.pool.now c.args.scope.group (context_view c.args.scope.context) c.args.scope.levels c.args.tag.number (here c.args.bytes.now c.args.tag.at c.args.scope.to) (here c.args.bytes.now c.args.tag.end c.args.scope.to) c.requires.is_tag (sym c.reading_of.ensures.read ∙ ap reading_view c.in-Text.is) before _ c.in_err-text_end-in-Text.ensures.fault)
 
 pub length_record_end-returns-in_err-list_end-in-Packed-clause-fault : goal.length_record_end-returns-in_err-list_end-in-Packed-clause-fault
 length_record_end-returns-in_err-list_end-in-Packed-clause-fault t c =
     let p = err_from_is_err_and c.from_residual-in_err-list_end-in-Packed.result c.from_residual-in_err-list_end-in-Packed.ensures.1 in
     rw (p.1, p.2, c.requires.no_steps)
-    (λ before. list_bad c.args.pool.now c.args.parent.group (context_view c.args.parent.context) (element_view c.in-Packed.element) c.args.parent.levels c.args.tag.number (here c.args.bytes.now c.args.tag.at c.args.parent.to) (here c.args.bytes.now c.args.tag.end c.args.parent.to) c.requires.is_tag (sym c.reading_of.ensures.read ∙ ap reading_view c.in-Packed.is) before _
+    (λ before. list_bad c.args.pool.now c.args.scope.group (context_view c.args.scope.context) (element_view c.in-Packed.element) c.args.scope.levels c.args.tag.number (here c.args.bytes.now c.args.tag.at c.args.scope.to) (here c.args.bytes.now c.args.tag.end c.args.scope.to) c.requires.is_tag (sym c.reading_of.ensures.read ∙ ap reading_view c.in-Packed.is) before _
     c.in_err-list_end-in-Packed.ensures.fault)
 
-pub length_record_end-returns-then-parent-eq0-clause-fault : goal.length_record_end-returns-then-parent-eq0-clause-fault
-length_record_end-returns-then-parent-eq0-clause-fault t c =
-    message_too_deep c.args.pool.now c.args.parent.group (context_view c.args.parent.context) (context_view c.in-Message.context) c.args.parent.levels c.args.tag.number (here c.args.bytes.now c.args.tag.at c.args.parent.to) (here c.args.bytes.now c.args.tag.end c.args.parent.to) c.refused.result c.args.steps.now.items
-    c.requires.is_tag (sym c.reading_of.ensures.read ∙ ap reading_view c.in-Message.is) c.if-parent-eq0.true c.requires.no_steps c.refused.ensures
+pub length_record_end-returns-then-scope-eq0-clause-fault : goal.length_record_end-returns-then-scope-eq0-clause-fault
+length_record_end-returns-then-scope-eq0-clause-fault t c =
+    message_too_deep c.args.pool.now c.args.scope.group (context_view c.args.scope.context) (context_view c.in-Message.context) c.args.scope.levels c.args.tag.number (here c.args.bytes.now c.args.tag.at c.args.scope.to) (here c.args.bytes.now c.args.tag.end c.args.scope.to) c.refused.result c.args.steps.now.items
+    c.requires.is_tag (sym c.reading_of.ensures.read ∙ ap reading_view c.in-Message.is) c.if-scope-eq0.true c.requires.no_steps c.refused.ensures
 
 pub length_record_end-returns-in_ok-unread_end-in-Unread-clause-ok : goal.length_record_end-returns-in_ok-unread_end-in-Unread-clause-ok
 length_record_end-returns-in_ok-unread_end-in-Unread-clause-ok t c =
@@ -75,25 +75,25 @@ length_record_end-returns-in_ok-list_end-in-Packed-clause-ok t c =
     let h = c.in_ok-list_end-in-Packed.ensures.ok in
     (len h.0, record { type = refl; spelled = h.2 c.args.tag.number; sound = Sound.a_list (sym c.reading_of.ensures.read ∙ ap reading_view c.in-Packed.is) h.1 })
 
-pub length_record_end-returns-else-parent-eq0-clause-ok : goal.length_record_end-returns-else-parent-eq0-clause-ok
-length_record_end-returns-else-parent-eq0-clause-ok t c =
+pub length_record_end-returns-else-scope-eq0-clause-ok : goal.length_record_end-returns-else-scope-eq0-clause-ok
+length_record_end-returns-else-scope-eq0-clause-ok t c =
     ok_map c.message_end.result _ _
     (λ end h. (
       len h.1,
       record {
         type = refl;
         spelled = h.4 c.args.tag.number;
-        sound = message_sound (schema_of c.args.pool.now) (context_view c.args.parent.context) (context_view c.in-Message.context) c.args.parent.levels c.args.tag.number h.1 h.0
-            (omega (arith, c.if-parent-eq0.false)) (sym c.reading_of.ensures.read ∙ ap reading_view c.in-Message.is) h.2 h.3;
+        sound = message_sound (schema_of c.args.pool.now) (context_view c.args.scope.context) (context_view c.in-Message.context) c.args.scope.levels c.args.tag.number h.1 h.0
+            (omega (arith, c.if-scope-eq0.false)) (sym c.reading_of.ensures.read ∙ ap reading_view c.in-Message.is) h.2 h.3;
       },
     ))
     c.message_end.ensures.ok
 
-pub length_record_end-returns-else-parent-eq0-clause-fault : goal.length_record_end-returns-else-parent-eq0-clause-fault
-length_record_end-returns-else-parent-eq0-clause-fault t c =
+pub length_record_end-returns-else-scope-eq0-clause-fault : goal.length_record_end-returns-else-scope-eq0-clause-fault
+length_record_end-returns-else-scope-eq0-clause-fault t c =
     err_map c.message_end.result _ _
-    (λ e. below_tag c.args.pool.now (open_view c.args.parent) c.args.parent.levels c.args.tag.number (here c.args.bytes.now c.args.tag.at c.args.parent.to) e c.message_end.new.steps.items _
-    (message_bad c.args.pool.now c.args.parent.group (context_view c.args.parent.context) (context_view c.in-Message.context) c.args.parent.levels c.args.tag.number (here c.args.bytes.now c.args.tag.at c.args.parent.to) (here c.args.bytes.now c.args.tag.end c.args.parent.to) (omega (arith, c.if-parent-eq0.false)) c.requires.is_tag (sym c.reading_of.ensures.read ∙ ap reading_view c.in-Message.is)))
+    (λ e. below_tag c.args.pool.now (open_view c.args.scope) c.args.scope.levels c.args.tag.number (here c.args.bytes.now c.args.tag.at c.args.scope.to) e c.message_end.new.steps.items _
+    (message_bad c.args.pool.now c.args.scope.group (context_view c.args.scope.context) (context_view c.in-Message.context) c.args.scope.levels c.args.tag.number (here c.args.bytes.now c.args.tag.at c.args.scope.to) (here c.args.bytes.now c.args.tag.end c.args.scope.to) (omega (arith, c.if-scope-eq0.false)) c.requires.is_tag (sym c.reading_of.ensures.read ∙ ap reading_view c.in-Message.is)))
     c.message_end.ensures.fault
 
 pub length_record_end-returns-in-SameLevel-clause-ok : goal.length_record_end-returns-in-SameLevel-clause-ok
@@ -105,8 +105,8 @@ length_record_end-returns-in-SameLevel-clause-ok t c =
 pub length_record_end-returns-in-SameLevel-clause-fault : goal.length_record_end-returns-in-SameLevel-clause-fault
 length_record_end-returns-in-SameLevel-clause-fault t c =
     err_map c.message_end-in-SameLevel.result _ _
-    (λ e. below_tag c.args.pool.now (open_view c.args.parent) c.args.parent.levels c.args.tag.number (here c.args.bytes.now c.args.tag.at c.args.parent.to) e c.message_end-in-SameLevel.new.steps.items _
-    (value_bad c.args.pool.now c.args.parent.group (context_view c.args.parent.context) (context_view c.in-SameLevel.context) c.args.parent.levels c.args.tag.number (here c.args.bytes.now c.args.tag.at c.args.parent.to) (here c.args.bytes.now c.args.tag.end c.args.parent.to) c.requires.is_tag (sym c.reading_of.ensures.read ∙ ap reading_view c.in-SameLevel.is)))
+    (λ e. below_tag c.args.pool.now (open_view c.args.scope) c.args.scope.levels c.args.tag.number (here c.args.bytes.now c.args.tag.at c.args.scope.to) e c.message_end-in-SameLevel.new.steps.items _
+    (value_bad c.args.pool.now c.args.scope.group (context_view c.args.scope.context) (context_view c.in-SameLevel.context) c.args.scope.levels c.args.tag.number (here c.args.bytes.now c.args.tag.at c.args.scope.to) (here c.args.bytes.now c.args.tag.end c.args.scope.to) c.requires.is_tag (sym c.reading_of.ensures.read ∙ ap reading_view c.in-SameLevel.is)))
     c.message_end-in-SameLevel.ensures.fault
 
 pub message_end-returns-in_err-size-clause-fault : goal.message_end-returns-in_err-size-clause-fault
@@ -133,21 +133,21 @@ pub record_end-returns-in_err-number_end-clause-fault : goal.record_end-returns-
 record_end-returns-in_err-number_end-clause-fault t c =
     let p = err_from_is_err_and c.from_residual.result c.from_residual.ensures.1 in
     rw (p.1, p.2, c.requires.no_steps)
-    (λ before. number_bad c.args.pool.now (open_view c.args.parent) c.args.parent.levels c.args.tag.number c.args.tag.wire_type (here c.args.bytes.now c.args.tag.at c.args.parent.to) (here c.args.bytes.now c.args.tag.end c.args.parent.to) c.requires.is_tag before _ c.in_err-number_end.ensures.fault)
+    (λ before. number_bad c.args.pool.now (open_view c.args.scope) c.args.scope.levels c.args.tag.number c.args.tag.wire_type (here c.args.bytes.now c.args.tag.at c.args.scope.to) (here c.args.bytes.now c.args.tag.end c.args.scope.to) c.requires.is_tag before _ c.in_err-number_end.ensures.fault)
 
 pub record_end-returns-in_ok-number_end-clause-ok : goal.record_end-returns-in_ok-number_end-clause-ok
 record_end-returns-in_ok-number_end-clause-ok t c =
-    number_value (schema_of c.args.pool.now) (context_view c.args.parent.context) c.args.parent.levels c.args.tag.number c.args.tag.wire_type (here c.args.bytes.now c.args.tag.end c.args.parent.to) (here c.args.bytes.now c.in_ok-number_end.field-0 c.args.parent.to) c.in_ok-number_end.ensures.ok
+    number_value (schema_of c.args.pool.now) (context_view c.args.scope.context) c.args.scope.levels c.args.tag.number c.args.tag.wire_type (here c.args.bytes.now c.args.tag.end c.args.scope.to) (here c.args.bytes.now c.in_ok-number_end.field-0 c.args.scope.to) c.in_ok-number_end.ensures.ok
 
 pub records_end-records-init : goal.records_end-records-init
 records_end-records-init t c =
-    (omega arith, c.requires.at_in_bounds, c.requires.no_steps, [], front_none (schema_of c.args.pool.now) (context_view c.args.parent.context) c.args.parent.levels (here c.args.bytes.now c.args.at c.args.parent.to))
+    (omega arith, c.requires.at_in_bounds, c.requires.no_steps, [], front_none (schema_of c.args.pool.now) (context_view c.args.scope.context) c.args.scope.levels (here c.args.bytes.now c.args.at c.args.scope.to))
 
 pub records_end-returns-in_err-tag-clause-fault : goal.records_end-returns-in_err-tag-clause-fault
 records_end-returns-in_err-tag-clause-fault t c =
     let p = err_from_is_err_and c.from_residual.result c.from_residual.ensures.1 in
     rw (p.1, p.2, c.records.invariant.2)
-    (tag_refused c.args.pool.now c.args.parent.group (context_view c.args.parent.context) c.args.parent.levels (here c.args.bytes.now c.args.at c.args.parent.to) (here c.args.bytes.now c.records.here c.args.parent.to) c.records.invariant.3 _ c.records.invariant.4
+    (tag_refused c.args.pool.now c.args.scope.group (context_view c.args.scope.context) c.args.scope.levels (here c.args.bytes.now c.args.at c.args.scope.to) (here c.args.bytes.now c.records.here c.args.scope.to) c.records.invariant.3 _ c.records.invariant.4
     (c.is_at_end.ensures.goes_on c.records-test.true) c.in_err-tag.ensures.fault)
 
 pub records_end-records-preserved : goal.records_end-records-preserved
@@ -166,7 +166,7 @@ pub records_end-returns-in_err-push-in-Err-clause-fault : goal.records_end-retur
 records_end-returns-in_err-push-in-Err-clause-fault t c =
     let p = err_from_is_err_and c.from_residual-in_err-push-in-Err.result c.from_residual-in_err-push-in-Err.ensures.1 in
     rw (p.1, p.2)
-    (some_fault c.args.pool.now c.args.parent.group (context_view c.args.parent.context) c.args.parent.levels c.in_ok-tag.tag.number c.in_ok-tag.tag.wire_type (here c.args.bytes.now c.args.at c.args.parent.to) (here c.args.bytes.now c.records.here c.args.parent.to) (here c.args.bytes.now c.in_ok-tag.tag.end c.args.parent.to)
+    (some_fault c.args.pool.now c.args.scope.group (context_view c.args.scope.context) c.args.scope.levels c.in_ok-tag.tag.number c.in_ok-tag.tag.wire_type (here c.args.bytes.now c.args.at c.args.scope.to) (here c.args.bytes.now c.records.here c.args.scope.to) (here c.args.bytes.now c.in_ok-tag.tag.end c.args.scope.to)
     c.records.invariant.3 c.record_end.new.steps.items c.in-Err.error c.records.invariant.4 c.in_ok-tag.ensures.ok
     (rw c.in_ok-tag.ensures.within.2 at c.in-Err.ensures.fault))
 
@@ -175,8 +175,8 @@ records_end-returns-in-Err-clause-fault t c =
     let rs : List Record = c.records.invariant.3 in
     let front = c.records.invariant.4 in
     let reported : c.step_after.result ≡ step c.in_ok-tag.tag.number rs =
-    c.step_after.ensures rs (records_between c.args.parent.levels c.args.bytes.now c.args.at c.records.here c.args.parent.to rs front) (sound_higher 100 c.requires.levels (blank_sound front.sound)) in
-    record_refused c.args.pool.now c.args.parent.group (context_view c.args.parent.context) c.args.parent.levels c.in_ok-tag.tag.number c.in_ok-tag.tag.wire_type (here c.args.bytes.now c.args.at c.args.parent.to) (here c.args.bytes.now c.records.here c.args.parent.to) (here c.args.bytes.now c.in_ok-tag.tag.end c.args.parent.to)
+    c.step_after.ensures rs (records_between c.args.scope.levels c.args.bytes.now c.args.at c.records.here c.args.scope.to rs front) (sound_higher 100 c.requires.levels (blank_sound front.sound)) in
+    record_refused c.args.pool.now c.args.scope.group (context_view c.args.scope.context) c.args.scope.levels c.in_ok-tag.tag.number c.in_ok-tag.tag.wire_type (here c.args.bytes.now c.args.at c.args.scope.to) (here c.args.bytes.now c.records.here c.args.scope.to) (here c.args.bytes.now c.in_ok-tag.tag.end c.args.scope.to)
     rs c.record_end.new.steps.items c.push.new.self.items c.in-Err.error front c.in_ok-tag.ensures.ok
     (c.in_ok-push-in-Err.ensures.items ∙ ap (λ (s : PathStep). c.record_end.new.steps.items ++ s ∷ []) reported)
     (rw c.in_ok-tag.ensures.within.2 at c.in-Err.ensures.fault)

@@ -6,5 +6,5 @@ use Rattle.pb_validate.proofs.judging.is_at_end.Goals as goal
 
 pub returns-in-None-clause-goes_on : goal.returns-in-None-clause-goes_on
 returns-in-None-clause-goes_on c = λ before no_group.
-    begins_given c.args.parent.group (context_view c.args.parent.context) c.args.bytes.now c.args.at c.args.parent.to no_group c.in-None.is c.requires
+    begins_given c.args.scope.group (context_view c.args.scope.context) c.args.bytes.now c.args.at c.args.scope.to no_group c.in-None.is c.requires
     (λ e. false≢true (sym before ∙ eq-eqb c.args.at (length c.args.bytes.now) e))

@@ -1,4 +1,4 @@
--- The steps of the frames, and that of the record that is begun.
+-- The steps of the parents, and that of the record that is begun.
 use Rattle.std.proofs.Common.{ap, sym, ◌∙◌, ◌++◌, List}
 use Rattle.pb_wire.specs.declared.fault.PathStep.{PathStep}
 use Rattle.pb_parts.specs.Open.Parents.{path_of}

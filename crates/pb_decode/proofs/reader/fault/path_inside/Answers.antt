@@ -1,4 +1,4 @@
--- The steps of the frames, and that of the record.
+-- The steps of the parents, and that of the record.
 use Rattle.std.proofs.Common.{ℕ, ◌∷◌, [], refl, ap}
 use Rattle.pb_wire.specs.declared.fault.PathStep.{PathStep}
 use Rattle.pb_parts.specs.Open.Parents.{next_step}

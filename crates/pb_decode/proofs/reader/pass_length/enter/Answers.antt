@@ -1,4 +1,4 @@
--- The frame is pushed after the others.
+-- The parent is pushed after the others.
 use Rattle.std.proofs.Common.{ap, ◌∙◌}
 use Rattle.pb_decode.specs.Reader.{parents_view}
 use Rattle.pb_decode.proofs.LengthSteps.{parents_pushed}
