@@ -1,0 +1,55 @@
+//! A box of a decoder, or none, whose type says nothing of it to C.
+
+ghost use Rattle.std.specs.Prelude.{◌≡◌, Option};
+ghost use Rattle.pb_decode.specs.Decoder.{Decoder};
+ghost use Rattle.pb_c_decoding.specs.Seal.{decoder_coded, seal_owns};
+
+use crate::own::OwnDecoder;
+use pb_c_boxes::Parts;
+use std::alloc::Global;
+use std::marker::Model;
+
+/// Owns what a box of the decoder owns, where it says that there is one.
+#[repr(C)]
+#[derive(Drop)]
+pub struct DecoderSeal {
+    at: *mut u8,
+    alloc: Global,
+    pub ghost decoder: { Option Decoder } by { decoder_coded },
+}
+
+impl Model for DecoderSeal {
+    ghost also_owns = { λ s. seal_owns s.alloc s.at s.decoder };
+}
+
+impl DecoderSeal {
+    /// Holds nothing.
+    pub(crate) fn blank(alloc: Global, at: *mut u8) -> DecoderSeal
+        ensures { result.decoder ≡ None }
+    {
+        DecoderSeal { at, alloc }
+    }
+
+    /// Holds what a box held.
+    pub(crate) fn of_parts(parts: Parts<OwnDecoder, Global>) -> DecoderSeal
+        ensures { result.decoder ≡ Some parts.value }
+    {
+        let Parts { at, alloc } = parts;
+        DecoderSeal {
+            at: at as *mut u8,
+            alloc,
+        }
+    }
+
+    /// What is held, as the parts of a box.
+    pub(crate) fn into_parts(self) -> Parts<OwnDecoder, Global>
+        requires { (d : Decoder) × (self.decoder ≡ Some d) }
+        ensures { self.decoder ≡ Some result.value }
+    {
+        let DecoderSeal { at, alloc } = self;
+        Parts {
+            at: at as *mut OwnDecoder,
+            alloc,
+        }
+    }
+}
