@@ -35,13 +35,6 @@ not_list (shape.OneofMember o) e = refl
 not_list (shape.List p) e = absurd (cc)
 not_list (shape.Map key) e = absurd (cc)
 
-no_fellow : (s : Shape) → shares_oneof s None ≡ false
-no_fellow shape.Implicit = refl
-no_fellow shape.Explicit = refl
-no_fellow (shape.OneofMember o) = refl
-no_fellow (shape.List p) = refl
-no_fellow (shape.Map key) = refl
-
 -- a list is a member of no oneof
 list_no_member : (o : ℕ) (s : Shape) → is_list s ≡ true → is_member o s ≡ false
 list_no_member o shape.Implicit e = absurd (cc)

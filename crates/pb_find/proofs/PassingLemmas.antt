@@ -1,6 +1,6 @@
 -- Whole records that are read past: what they leave as it is, and those that follow them.
-use Rattle.std.proofs.Common.{◌≡◌, ◌≢◌, ◌∙◌, ℕ, List, [], ◌∷◌, ◌++◌, false, refl, sym, ap, subst, Option, Some, None}
-use Rattle.std.specs.Prelude.{fold, IfSome}
+use Rattle.std.proofs.Common.{◌≡◌, ◌∙◌, ℕ, List, [], ◌∷◌, ◌++◌, refl, sym, ap, Option, Some, None}
+use Rattle.std.specs.Prelude.{fold}
 use Rattle.std.specs.List.{AllByRecursion}
 use Rattle.pb_wire.specs.Record.{Payload, Record}
 use Rattle.pb_wire.specs.Fault.{Place, HasTag}
@@ -18,7 +18,7 @@ use Rattle.pb_validate.specs.Judging.{Front, ReadsValue}
 use Rattle.pb_validate.proofs.JudgeLemmas.{front_none, front_push}
 use Rattle.pb_find.specs.declared.target.Target.{Target}
 use Rattle.pb_find.specs.Found.{found, after_record, after_records, shares_oneof}
-use Rattle.pb_find.specs.Walk.{record_at, after_target, IsStranger, PassesStrangers, PassesBy}
+use Rattle.pb_find.specs.Walk.{record_at, after_target, IsStranger, PassesStrangers, PassesBy, Breaks}
 use Rattle.pb_find.proofs.TargetLemmas.{stranger_stays}
 use Rattle.pb_find.proofs.FoundLemmas.{found-append}
 
@@ -33,6 +33,20 @@ front_join rs ss f g = record {
     moves_both _ _ f.spelled.2 g.spelled.2,
   );
   sound = AllSound-append rs ss f.sound g.sound;
+}
+
+-- and so to a tag that no sound record follows
+pub breaks_later : {pool : Types} {m levels : ℕ} {p q : Place} (rs : List Record) → Front (schema_of pool) (a_message m) levels p rs q → Breaks pool m levels q → Breaks pool m levels p
+breaks_later rs front b = record {
+  before = rs ++ b.before;
+  at = b.at;
+  number = b.number;
+  type = b.type;
+  start = b.start;
+  front = front_join rs b.before front b.front;
+  tag = b.tag;
+  no_end = b.no_end;
+  none = b.none;
 }
 
 -- ---- records that do not concern a field
@@ -73,10 +87,6 @@ pub passes_by :
     (pool : Types) (m levels : ℕ) (t : Target) (s : Shape) (p q : Place) → ((g : Option FieldView) → shares_oneof s g ≡ shares_oneof t.field.now.shape g)
     → PassesStrangers pool m levels t.field.now.number s p q → PassesBy pool m levels (Some t) p q
 passes_by pool m levels t s p q same passed = (passed.0, passed.1, strangers_stay pool m t.rest.now (field_view t.field.now) s same passed.0 passed.2)
-
--- a path that leads to no field
-pub passes_any : (pool : Types) (m levels n : ℕ) (s : Shape) (p q : Place) → PassesStrangers pool m levels n s p q → PassesBy pool m levels None p q
-passes_any pool m levels n s p q passed = (passed.0, passed.1, λ x. refl)
 
 -- ---- what was found, after records that leave it
 

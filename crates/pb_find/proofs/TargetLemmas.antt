@@ -91,10 +91,6 @@ pub found_at :
 found_at pool m n path rest f x rs is at =
     sym (ap (λ (p : List ℕ). found pool p m x rs) is ∙ ap (λ (o : Option FieldView). after_records (found pool rest) pool m rest o x rs) at)
 
-pub found_nowhere : (pool : Types) (m n : ℕ) (path rest : List ℕ) (x : Option Scalar) (rs : List Record) → path ≡ n ∷ rest → target pool m n ≡ None → x ≡ found pool path m x rs
-found_nowhere pool m n path rest x rs is at =
-    sym (ap (λ (p : List ℕ). found pool p m x rs) is ∙ ap (λ (o : Option FieldView). after_records (found pool rest) pool m rest o x rs) at)
-
 pub found_here : (pool : Types) (m : ℕ) (path : List ℕ) (x : Option Scalar) (rs : List Record) → length path ≡ 0 → x ≡ found pool path m x rs
 found_here pool m [] x rs e = refl
 found_here pool m (n ∷ rest) x rs e = absurd (omega (arith, e))

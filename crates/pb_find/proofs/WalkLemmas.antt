@@ -28,7 +28,7 @@ use Rattle.pb_validate.proofs.JudgeLemmas.{front_none, front_push, records_betwe
 use Rattle.pb_find.specs.declared.target.Target.{Target}
 use Rattle.pb_find.specs.Found.{found, after_record}
 use Rattle.pb_find.specs.Loops.{IsOne}
-use Rattle.pb_find.specs.Walk.{record_at, after_target, NoRecord}
+use Rattle.pb_find.specs.Walk.{record_at, after_target, NoRecord, Breaks}
 
 pub some_map : {A : Type 0} (r : Option A) (P Q : A → Type 0) → ((a : A) → P a → Q a) → IfSome r P → IfSome r Q
 some_map None P Q f h = tt
@@ -79,6 +79,9 @@ not_read pool m levels k w (Some n) p q s rs front tag no_end unread good =
     (λ (h : RecordAt (schema_of pool) (a_message m) levels good.1). not_end_tag h good.4.1))
     (align rs good.2.0 front.spelled.0 good.0 front.spelled.1 good.2.1 front.sound good.2.2 front.spelled.2 good.3)
 
+pub broken : {pool : Types} {m levels : ℕ} {p : Place} (g : Option ℕ) → Breaks pool m levels p → IsRead (schema_of pool) (opened g (a_message m)) levels p → ⊥
+broken {pool} {m} {levels} {p} g b = not_read pool m levels b.number b.type g p b.at b.start b.before b.front b.tag b.no_end b.none
+
 -- nor where a tag is refused
 pub no_tag :
     (pool : Types) (m levels : ℕ) (g : Option ℕ) (b : List ℕ) (at now : ℕ) (rs : List Record) (f : Fault)
@@ -91,20 +94,6 @@ no_tag pool m levels g b at now rs f front within more bad good =
     good
 
 -- ---- all records
-
-pub read_to_end :
-    (pool : Types) (m levels : ℕ) (g : Option ℕ) (b : List ℕ) (at now : ℕ) (rs : List Record)
-    → Front (schema_of pool) (a_message m) levels (here b at None) rs (here b now None) → g ≡ None → length b ≤ now
-    → ReadsAll (schema_of pool) (opened g (a_message m)) levels (here b at None) rs (here b now None)
-read_to_end pool m levels None b at now rs front none ends = (front, inr (refl, drop_all now b ends))
-read_to_end pool m levels (Some k) b at now rs front none ends = absurd (cc)
-
-pub read_to_end_tag :
-    (pool : Types) (m levels k w : ℕ) (g : Option ℕ) (p q s : Place) (rs : List Record) → Front (schema_of pool) (a_message m) levels p rs q
-    → HasTag q k w s → w ≡ 4 → g ≡ Some k → ReadsAll (schema_of pool) (opened g (a_message m)) levels p rs s
-read_to_end_tag pool m levels k w None p q s rs front tag end own = absurd (cc)
-read_to_end_tag pool m levels k w (Some n) p q s rs front tag end own =
-    let same : k ≡ n = cc in (q, front, rw (end, same) at tag)
 
 -- ---- one record by itself
 
@@ -170,22 +159,6 @@ group_value_of pool m t (suc n) k w p q rs some is_group read (end, front, tag) 
       );
       sound = Sound.a_group refl sound;
     }
-
--- with no levels left, none is sound
-pub too_deep_message :
-    (pool : Types) (m t levels k w : ℕ) (p : Place) → levels ≡ 0 → w ≡ 2 → (schema_of pool).reading (a_message m) k ≡ message (a_message t) → NoRecord pool m levels k w p
-too_deep_message pool m t levels k w p none is_len read payload q v =
-    let value : ValueAt (schema_of pool) (a_message m) levels k 2 p q = rw is_len at (value_of pool m levels k w p q payload v) in
-    let it = len_value value in
-    let deeper = (sound_message it.bytes (a_message t) it.sound refl read).1 in
-    omega (arith, deeper, none)
-
-pub too_deep_group : (pool : Types) (m levels k w : ℕ) (p : Place) → levels ≡ 0 → w ≡ 3 → NoRecord pool m levels k w p
-too_deep_group pool m levels k w p none is_group payload q v =
-    let value : ValueAt (schema_of pool) (a_message m) levels k 3 p q = rw is_group at (value_of pool m levels k w p q payload v) in
-    let it = group_value value in
-    let deeper = (sound_group it.inside it.sound refl).1 in
-    omega (arith, deeper, none)
 
 -- a group whose records are not read is none
 pub no_group :

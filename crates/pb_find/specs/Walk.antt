@@ -1,19 +1,41 @@
 -- One record and those of a message, read and looked through at once.
-use Rattle.std.specs.Prelude.{◌≡◌, ◌≢◌, ℕ, List, false, Option, Some, None}
+use Rattle.std.specs.Prelude.{◌≡◌, ◌≢◌, ◌≤◌, ◌<◌, ◌^◌, ℕ, List, length, false, Option, Some, None}
 use Rattle.pb_wire.specs.Record.{Payload, Record}
-use Rattle.pb_wire.specs.Fault.{Place}
+use Rattle.pb_wire.specs.Fault.{Place, HasTag}
 use Rattle.pb_schema.specs.Types.{Types, message_fields, field_numbered}
+use Rattle.pb_schema.specs.Rules.{IsPool}
 use Rattle.pb_schema.specs.View.{field_view}
 use Rattle.pb_schema.specs.Scalar.{Scalar}
 use Rattle.pb_schema.specs.Context.{a_message, schema_of}
 use Rattle.pb_schema.specs.declared.types.Shape.{Shape}
 use Rattle.std.specs.List.{AllByRecursion}
+use Rattle.pb_validate.specs.declared.tokens.RecordTag.{RecordTag}
+use Rattle.pb_validate.specs.Here.{here}
 use Rattle.pb_validate.specs.Judging.{Front, ReadsAll, ReadsValue, opened}
 use Rattle.pb_find.specs.declared.target.Target.{Target}
+use Rattle.pb_find.specs.declared.walking.Level.{Level}
 use Rattle.pb_find.specs.Found.{found, after_records, shares_oneof}
 
 abbrev pub record_at : ℕ → Payload → Record
 record_at k payload = record { number = k; payload = payload }
+
+-- records of this level can be read from an index of the bytes on
+pub record CanReadAt (pool : Types) (level : Level) (bytes : List ℕ) (at : ℕ) : Type 0 where
+  pub rules : IsPool pool
+  pub of_pool : level.message_type.0 < length pool.messages
+  pub levels : level.levels ≤ 100
+  pub small : length bytes < 2 ^ 31
+  pub at_in_bounds : at ≤ length bytes
+
+-- and what a record has after this tag, which does not end a group
+pub record IsAfterTag (pool : Types) (level : Level) (bytes : List ℕ) (tag : RecordTag) : Type 0 where
+  pub rules : IsPool pool
+  pub of_pool : level.message_type.0 < length pool.messages
+  pub levels : level.levels ≤ 100
+  pub small : length bytes < 2 ^ 31
+  pub end_in_bounds : tag.end ≤ length bytes
+  pub is_tag : HasTag (here bytes tag.at None) tag.number tag.wire_type (here bytes tag.end None)
+  pub no_end : tag.wire_type ≢ 4
 
 -- what records make of what was found, where a path leads to this, or to no field of one value
 abbrev pub after_target : Types → ℕ → Option Target → Option Scalar → List Record → Option Scalar
@@ -51,3 +73,15 @@ ReadsOne pool m levels k w p q step x y =
 -- no sound record follows the tag
 abbrev pub NoRecord : Types → ℕ → ℕ → ℕ → ℕ → Place → Type 0
 NoRecord pool m levels k w p = (payload : Payload) (q : Place) → ReadsValue (schema_of pool) (a_message m) levels k w p payload q → ⊥
+
+-- whole records lead from p to a tag that no sound record follows
+pub record Breaks (pool : Types) (m levels : ℕ) (p : Place) : Type 0 where
+  pub before : List Record
+  pub at : Place
+  pub number : ℕ
+  pub type : ℕ
+  pub start : Place
+  pub front : Front (schema_of pool) (a_message m) levels p before at
+  pub tag : HasTag at number type start
+  pub no_end : type ≢ 4
+  pub none : NoRecord pool m levels number type start

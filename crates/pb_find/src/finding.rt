@@ -11,9 +11,10 @@ ghost use Rattle.pb_find.specs.View.{found_view};
 
 use crate::scalar_ref::ScalarRef;
 use crate::walking::{Level, walk};
-use pb_decode::{DecodeError, validate};
+use pb_decode::DecodeError;
 use pb_schema::{MessageId, Pool};
-use pb_wire::Limits;
+use pb_validate::find_fault;
+use pb_wire::{Limits, RawError};
 use std::alloc::Global;
 
 /// Finds the scalar that a message has at a path of field numbers: what `decode`, then `message` for each number but the last, and then
@@ -40,8 +41,24 @@ pub fn find<'a>(
     if let Some(found) = found_in_message(alloc, pool, message_type, bytes, limits, path) {
         return Ok(found);
     }
-    match validate(alloc, pool, message_type, bytes, limits) {
-        Err(error) => Err(error),
+    Err(refusal(alloc, pool, message_type, bytes, limits))
+}
+
+/// Why bytes that are no message of the type are refused.
+fn refusal(
+    alloc: Global,
+    pool: &Pool,
+    message_type: MessageId,
+    bytes: &[u8],
+    limits: Limits,
+) -> DecodeError
+    requires within { message_type.0 < length pool.now.messages }
+    requires none { (v : Message) → Text pool.now message_type.0 limits bytes.now v → ⊥ }
+    ensures { IfFault result (IsFaultOf pool.now message_type.0 limits bytes.now) }
+{
+    match find_fault(alloc, pool, message_type, bytes, limits) {
+        Err(RawError::Fault { byte, path, cause }) => DecodeError::Fault { byte, path, cause },
+        Err(RawError::Memory) => DecodeError::Memory,
         Ok(()) => unreachable!(),
     }
 }

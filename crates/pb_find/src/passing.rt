@@ -1,12 +1,10 @@
 //! Records that do not concern the field that a path leads to: judged, and read past.
 
-ghost use Rattle.std.specs.Prelude.{◌≡◌, ◌≢◌, ◌≤◌, ◌<◌, ◌^◌, None, false, length, IfSome};
-ghost use Rattle.pb_wire.specs.Fault.{HasTag};
+ghost use Rattle.std.specs.Prelude.{◌≡◌, ◌≤◌, ◌<◌, None, false, length, IfSome};
 ghost use Rattle.pb_schema.specs.View.{field_view};
-ghost use Rattle.pb_schema.specs.Rules.{IsPool};
 ghost use Rattle.pb_schema.specs.declared.types.Shape.TheVariants.{Implicit, OneofMember};
 ghost use Rattle.pb_validate.specs.Here.{here};
-ghost use Rattle.pb_find.specs.Walk.{IsStranger, PassesStrangers, PassesBy, ReadsAny, NoRecord};
+ghost use Rattle.pb_find.specs.Walk.{CanReadAt, IsAfterTag, IsStranger, PassesStrangers, PassesBy, ReadsAny, NoRecord, Breaks};
 
 use crate::target::{Target, is_fellow};
 use crate::walking::Level;
@@ -24,7 +22,7 @@ fn concerns(pool: &Pool, message_type: MessageId, field: u32, shape: Shape, numb
 }
 
 /// Reads past records that do not concern a field of a number and a shape. The index where it stops: before the first record that
-/// concerns the field, before a tag or a record that is none, or at the end of the bytes.
+/// concerns the field, before a tag that is none, or at the end of the bytes. None where one of these records has a fault.
 #[inline(always)]
 fn past_records(
     alloc: Global,
@@ -34,29 +32,25 @@ fn past_records(
     level: Level,
     field: u32,
     shape: Shape,
-) -> usize
-    requires rules { IsPool pool.now }
-    requires of_pool { level.message_type.0 < length pool.now.messages }
-    requires levels { level.levels ≤ 100 }
-    requires small { length bytes.now < 2 ^ 31 }
-    requires at_in_bounds { at ≤ length bytes.now }
-    ensures within { (at ≤ result) × (result ≤ length bytes.now) }
-    ensures passed { PassesStrangers pool.now level.message_type.0 level.levels field shape (here bytes.now at None) (here bytes.now result None) }
+) -> Option<usize>
+    requires { CanReadAt pool.now level bytes.now at }
+    ensures within { IfSome result (λ end. (at ≤ end) × (end ≤ length bytes.now)) }
+    ensures passed { IfSome result (λ end.
+        PassesStrangers pool.now level.message_type.0 level.levels field shape (here bytes.now at None) (here bytes.now end None)) }
+    ensures none { result ≡ None → Breaks pool.now level.message_type.0 level.levels (here bytes.now at None) }
 {
     let mut here = at;
     'records: while here < bytes.len() {
         let Ok(tag) = tag_at(bytes, here, None, None) else {
-            return here;
+            return Some(here);
         };
         if concerns(pool, level.message_type, field, shape, tag.number) {
-            return here;
+            return Some(here);
         }
-        match record_end(alloc, pool, level.message_type, level.levels, bytes, tag) {
-            Some(end) => here = end,
-            None => return here,
-        }
+        let end = record_end(alloc, pool, level.message_type, level.levels, bytes, tag)?;
+        here = end;
     }
-    here
+    Some(here)
 }
 
 /// As `past_records`, of a field that is in no oneof. Apart from what reads the other records, it has registers of its own.
@@ -68,14 +62,12 @@ fn past_others(
     at: usize,
     level: Level,
     field: u32,
-) -> usize
-    requires rules { IsPool pool.now }
-    requires of_pool { level.message_type.0 < length pool.now.messages }
-    requires levels { level.levels ≤ 100 }
-    requires small { length bytes.now < 2 ^ 31 }
-    requires at_in_bounds { at ≤ length bytes.now }
-    ensures within { (at ≤ result) × (result ≤ length bytes.now) }
-    ensures passed { PassesStrangers pool.now level.message_type.0 level.levels field Implicit (here bytes.now at None) (here bytes.now result None) }
+) -> Option<usize>
+    requires { CanReadAt pool.now level bytes.now at }
+    ensures within { IfSome result (λ end. (at ≤ end) × (end ≤ length bytes.now)) }
+    ensures passed { IfSome result (λ end.
+        PassesStrangers pool.now level.message_type.0 level.levels field Implicit (here bytes.now at None) (here bytes.now end None)) }
+    ensures none { result ≡ None → Breaks pool.now level.message_type.0 level.levels (here bytes.now at None) }
 {
     past_records(alloc, pool, bytes, at, level, field, Shape::Implicit)
 }
@@ -90,15 +82,12 @@ fn past_fellows(
     level: Level,
     field: u32,
     oneof: u32,
-) -> usize
-    requires rules { IsPool pool.now }
-    requires of_pool { level.message_type.0 < length pool.now.messages }
-    requires levels { level.levels ≤ 100 }
-    requires small { length bytes.now < 2 ^ 31 }
-    requires at_in_bounds { at ≤ length bytes.now }
-    ensures within { (at ≤ result) × (result ≤ length bytes.now) }
-    ensures passed { PassesStrangers pool.now level.message_type.0 level.levels field (OneofMember oneof) (here bytes.now at None)
-        (here bytes.now result None) }
+) -> Option<usize>
+    requires { CanReadAt pool.now level bytes.now at }
+    ensures within { IfSome result (λ end. (at ≤ end) × (end ≤ length bytes.now)) }
+    ensures passed { IfSome result (λ end.
+        PassesStrangers pool.now level.message_type.0 level.levels field (OneofMember oneof) (here bytes.now at None) (here bytes.now end None)) }
+    ensures none { result ≡ None → Breaks pool.now level.message_type.0 level.levels (here bytes.now at None) }
 {
     past_records(
         alloc,
@@ -121,14 +110,12 @@ pub(crate) fn past_strangers(
     at: usize,
     level: Level,
     target: Option<Target<'_>>,
-) -> usize
-    requires rules { IsPool pool.now }
-    requires of_pool { level.message_type.0 < length pool.now.messages }
-    requires levels { level.levels ≤ 100 }
-    requires small { length bytes.now < 2 ^ 31 }
-    requires at_in_bounds { at ≤ length bytes.now }
-    ensures within { (at ≤ result) × (result ≤ length bytes.now) }
-    ensures passed { PassesBy pool.now level.message_type.0 level.levels target.entry (here bytes.now at None) (here bytes.now result None) }
+) -> Option<usize>
+    requires { CanReadAt pool.now level bytes.now at }
+    ensures within { IfSome result (λ end. (at ≤ end) × (end ≤ length bytes.now)) }
+    ensures passed { IfSome result (λ end.
+        PassesBy pool.now level.message_type.0 level.levels target.entry (here bytes.now at None) (here bytes.now end None)) }
+    ensures none { result ≡ None → Breaks pool.now level.message_type.0 level.levels (here bytes.now at None) }
 {
     let Some(own) = target else {
         return past_others(alloc, pool, bytes, at, level, 0);
@@ -149,13 +136,7 @@ pub(crate) fn past_one(
     tag: RecordTag,
     level: Level,
 ) -> Option<usize>
-    requires rules { IsPool pool.now }
-    requires of_pool { level.message_type.0 < length pool.now.messages }
-    requires levels { level.levels ≤ 100 }
-    requires small { length bytes.now < 2 ^ 31 }
-    requires end_in_bounds { tag.end ≤ length bytes.now }
-    requires is_tag { HasTag (here bytes.now tag.at None) tag.number tag.wire_type (here bytes.now tag.end None) }
-    requires no_end { tag.wire_type ≢ 4 }
+    requires { IsAfterTag pool.now level bytes.now tag }
     ensures within { IfSome result (λ end. (tag.end ≤ end) × (end ≤ length bytes.now)) }
     ensures some { IfSome result (λ end. ReadsAny pool.now level.message_type.0 level.levels tag.number tag.wire_type
         (here bytes.now tag.end None) (here bytes.now end None)) }

@@ -1,18 +1,17 @@
 //! One record that holds no message on the way: judged, and what is found after it.
 
-ghost use Rattle.std.specs.Prelude.{◌≡◌, ◌≢◌, ◌≤◌, ◌<◌, ◌^◌, ℕ, List, Some, None, length, IfSome, IsUtf8};
-ghost use Rattle.pb_wire.specs.Fault.{Place, Leads, HasTag};
+ghost use Rattle.std.specs.Prelude.{◌≡◌, ◌≢◌, ◌≤◌, ◌<◌, ℕ, List, Some, None, length, IfSome, IsUtf8};
+ghost use Rattle.pb_wire.specs.Fault.{Place, Leads};
 ghost use Rattle.pb_wire.specs.Record.{len};
 ghost use Rattle.pb_wire.specs.RecordIter.{seen};
 ghost use Rattle.pb_wire.specs.Spell.{Body};
 ghost use Rattle.pb_schema.specs.View.{field_view};
-ghost use Rattle.pb_schema.specs.Rules.{IsPool};
 ghost use Rattle.pb_schema.specs.Scalar.{text};
 ghost use Rattle.pb_schema.specs.Kinds.{wire_type_of, message_of_kind};
 ghost use Rattle.pb_validate.specs.Here.{here};
 ghost use Rattle.pb_find.specs.Found.{target, found as found_by, after_record, kept as kept_by};
 ghost use Rattle.pb_find.specs.Loops.{payload_of, IsOne};
-ghost use Rattle.pb_find.specs.Walk.{ReadsOne, NoRecord};
+ghost use Rattle.pb_find.specs.Walk.{IsAfterTag, ReadsOne, NoRecord};
 ghost use Rattle.pb_find.specs.View.{found_view};
 
 use crate::reading::{kept, scalar_by};
@@ -48,13 +47,7 @@ pub(crate) fn scalar_found<'a>(
     own: Target<'_>,
     before: Option<ScalarRef<'a>>,
 ) -> Option<(usize, Option<ScalarRef<'a>>)>
-    requires rules { IsPool pool.now }
-    requires of_pool { level.message_type.0 < length pool.now.messages }
-    requires levels { level.levels ≤ 100 }
-    requires small { length bytes.now < 2 ^ 31 }
-    requires end_in_bounds { tag.end ≤ length bytes.now }
-    requires is_tag { HasTag (here bytes.now tag.at None) tag.number tag.wire_type (here bytes.now tag.end None) }
-    requires no_end { tag.wire_type ≢ 4 }
+    requires after { IsAfterTag pool.now level bytes.now tag }
     requires own { target pool.now level.message_type.0 own.field.now.number ≡ Some (field_view own.field.now) }
     requires number { tag.number ≡ own.field.now.number }
     requires scalar { message_of_kind own.field.now.kind ≡ None }
@@ -110,13 +103,7 @@ pub(crate) fn other_found<'a>(
     target: Target<'_>,
     before: Option<ScalarRef<'a>>,
 ) -> Option<(usize, Option<ScalarRef<'a>>)>
-    requires rules { IsPool pool.now }
-    requires of_pool { level.message_type.0 < length pool.now.messages }
-    requires levels { level.levels ≤ 100 }
-    requires small { length bytes.now < 2 ^ 31 }
-    requires end_in_bounds { tag.end ≤ length bytes.now }
-    requires is_tag { HasTag (here bytes.now tag.at None) tag.number tag.wire_type (here bytes.now tag.end None) }
-    requires no_end { tag.wire_type ≢ 4 }
+    requires after { IsAfterTag pool.now level bytes.now tag }
     requires number { tag.number ≢ target.field.now.number }
     ensures within { IfSome result (λ r. (tag.end ≤ r.0) × (r.0 ≤ length bytes.now)) }
     ensures some { IfSome result (λ r. ReadsOne pool.now level.message_type.0 level.levels tag.number tag.wire_type

@@ -1,16 +1,14 @@
 //! A message that is read once: judged, and looked through for the scalar at a path.
 
-ghost use Rattle.std.specs.Prelude.{◌≡◌, ◌≢◌, ◌≤◌, ◌<◌, ◌^◌, List, [], ◌∷◌, Some, None, true, false, length, IfSome};
-ghost use Rattle.pb_wire.specs.Fault.{HasTag};
+ghost use Rattle.std.specs.Prelude.{◌≡◌, ◌≤◌, ◌<◌, List, [], ◌∷◌, Some, None, true, false, length, IfSome};
 ghost use Rattle.pb_wire.specs.Record.{Record};
 ghost use Rattle.pb_wire.specs.Exact.{IsRead};
 ghost use Rattle.pb_schema.specs.View.{field_view};
-ghost use Rattle.pb_schema.specs.Rules.{IsPool};
 ghost use Rattle.pb_schema.specs.Context.{a_message, schema_of};
 ghost use Rattle.pb_validate.specs.Here.{here};
 ghost use Rattle.pb_validate.specs.Judging.{opened, ReadsAll};
 ghost use Rattle.pb_find.specs.Found.{target as target_at, found as found_by, after_record};
-ghost use Rattle.pb_find.specs.Walk.{LooksThrough, ReadsOne, NoRecord};
+ghost use Rattle.pb_find.specs.Walk.{CanReadAt, IsAfterTag, LooksThrough, ReadsOne, NoRecord};
 ghost use Rattle.pb_find.specs.View.{found_view};
 
 use crate::passing::{past_one, past_strangers};
@@ -55,11 +53,7 @@ pub(crate) fn walk<'a>(
     path: &[u32],
     before: Option<ScalarRef<'a>>,
 ) -> Option<(usize, Option<ScalarRef<'a>>)>
-    requires rules { IsPool pool.now }
-    requires of_pool { level.message_type.0 < length pool.now.messages }
-    requires levels { level.levels ≤ 100 }
-    requires small { length bytes.now < 2 ^ 31 }
-    requires at_in_bounds { at ≤ length bytes.now }
+    requires { CanReadAt pool.now level bytes.now at }
     ensures within { IfSome result (λ r. (at ≤ r.0) × (r.0 ≤ length bytes.now)) }
     ensures some { IfSome result (λ r. LooksThrough pool.now level.message_type.0 level.group level.levels
         (here bytes.now at None) (here bytes.now r.0 None) path.now (found_view before.entry) (found_view r.1)) }
@@ -67,7 +61,7 @@ pub(crate) fn walk<'a>(
         → IsRead (schema_of pool.now) (opened level.group (a_message level.message_type.0)) level.levels (here bytes.now at None) → ⊥ }
 {
     let target = target_of(pool, level.message_type, path);
-    let mut here = past_strangers(alloc, pool, bytes, at, level, target);
+    let mut here = past_strangers(alloc, pool, bytes, at, level, target)?;
     let mut found = before;
     'records: while goes_on(bytes, here, level.group) {
         let Ok(tag) = tag_at(bytes, here, level.group, None) else {
@@ -83,7 +77,8 @@ pub(crate) fn walk<'a>(
             }
             Some(own) => {
                 let (end, after) = target_found(alloc, pool, bytes, tag, level, own, found)?;
-                here = past_strangers(alloc, pool, bytes, end, level, target);
+                let next = past_strangers(alloc, pool, bytes, end, level, target)?;
+                here = next;
                 found = after;
             }
         }
@@ -103,11 +98,7 @@ fn walk_inside<'a>(
     path: &[u32],
     before: Option<ScalarRef<'a>>,
 ) -> Option<(usize, Option<ScalarRef<'a>>)>
-    requires rules { IsPool pool.now }
-    requires of_pool { level.message_type.0 < length pool.now.messages }
-    requires levels { level.levels ≤ 100 }
-    requires small { length bytes.now < 2 ^ 31 }
-    requires at_in_bounds { at ≤ length bytes.now }
+    requires { CanReadAt pool.now level bytes.now at }
     ensures within { IfSome result (λ r. (at ≤ r.0) × (r.0 ≤ length bytes.now)) }
     ensures some { IfSome result (λ r. LooksThrough pool.now level.message_type.0 level.group level.levels
         (here bytes.now at None) (here bytes.now r.0 None) path.now (found_view before.entry) (found_view r.1)) }
@@ -131,13 +122,7 @@ fn target_found<'a>(
     target: Target<'_>,
     before: Option<ScalarRef<'a>>,
 ) -> Option<(usize, Option<ScalarRef<'a>>)>
-    requires rules { IsPool pool.now }
-    requires of_pool { level.message_type.0 < length pool.now.messages }
-    requires levels { level.levels ≤ 100 }
-    requires small { length bytes.now < 2 ^ 31 }
-    requires end_in_bounds { tag.end ≤ length bytes.now }
-    requires is_tag { HasTag (here bytes.now tag.at None) tag.number tag.wire_type (here bytes.now tag.end None) }
-    requires no_end { tag.wire_type ≢ 4 }
+    requires after { IsAfterTag pool.now level bytes.now tag }
     requires own { target_at pool.now level.message_type.0 target.field.now.number ≡ Some (field_view target.field.now) }
     ensures within { IfSome result (λ r. (tag.end ≤ r.0) × (r.0 ≤ length bytes.now)) }
     ensures some { IfSome result (λ r. ReadsOne pool.now level.message_type.0 level.levels tag.number tag.wire_type
@@ -164,13 +149,7 @@ fn own_found<'a>(
     own: Target<'_>,
     before: Option<ScalarRef<'a>>,
 ) -> Option<(usize, Option<ScalarRef<'a>>)>
-    requires rules { IsPool pool.now }
-    requires of_pool { level.message_type.0 < length pool.now.messages }
-    requires levels { level.levels ≤ 100 }
-    requires small { length bytes.now < 2 ^ 31 }
-    requires end_in_bounds { tag.end ≤ length bytes.now }
-    requires is_tag { HasTag (here bytes.now tag.at None) tag.number tag.wire_type (here bytes.now tag.end None) }
-    requires no_end { tag.wire_type ≢ 4 }
+    requires after { IsAfterTag pool.now level bytes.now tag }
     requires own { target_at pool.now level.message_type.0 own.field.now.number ≡ Some (field_view own.field.now) }
     requires number { tag.number ≡ own.field.now.number }
     ensures within { IfSome result (λ r. (tag.end ≤ r.0) × (r.0 ≤ length bytes.now)) }

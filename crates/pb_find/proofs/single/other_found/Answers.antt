@@ -19,14 +19,14 @@ pub only_payload-payload-requires : goal.only_payload-payload-requires
 only_payload-payload-requires c =
     let v = c.in_ok-end.ensures.some in
     (one_alone c.args.pool.now c.args.level.message_type.0 c.args.level.levels c.args.tag.number c.args.tag.wire_type c.args.bytes.now c.args.tag.at c.args.tag.end c.in_ok-end.end
-    v.0 c.requires.small c.requires.levels c.requires.is_tag v.1).0
+    v.0 c.requires.after.small c.requires.after.levels c.requires.after.is_tag v.1).0
 
 pub returns-then-is_rival-clause-some : goal.returns-then-is_rival-clause-some
 returns-then-is_rival-clause-some c =
     let v = c.in_ok-end.ensures.some in
     let one =
     one_alone c.args.pool.now c.args.level.message_type.0 c.args.level.levels c.args.tag.number c.args.tag.wire_type c.args.bytes.now c.args.tag.at c.args.tag.end c.in_ok-end.end
-    v.0 c.requires.small c.requires.levels c.requires.is_tag v.1 in
+    v.0 c.requires.after.small c.requires.after.levels c.requires.after.is_tag v.1 in
     let payload : payload_of (seen c.only_payload-payload.result) ≡ v.0 = c.only_payload-payload.ensures one.0 ∙ ap (λ (r : Record). r.payload) one.1 in (
       v.0,
       v.1,
@@ -41,7 +41,7 @@ returns-clause-some c =
     let v = c.in_ok-end.ensures.some in
     let one =
     one_alone c.args.pool.now c.args.level.message_type.0 c.args.level.levels c.args.tag.number c.args.tag.wire_type c.args.bytes.now c.args.tag.at c.args.tag.end c.in_ok-end.end
-    v.0 c.requires.small c.requires.levels c.requires.is_tag v.1 in (
+    v.0 c.requires.after.small c.requires.after.levels c.requires.after.is_tag v.1 in (
       v.0,
       v.1,
       elim c.if-is_fellow.branch [

@@ -23,7 +23,7 @@ returns-then-not-is_empty-clause-some c =
       v.0,
       v.1,
       own_past c.args.pool.now c.args.level.message_type.0 c.args.tag.number c.args.own.rest.now (field_view c.args.own.field.now) (found_view c.args.before) v.0
-          c.requires.own c.requires.number c.requires.rules c.requires.scalar (not_nothing (length c.args.own.rest.now) (sym c.is_empty.ensures ∙ c.if-not-is_empty.true)),
+          c.requires.own c.requires.number c.requires.after.rules c.requires.scalar (not_nothing (length c.args.own.rest.now) (sym c.is_empty.ensures ∙ c.if-not-is_empty.true)),
     )
 
 pub returns-in-Text-clause-some : goal.returns-in-Text-clause-some
@@ -56,14 +56,14 @@ pub only_payload-payload-requires : goal.only_payload-payload-requires
 only_payload-payload-requires c =
     let v = c.in_ok-end.ensures.some in
     (one_alone c.args.pool.now c.args.level.message_type.0 c.args.level.levels c.args.tag.number c.args.tag.wire_type c.args.bytes.now c.args.tag.at c.args.tag.end c.in_ok-end.end
-    v.0 c.requires.small c.requires.levels c.requires.is_tag v.1).0
+    v.0 c.requires.after.small c.requires.after.levels c.requires.after.is_tag v.1).0
 
 pub returns-then-counts-clause-some : goal.returns-then-counts-clause-some
 returns-then-counts-clause-some c =
     let v = c.in_ok-end.ensures.some in
     let one =
     one_alone c.args.pool.now c.args.level.message_type.0 c.args.level.levels c.args.tag.number c.args.tag.wire_type c.args.bytes.now c.args.tag.at c.args.tag.end c.in_ok-end.end
-    v.0 c.requires.small c.requires.levels c.requires.is_tag v.1 in
+    v.0 c.requires.after.small c.requires.after.levels c.requires.after.is_tag v.1 in
     let payload : payload_of (seen c.only_payload-payload.result) ≡ v.0 = c.only_payload-payload.ensures one.0 ∙ ap (λ (r : Record). r.payload) one.1 in (
       v.0,
       v.1,
@@ -78,11 +78,11 @@ returns-clause-some c =
     let v = c.in_ok-end.ensures.some in
     let one =
     one_alone c.args.pool.now c.args.level.message_type.0 c.args.level.levels c.args.tag.number c.args.tag.wire_type c.args.bytes.now c.args.tag.at c.args.tag.end c.in_ok-end.end
-    v.0 c.requires.small c.requires.levels c.requires.is_tag v.1 in
+    v.0 c.requires.after.small c.requires.after.levels c.requires.after.is_tag v.1 in
     let payload : payload_of (seen c.only_payload-payload.result) ≡ v.0 = c.only_payload-payload.ensures one.0 ∙ ap (λ (r : Record). r.payload) one.1 in (
       v.0,
       v.1,
       found_stays c.args.pool.now c.args.level.message_type.0 c.args.tag.number c.args.own.rest.now (field_view c.args.own.field.now) (found_view c.args.before) v.0
-          c.requires.rules c.requires.own c.requires.number
+          c.requires.after.rules c.requires.own c.requires.number
           (sym (ap (λ (p : Payload). counts_for c.args.pool.now (field_view c.args.own.field.now) (record_at c.args.own.field.now.number p)) payload) ∙ sym c.counts.ensures ∙ c.if-counts.false),
     )
