@@ -24,4 +24,14 @@ pub mod NanLaws
 pub mod MessageLaws
 pub mod ValueLaws
 pub mod WellLaws
+-- types with a form of their own
+pub mod WellKnownFields
+pub mod FormTexts
+pub mod FormLaws
+pub mod AnyLaws
+pub mod TagLaws
+pub mod HereLaws
+-- the texts of messages
 pub mod MessageTexts
+-- small cases
+mod Rows

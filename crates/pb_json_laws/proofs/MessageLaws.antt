@@ -1,5 +1,5 @@
 -- What a message is as JSON is read as the message.
-use Rattle.std.proofs.Common.{◌≡◌, ℕ, zero, suc, ◌+◌, ◌<◌, ◌≤◌, Bool, true, false, cond, ◌&&◌, not, eqb, List, [], ◌∷◌, Option, Some, None, IfSome, IsSomeAnd, Ok, inl, inr, refl, sym, ap, ◌∙◌, subst, arith, eqb-true}
+use Rattle.std.proofs.Common.{◌≡◌, ℕ, ◌+◌, ◌≤◌, Bool, true, false, cond, ◌&&◌, not, eqb, List, [], ◌∷◌, Option, Some, None, IfSome, IsSomeAnd, Ok, inl, inr, refl, sym, ap, ◌∙◌, subst, arith, eqb-true}
 use Rattle.std.specs.Prelude.{max, is_some, option_map}
 use Rattle.std.specs.Option.{option_map_or}
 use Rattle.std.specs.BTreeSet.{insert_key}
@@ -16,31 +16,30 @@ use Rattle.pb_schema.specs.Rules.{HasKeyKind, IsPool, MayBeValue}
 use Rattle.pb_schema.specs.Scalar.{Scalar, int32, int64, uint32, uint64, boolean, float, double, enum, text, bytes}
 use Rattle.pb_schema.specs.Types.{FieldView, Types, field_numbered, message_fields}
 use Rattle.pb_schema.proofs.LookupLemmas.{found_field}
-use Rattle.pb_value.specs.Data.{Datum, scalar, message, Datums, no_datums, datum, joined_datums, Entries, no_entries, entry, datums_depth, entries_depth, fields_depth, holding_depth, message_depth}
-use Rattle.pb_value.specs.Data.{Holding, one, list, map, Fields, no_fields, field, put_field, Message, body}
+use Rattle.pb_value.specs.Data.{Datum, scalar, message, Datums, no_datums, datum, joined_datums, Entries, no_entries, entry}
+use Rattle.pb_value.specs.Data.{Holding, one, list, map, Fields, no_fields, field, Message, body}
 use Rattle.pb_value.specs.Judge.{is_absence}
 use Rattle.pb_value.specs.WellFormed.{AreDatums, AreEntries, AreFields, HasNoMember, HasOneMemberEach, IsBody, IsDatum, IsHeld, IsOfShape, KeysRise, RisesFrom, datum_declared, datums_declared, holds_declared, oneof_of}
 use Rattle.pb_value.proofs.JudgeLemmas.{found_in}
 use Rattle.pb_value.proofs.Options.{some_of}
 use Rattle.pb_json.specs.declared.form.Names.{Names}
 use Rattle.pb_json.specs.declared.well_known.WellKnown.{WellKnown}
-use Rattle.pb_json.specs.Anys.{any_json}
+use Rattle.pb_json.specs.declared.well_known.WellKnown.TheVariants.{ListValue, Struct}
 use Rattle.pb_json.specs.Json as written
 use Rattle.pb_json.specs.JsonNames.{member_name}
 use Rattle.pb_json.specs.Mapping.{datum_json, elements_json, entries_json, fields_json, float_json, holding_json, in_form, key_name, maybe_member, message_here, message_json, named_json, only_json, scalar_json}
 use Rattle.pb_json.specs.WellKnown.{is_null_enum, well_known}
 use Rattle.pb_json_text.specs.Json as read
 use Rattle.pb_json_read.specs.declared.rules.JsonRules.{JsonRules}
-use Rattle.pb_json_read.specs.Forms.{ReadsForm}
 use Rattle.pb_json_read.specs.Names.{field_meant}
-use Rattle.pb_json_read.specs.Reads.{ReadsAnyObject, ReadsContent, ReadsElements, ReadsEntries, ReadsList, ReadsMap, ReadsMembers, ReadsMessage, ReadsObject, ReadsValue}
+use Rattle.pb_json_read.specs.Reads.{ReadsContent, ReadsElements, ReadsEntries, ReadsList, ReadsMap, ReadsMembers, ReadsMessage, ReadsObject, ReadsValue}
 use Rattle.pb_json_read.specs.Scalars as scalars
 use Rattle.pb_json_read.specs.Steps.{Made, Parts, ReadsEntry, ReadsField, ReadsHeld, ReadsShape, has, has_null, is_absent, is_null, takes_null, with_held, with_number, with_oneof}
-use Rattle.pb_json_read.specs.WellKnown.{is_dynamic}
+use Rattle.pb_json_read.specs.WellKnown.{field_for, is_dynamic}
 use Rattle.pb_json_read.proofs.EntryLemmas.{under_free}
 use Rattle.pb_json_read.proofs.ReadLemmas.{after_ok, content_as, value_inside, value_plain}
 use Rattle.pb_json_read.proofs.TextsLemmas as datums
-use Rattle.pb_json_laws.specs.Messages.{AreCoveredDatums, AreCoveredEntries, AreCoveredFields, IsCovered, IsCoveredDatum, IsCoveredHolding, NamesAreRead}
+use Rattle.pb_json_laws.specs.Messages.{AreCoveredDatums, AreCoveredEntries, AreCoveredFields, IsCoveredDatum, IsCoveredHolding, NamesAreRead}
 use Rattle.pb_json_laws.specs.Messages.{datum_with_one_nan, datums_with_one_nan, entries_with_one_nan, fields_with_one_nan, holding_with_one_nan, message_with_one_nan}
 use Rattle.pb_json_laws.specs.Scalars.{IsKeyKind, with_one_nan}
 use Rattle.pb_json_laws.specs.Texts.{Means, MeanElements, MeanMembers}
@@ -90,7 +89,7 @@ named_null (Some name) z j means null = absurd (cc (rw means at null))
 abbrev HasNull : Types → Kind → Type 0
 HasNull pool k = is_null_enum pool k ≡ true
 
-scalar_null : (pool : Types) (k : Kind) (x : Scalar) (j : read.Json) → Means (scalar_json pool k x) j → is_null j ≡ true → HasNull pool k
+pub scalar_null : (pool : Types) (k : Kind) (x : Scalar) (j : read.Json) → Means (scalar_json pool k x) j → is_null j ≡ true → HasNull pool k
 scalar_null pool k (int32 z) j means null = absurd (cc (rw means at null))
 scalar_null pool k (int64 z) j means null = absurd (cc (rw means at null))
 scalar_null pool k (uint32 n) j means null = absurd (cc (rw means at null))
@@ -118,13 +117,13 @@ enum_has_null pool k = of_enum (enum_of_kind k)
     of_enum (Some e) h = h
 
 -- the value is not one that says that a field is absent
-taken : (a b : Bool) → (a ≡ true → b ≡ true) → (a && not b) ≡ false
+pub taken : (a b : Bool) → (a ≡ true → b ≡ true) → (a && not b) ≡ false
 taken true b h = rw (h refl) refl
 taken false b h = refl
 
 -- ---- fields
 
-number_found : (n : ℕ) (all : List FieldView) (f : FieldView) → field_numbered n all ≡ Some f → f.number ≡ n
+pub number_found : (n : ℕ) (all : List FieldView) (f : FieldView) → field_numbered n all ≡ Some f → f.number ≡ n
 number_found n [] f e = absurd (cc)
 number_found n (g ∷ gs) f e = by_test (eqb g.number n) refl (number_found n gs f) e
   where
@@ -197,70 +196,68 @@ oneofs_next all n h fs os free (shape.Map k) alone o e = (free o e).1
 
 -- ---- messages
 
+-- a Struct is an object, and a ListValue an array
+abbrev pub IsOfForm : WellKnown → read.Json → Type 0
+IsOfForm Struct j = field_for j ≡ 5
+IsOfForm ListValue j = field_for j ≡ 6
+IsOfForm w j = Unit {0}
+
 module _ (pool : Types) (names : Names) (rules : JsonRules) (is_pool : IsPool pool) (named : NamesAreRead names pool) where
   -- what messages of fewer levels are as JSON is read so
-  abbrev AreReadBack : (ℕ → Message → written.Json) → ℕ → Type 0
-  AreReadBack Inside top = (m : ℕ) (b : Message) → IsBody pool m b → IsCovered pool m b → message_depth b < top → (at : ℕ) (j : read.Json) → Means (Inside m b) j
-      → ReadsMessage pool rules m at j (Ok (message_with_one_nan b)) × (is_null j ≡ true → is_dynamic (well_known pool m) ≡ true)
+  abbrev pub AreReadBack : (ℕ → Message → written.Json) → (ℕ → Message → Type 0) → Type 0
+  AreReadBack Inside Inner = (m : ℕ) (b : Message) → IsBody pool m b → Inner m b → (at : ℕ) (j : read.Json) → Means (Inside m b) j
+      → ReadsMessage pool rules m at j (Ok (message_with_one_nan b)) × (is_null j ≡ true → is_dynamic (well_known pool m) ≡ true) × IsOfForm (well_known pool m) j
 
-  abbrev IsWithin : ℕ → Datum → Type 0
-  IsWithin top (scalar x) = Unit {0}
-  IsWithin top (message b) = message_depth b < top
-
-  module _ (Inside : ℕ → Message → written.Json) (top : ℕ) (back : AreReadBack Inside top) where
-    datum_read : (k : Kind) (d : Datum) → IsDatum pool k d → datum_declared pool k d ≡ true → IsCoveredDatum pool k d → IsWithin top d → (at : ℕ) (j : read.Json)
+  module _ (Inside : ℕ → Message → written.Json) (Inner : ℕ → Message → Type 0) (back : AreReadBack Inside Inner) where
+    datum_read : (k : Kind) (d : Datum) → IsDatum pool k d → datum_declared pool k d ≡ true → IsCoveredDatum pool Inner k d → (at : ℕ) (j : read.Json)
         → Means (datum_json pool names Inside k d) j → ReadsValue pool rules k at j (Ok (Some (datum_with_one_nan d)))
-    datum_read k (scalar x) is declared covered within at j means =
+    datum_read k (scalar x) is declared covered at j means =
         value_plain pool rules k at j (Ok (Some (scalar (with_one_nan x)))) (no_message k x is) (value_read pool is_pool k x j is declared covered means)
-    datum_read k (message b) is declared covered within at j means = of_type (message_of_kind k) refl is covered means
+    datum_read k (message b) is declared covered at j means = of_type (message_of_kind k) refl is covered means
       where
-        of_type : (o : Option ℕ) → message_of_kind k ≡ o → IsSomeAnd o (λ m. IsBody pool m b) → IsSomeAnd o (λ m. IsCovered pool m b)
+        of_type : (o : Option ℕ) → message_of_kind k ≡ o → IsSomeAnd o (λ m. IsBody pool m b) → IsSomeAnd o (λ m. Inner m b)
             → Means (option_map_or (λ m. Inside m b) o written.null) j → ReadsValue pool rules k at j (Ok (Some (message (message_with_one_nan b))))
         of_type None e is covered means = absurd is
         of_type (Some m) e is covered means =
             value_inside pool rules k at m j (Ok (Some (message (message_with_one_nan b)))) e
-            (Ok (message_with_one_nan b), (back m b is covered within at j means).0, refl)
+            (Ok (message_with_one_nan b), (back m b is covered at j means).0, refl)
 
-    datum_taken : (k : Kind) (d : Datum) → IsDatum pool k d → IsCoveredDatum pool k d → IsWithin top d → (at : ℕ) (j : read.Json) → Means (datum_json pool names Inside k d) j
+    datum_taken : (k : Kind) (d : Datum) → IsDatum pool k d → IsCoveredDatum pool Inner k d → (at : ℕ) (j : read.Json) → Means (datum_json pool names Inside k d) j
         → is_null j ≡ true → has_null pool k ≡ true
-    datum_taken k (scalar x) is covered within at j means null = enum_has_null pool k (scalar_null pool k x j means null)
-    datum_taken k (message b) is covered within at j means null = of_type (message_of_kind k) refl is covered means
+    datum_taken k (scalar x) is covered at j means null = enum_has_null pool k (scalar_null pool k x j means null)
+    datum_taken k (message b) is covered at j means null = of_type (message_of_kind k) refl is covered means
       where
-        of_type : (o : Option ℕ) → message_of_kind k ≡ o → IsSomeAnd o (λ m. IsBody pool m b) → IsSomeAnd o (λ m. IsCovered pool m b)
+        of_type : (o : Option ℕ) → message_of_kind k ≡ o → IsSomeAnd o (λ m. IsBody pool m b) → IsSomeAnd o (λ m. Inner m b)
             → Means (option_map_or (λ m. Inside m b) o written.null) j → has_null pool k ≡ true
         of_type None e is covered means = absurd is
-        of_type (Some m) e is covered means = rw (no_enum k m e, e) ((back m b is covered within at j means).1 null)
+        of_type (Some m) e is covered means = rw (no_enum k m e, e) ((back m b is covered at j means).1 null)
 
-    elements_read : (k : Kind) (ds : Datums) → AreDatums pool k ds → datums_declared pool k ds ≡ true → AreCoveredDatums pool k ds → datums_depth ds ≤ top
+    pub elements_read : (k : Kind) (ds : Datums) → AreDatums pool k ds → datums_declared pool k ds ≡ true → AreCoveredDatums pool Inner k ds
         → (before : Datums) (rs : read.Elements) → MeanElements (elements_json pool names Inside k ds) rs
         → ReadsElements pool rules k before rs (Ok (joined_datums before (datums_with_one_nan ds)))
-    elements_read k no_datums are declared covered deep before rs means =
+    elements_read k no_datums are declared covered before rs means =
         subst (λ (r : read.Elements). ReadsElements pool rules k before r (Ok (joined_datums before no_datums))) (sym means)
         (ap (λ (ds : Datums). Ok ds) (datums.joined_none before))
-    elements_read k (datum d ds) are declared covered deep before rs (at, j, more, is, means, later) =
+    elements_read k (datum d ds) are declared covered before rs (at, j, more, is, means, later) =
         let both = and_parts (datum_declared pool k d) (datums_declared pool k ds) declared in
-        let first = datum_read k d are.0 both.0 covered.0 (within d (omega arith)) at j means in
-        let rest = elements_read k ds are.1 both.1 covered.1 (omega arith) (joined_datums before (datum (datum_with_one_nan d) no_datums)) more later in
+        let first = datum_read k d are.0 both.0 covered.0 at j means in
+        let rest = elements_read k ds are.1 both.1 covered.1 (joined_datums before (datum (datum_with_one_nan d) no_datums)) more later in
         subst (λ (r : read.Elements). ReadsElements pool rules k before r (Ok (joined_datums before (datums_with_one_nan (datum d ds))))) (sym is) (
           Ok (Some (datum_with_one_nan d)),
           first,
           subst (λ (x : Datums). ReadsElements pool rules k (joined_datums before (datum (datum_with_one_nan d) no_datums)) more (Ok x))
               (datums.joined_more before (datum_with_one_nan d) (datums_with_one_nan ds)) rest,
         )
-      where
-        within : (d : Datum) → Rattle.pb_value.specs.Data.levels_of d ≤ top → IsWithin top d
-        within (scalar x) l = tt
-        within (message b) l = omega arith
 
-    entries_read : (key k : Kind) (es : Entries) → AreEntries pool key k es → KeysRise es → IsKeyKind key → closed_enum k ≡ None → AreCoveredEntries pool k es
-        → entries_depth es ≤ top → (before : Entries) → AreBefore before es → (ms : read.Members) → MeanMembers (entries_json pool names Inside k es) ms
+    pub entries_read : (key k : Kind) (es : Entries) → AreEntries pool key k es → KeysRise es → IsKeyKind key → closed_enum k ≡ None → AreCoveredEntries pool Inner k es
+        → (before : Entries) → AreBefore before es → (ms : read.Members) → MeanMembers (entries_json pool names Inside k es) ms
         → ReadsEntries pool rules key k before ms (Ok (joined_entries before (entries_with_one_nan es)))
-    entries_read key k no_entries are rise may unclosed covered deep before ahead ms means =
+    entries_read key k no_entries are rise may unclosed covered before ahead ms means =
         subst (λ (r : read.Members). ReadsEntries pool rules key k before r (Ok (joined_entries before no_entries))) (sym means)
         (ap (λ (es : Entries). Ok es) (joined_none before))
-    entries_read key k (entry x d es) are rise may unclosed covered deep before ahead ms (name_at, at, j, more, is, means, later) =
+    entries_read key k (entry x d es) are rise may unclosed covered before ahead ms (name_at, at, j, more, is, means, later) =
         let d' = datum_with_one_nan d in
-        let value = datum_read k d are.1 (declared d) covered.0 (within d (omega arith)) at j means in
+        let value = datum_read k d are.1 (declared d) covered.0 at j means in
         let next = joined_entries before (entry x d' no_entries) in
         let put : ReadsEntry key (key_name x) name_at (λ r. ReadsValue pool rules k at j r) before (Ok next) = (
           x,
@@ -268,52 +265,44 @@ module _ (pool : Types) (names : Names) (rules : JsonRules) (is_pool : IsPool po
           under_free x name_at (λ r. ReadsValue pool rules k at j r) before (Ok next) (none_there x before ahead)
               (Ok (Some d'), value, ap (λ (es : Entries). Ok es) (sym (put_last x d' before ahead))),
         ) in
-        let rest = entries_read key k es are.2 rise.1 may unclosed covered.1 (omega arith) next (next_before x d' es before rise.0 ahead) more later in
+        let rest = entries_read key k es are.2 rise.1 may unclosed covered.1 next (next_before x d' es before rise.0 ahead) more later in
         subst (λ (r : read.Members). ReadsEntries pool rules key k before r (Ok (joined_entries before (entries_with_one_nan (entry x d es))))) (sym is)
         (Ok next, put, subst (λ (y : Entries). ReadsEntries pool rules key k next more (Ok y)) (joined_more before x d' (entries_with_one_nan es)) rest)
       where
-        within : (d : Datum) → suc (Rattle.pb_value.specs.Data.levels_in_entry d) ≤ top → IsWithin top d
-        within (scalar x) l = tt
-        within (message b) l = omega arith
-
         declared : (d : Datum) → datum_declared pool k d ≡ true
         declared (scalar x) = rw unclosed refl
         declared (message b) = refl
 
     -- what a field holds
     content_read : (s : Shape) (k : Kind) (h : Holding) → HasKeyKind s → MayBeValue s k → IsOfShape s h → IsHeld pool s k h → holds_declared pool k h ≡ true
-        → IsCoveredHolding pool k h → holding_depth h ≤ top → (at : ℕ) (j : read.Json) → Means (holding_json pool names Inside k h) j
+        → IsCoveredHolding pool Inner k h → (at : ℕ) (j : read.Json) → Means (holding_json pool names Inside k h) j
         → ReadsContent pool rules s k at j (Ok (Some (holding_with_one_nan h)))
-    content_read s k h key may is held declared covered deep at j means =
-        content_as pool rules s k at j (Ok (Some (holding_with_one_nan h))) (by_shape s h key may is held declared covered deep means)
+    content_read s k h key may is held declared covered at j means =
+        content_as pool rules s k at j (Ok (Some (holding_with_one_nan h))) (by_shape s h key may is held declared covered means)
       where
-        within : (d : Datum) → Rattle.pb_value.specs.Data.levels_of d ≤ top → IsWithin top d
-        within (scalar x) l = tt
-        within (message b) l = omega arith
-
-        single : (d : Datum) → IsDatum pool k d → datum_declared pool k d ≡ true → IsCoveredDatum pool k d → Rattle.pb_value.specs.Data.levels_of d ≤ top
+        single : (d : Datum) → IsDatum pool k d → datum_declared pool k d ≡ true → IsCoveredDatum pool Inner k d
             → Means (datum_json pool names Inside k d) j
             → Made (λ r. ReadsValue pool rules k at j r) (option_map one) (Ok (Some (one (datum_with_one_nan d))))
-        single d is declared covered deep means =
-            (Ok (Some (datum_with_one_nan d)), datum_read k d is declared covered (within d deep) at j means, refl)
+        single d is declared covered means =
+            (Ok (Some (datum_with_one_nan d)), datum_read k d is declared covered at j means, refl)
 
         by_shape : (s : Shape) (h : Holding) → HasKeyKind s → MayBeValue s k → IsOfShape s h → IsHeld pool s k h → holds_declared pool k h ≡ true
-            → IsCoveredHolding pool k h → holding_depth h ≤ top → Means (holding_json pool names Inside k h) j
+            → IsCoveredHolding pool Inner k h → Means (holding_json pool names Inside k h) j
             → ReadsShape s (λ r. ReadsValue pool rules k at j r) (λ r. ReadsList pool rules k at j r) (λ key r. ReadsMap pool rules key k at j r)
             (Ok (Some (holding_with_one_nan h)))
-        by_shape shape.Implicit (one d) key may is held declared covered deep means = single d held declared covered deep means
-        by_shape shape.Explicit (one d) key may is held declared covered deep means = single d held declared covered deep means
-        by_shape (shape.OneofMember o) (one d) key may is held declared covered deep means = single d held declared covered deep means
-        by_shape (shape.List p) (list ds) key may is held declared covered deep (rs, e, means) = (
+        by_shape shape.Implicit (one d) key may is held declared covered means = single d held declared covered means
+        by_shape shape.Explicit (one d) key may is held declared covered means = single d held declared covered means
+        by_shape (shape.OneofMember o) (one d) key may is held declared covered means = single d held declared covered means
+        by_shape (shape.List p) (list ds) key may is held declared covered (rs, e, means) = (
           Ok (datums_with_one_nan ds),
           subst (λ (i : read.Json). ReadsList pool rules k at i (Ok (datums_with_one_nan ds))) (sym e)
-              (elements_read k ds held declared covered deep no_datums rs means),
+              (elements_read k ds held declared covered no_datums rs means),
           refl,
         )
-        by_shape (shape.Map key_kind_of) (map es) key may is held declared covered deep (ms, e, means) = (
+        by_shape (shape.Map key_kind_of) (map es) key may is held declared covered (ms, e, means) = (
           Ok (entries_with_one_nan es),
           subst (λ (i : read.Json). ReadsMap pool rules key_kind_of k at i (Ok (entries_with_one_nan es))) (sym e)
-              (entries_read key_kind_of k es held.0 held.1 (key_kind key_kind_of key) (not_closed k may) covered deep no_entries
+              (entries_read key_kind_of k es held.0 held.1 (key_kind key_kind_of key) (not_closed k may) covered no_entries
               (first_before es) ms means),
           refl,
         )
@@ -321,24 +310,20 @@ module _ (pool : Types) (names : Names) (rules : JsonRules) (is_pool : IsPool po
             first_before : (es : Entries) → AreBefore no_entries es
             first_before no_entries = tt
             first_before (entry x d es) = tt
-        by_shape s h key may is held declared covered deep means = absurd is
+        by_shape s h key may is held declared covered means = absurd is
 
-    content_taken : (s : Shape) (k : Kind) (h : Holding) → IsOfShape s h → IsHeld pool s k h → IsCoveredHolding pool k h → holding_depth h ≤ top
+    content_taken : (s : Shape) (k : Kind) (h : Holding) → IsOfShape s h → IsHeld pool s k h → IsCoveredHolding pool Inner k h
         → (at : ℕ) (j : read.Json) → Means (holding_json pool names Inside k h) j → is_absent pool s k j ≡ false
-    content_taken s k h is held covered deep at j means = taken (is_null j) (takes_null pool s k) (by_shape s h is held covered deep means)
+    content_taken s k h is held covered at j means = taken (is_null j) (takes_null pool s k) (by_shape s h is held covered means)
       where
-        within : (d : Datum) → Rattle.pb_value.specs.Data.levels_of d ≤ top → IsWithin top d
-        within (scalar x) l = tt
-        within (message b) l = omega arith
-
-        by_shape : (s : Shape) (h : Holding) → IsOfShape s h → IsHeld pool s k h → IsCoveredHolding pool k h → holding_depth h ≤ top
+        by_shape : (s : Shape) (h : Holding) → IsOfShape s h → IsHeld pool s k h → IsCoveredHolding pool Inner k h
             → Means (holding_json pool names Inside k h) j → is_null j ≡ true → takes_null pool s k ≡ true
-        by_shape shape.Implicit (one d) is held covered deep means null = datum_taken k d held covered (within d deep) at j means null
-        by_shape shape.Explicit (one d) is held covered deep means null = datum_taken k d held covered (within d deep) at j means null
-        by_shape (shape.OneofMember o) (one d) is held covered deep means null = datum_taken k d held covered (within d deep) at j means null
-        by_shape (shape.List p) (list ds) is held covered deep (rs, e, means) null = absurd (cc (rw e at null))
-        by_shape (shape.Map key) (map es) is held covered deep (ms, e, means) null = absurd (cc (rw e at null))
-        by_shape s h is held covered deep means null = absurd is
+        by_shape shape.Implicit (one d) is held covered means null = datum_taken k d held covered at j means null
+        by_shape shape.Explicit (one d) is held covered means null = datum_taken k d held covered at j means null
+        by_shape (shape.OneofMember o) (one d) is held covered means null = datum_taken k d held covered at j means null
+        by_shape (shape.List p) (list ds) is held covered (rs, e, means) null = absurd (cc (rw e at null))
+        by_shape (shape.Map key) (map es) is held covered (ms, e, means) null = absurd (cc (rw e at null))
+        by_shape s h is held covered means null = absurd is
 
     -- the members of a message
     module _ (m : ℕ) where
@@ -348,17 +333,17 @@ module _ (pool : Types) (names : Names) (rules : JsonRules) (is_pool : IsPool po
         message_is : parts_are.message ≡ body (joined_fields before (fields_with_one_nan fs)) []
 
       member_read : (f : FieldView) (n low : ℕ) (h : Holding) → field_numbered n (message_fields pool m) ≡ Some f → IsOfShape f.shape h → IsHeld pool f.shape f.kind h
-          → holds_declared pool f.kind h ≡ true → IsCoveredHolding pool f.kind h → holding_depth h ≤ top → low ≤ n
+          → holds_declared pool f.kind h ≡ true → IsCoveredHolding pool Inner f.kind h → low ≤ n
           → (before : Fields) (ns os : List ℕ) → NumbersBelow low before → has n ns ≡ false → ((o : ℕ) → oneof_of f.shape ≡ Some o → has o os ≡ false)
           → (name_at at : ℕ) (j : read.Json) → Means (holding_json pool names Inside f.kind h) j
           → ReadsField pool rules (Some f) name_at j (λ s k r. ReadsContent pool rules s k at j r) (parts before ns os)
           (Ok (parts (joined_fields before (field n (holding_with_one_nan h) no_fields)) (insert_key nat_cmp ns n) (oneofs_with f.shape os)))
-      member_read f n low h found is held declared covered deep l before ns os below free alone name_at at j means =
+      member_read f n low h found is held declared covered l before ns os below free alone name_at at j means =
           let rule = found_field pool m (λ g. eqb g.number n) f is_pool found in
           let number = number_found n (message_fields pool m) f found in
           let h' = holding_with_one_nan h in
-          let content = content_read f.shape f.kind h rule.key rule.value is held declared covered deep at j means in
-          let present = content_taken f.shape f.kind h is held covered deep at j means in
+          let content = content_read f.shape f.kind h rule.key rule.value is held declared covered at j means in
+          let present = content_taken f.shape f.kind h is held covered at j means in
           subst (λ (i : ℕ). ReadsField pool rules (Some f) name_at j (λ s k r. ReadsContent pool rules s k at j r) (parts before ns os)
           (Ok (parts (joined_fields before (field i h' no_fields)) (insert_key nat_cmp ns i) (oneofs_with f.shape os)))) number
           (after_ok (with_number f.number name_at (parts before ns os)) (parts before (insert_key nat_cmp ns f.number) os) _ _
@@ -380,12 +365,12 @@ module _ (pool : Types) (names : Names) (rules : JsonRules) (is_pool : IsPool po
           → (rs : read.Members) → MeanMembers (fields_json pool names Inside (message_fields pool m) fs) rs → Ended before ns os fs rs
 
       field_read : (f : FieldView) (n low : ℕ) (h : Holding) (fs : Fields) → field_numbered n (message_fields pool m) ≡ Some f
-          → IsOfShape f.shape h × IsHeld pool f.shape f.kind h × (holds_declared pool f.kind h ≡ true) → IsCoveredHolding pool f.kind h → holding_depth h ≤ top → low ≤ n
+          → IsOfShape f.shape h × IsHeld pool f.shape f.kind h × (holds_declared pool f.kind h ≡ true) → IsCoveredHolding pool Inner f.kind h → low ≤ n
           → IfSome (oneof_of f.shape) (λ o. HasNoMember (message_fields pool m) o fs) → ReadLater (n + 1) fs
           → (before : Fields) (ns os : List ℕ) → NumbersBelow low before → ((k : ℕ) → low ≤ k → has k ns ≡ false) → AreFree (message_fields pool m) os (field n h fs)
           → (rs : read.Members) → MeanMembers (written.member (member_name names f.name) (holding_json pool names Inside f.kind h) (fields_json pool names Inside (message_fields pool m) fs)) rs
           → Ended before ns os (field n h fs) rs
-      field_read f n low h fs found (is, held, declared) covered deep l alone next before ns os below free others rs (name_at, at, j, more, e, means, means_more) =
+      field_read f n low h fs found (is, held, declared) covered l alone next before ns os below free others rs (name_at, at, j, more, e, means, means_more) =
           let all = message_fields pool m in
           let h' = holding_with_one_nan h in
           let meant : field_meant (member_name names f.name) all ≡ Some f =
@@ -393,7 +378,7 @@ module _ (pool : Types) (names : Names) (rules : JsonRules) (is_pool : IsPool po
           let now : Fields = joined_fields before (field n h' no_fields) in
           let numbers : List ℕ = insert_key nat_cmp ns n in
           let oneofs : List ℕ = oneofs_with f.shape os in
-          let first = member_read f n low h found is held declared covered deep l before ns os below (free n l)
+          let first = member_read f n low h found is held declared covered l before ns os below (free n l)
           (oneof_free all n h fs os others f found) name_at at j means in
           let later = next now numbers oneofs
           (numbers_next low n h' before l below) (λ k above. has_other k n ns (free k (omega (arith, l, above))) (λ e. omega (arith, above, e)))
@@ -411,48 +396,29 @@ module _ (pool : Types) (names : Names) (rules : JsonRules) (is_pool : IsPool po
           }
 
       fields_read : (fs : Fields) (low : ℕ) → AreFields pool (message_fields pool m) fs → RisesFrom low fs → HasOneMemberEach (message_fields pool m) fs
-          → AreCoveredFields pool (message_fields pool m) fs → fields_depth fs ≤ top → ReadLater low fs
-      fields_read no_fields low are rise alone covered deep before ns os below free others rs means = record {
+          → AreCoveredFields pool Inner (message_fields pool m) fs → ReadLater low fs
+      fields_read no_fields low are rise alone covered before ns os below free others rs means = record {
         parts_are = parts before ns os;
         reads = subst (λ (r : read.Members). ReadsMembers pool rules (message_fields pool m) (parts before ns os) r (Ok (parts before ns os))) (sym means) refl;
         message_is = ap (λ (gs : Fields). body gs []) (sym (joined_no_fields before));
       }
-      fields_read (field n h fs) low are rise alone covered deep before ns os below free others rs means =
+      fields_read (field n h fs) low are rise alone covered before ns os below free others rs means =
           let all = message_fields pool m in
           let found = some_of (field_numbered n all) (λ f. IsOfShape f.shape h × IsHeld pool f.shape f.kind h × (holds_declared pool f.kind h ≡ true)) are.0 in
           field_read found.0 n low h fs found.1 found.2
-          (subst (λ (o : Option FieldView). IsSomeAnd o (λ f. IsCoveredHolding pool f.kind h)) found.1 covered.0) (omega arith) rise.0
+          (subst (λ (o : Option FieldView). IsSomeAnd o (λ f. IsCoveredHolding pool Inner f.kind h)) found.1 covered.0) rise.0
           (subst (λ (o : Option FieldView). IfSome (Rattle.std.specs.Prelude.option_and_then (λ g. oneof_of g.shape) o) (λ o. HasNoMember all o fs)) found.1 alone.0)
-          (fields_read fs (n + 1) are.1 rise.1 alone.1 covered.1 (omega arith)) before ns os below free others rs
+          (fields_read fs (n + 1) are.1 rise.1 alone.1 covered.1) before ns os below free others rs
           (subst (λ (o : Option FieldView). MeanMembers (maybe_member (option_map (λ f. (member_name names f.name, holding_json pool names Inside f.kind h)) o) (fields_json pool names Inside all fs)) rs)
           found.1 means)
 
-    object_read : (m : ℕ) (fs : Fields) → IsBody pool m (body fs []) → AreCoveredFields pool (message_fields pool m) fs → fields_depth fs ≤ top
+    pub object_read : (m : ℕ) (fs : Fields) → IsBody pool m (body fs []) → AreCoveredFields pool Inner (message_fields pool m) fs
         → (at : ℕ) (j : read.Json) → Means (written.object (fields_json pool names Inside (message_fields pool m) fs)) j
         → ReadsObject pool rules m at j (Ok (body (fields_with_one_nan fs) []))
-    object_read m fs is covered deep at j (rs, e, means) =
-        let end = fields_read m fs 0 is.0 is.1 is.2 covered deep no_fields [] [] tt (λ k l. refl) (λ o h. absurd (none_at o h)) rs means in
+    object_read m fs is covered at j (rs, e, means) =
+        let end = fields_read m fs 0 is.0 is.1 is.2 covered no_fields [] [] tt (λ k l. refl) (λ o h. absurd (none_at o h)) rs means in
         subst (λ (i : read.Json). ReadsObject pool rules m at i (Ok (body (fields_with_one_nan fs) []))) (sym e)
         (Ok end.parts_are, end.reads, ap (λ (b : Message). Ok b) (sym end.message_is))
       where
         none_at : (o : ℕ) → has o [] ≡ true → ⊥
         none_at o h = absurd (cc)
-
-    -- a message of one level more
-    here_read : AreReadBack (message_here pool names Inside) (suc top)
-    here_read m (body fs us) is (plain, none, covered) deep at j means =
-        let object : Means (written.object (fields_json pool names Inside (message_fields pool m) fs)) j =
-        subst (λ (w : WellKnown). Means (in_form w fs (fields_json pool names Inside (message_fields pool m) fs) (only_json pool names Inside w (message_fields pool m) fs) (any_json pool Inside fs)) j)
-        plain means in
-        let known : IsBody pool m (body fs []) = subst (λ (u : _). IsBody pool m (body fs u)) none is in
-        let reads = object_read m fs known covered (omega arith) at j object in (
-          subst (λ (w : WellKnown). ReadsForm pool rules at j (λ key e r. ReadsMap pool rules key e at j r) (λ e r. ReadsList pool rules e at j r) w
-              (λ r. ReadsObject pool rules m at j r) (λ r. ReadsAnyObject pool rules m at j r) m (Ok (body (fields_with_one_nan fs) us))) (sym plain)
-              (subst (λ (u : _). ReadsObject pool rules m at j (Ok (body (fields_with_one_nan fs) u))) (sym none) reads),
-          λ null. absurd (cc (rw object.1 at null)),
-        )
-
-  pub messages_read : (levels : ℕ) → AreReadBack (message_json pool names levels) levels
-  unfolding message_json
-  messages_read zero m b is covered deep at j means = absurd (omega arith)
-  messages_read (suc levels) m b is covered deep at j means = here_read (message_json pool names levels) levels (messages_read levels) m b is covered deep at j means

@@ -1,8 +1,8 @@
 -- The text of a message is read as the message.
-use Rattle.std.proofs.Common.{ℕ, ◌≤◌, ◌<◌, List, Ok, arith}
+use Rattle.std.proofs.Common.{ℕ, ◌≤◌, List, Ok}
 use Rattle.pb_schema.specs.Rules.{IsPool}
 use Rattle.pb_schema.specs.Types.{Types}
-use Rattle.pb_value.specs.Data.{Message, message_depth}
+use Rattle.pb_value.specs.Data.{Message}
 use Rattle.pb_value.specs.WellFormed.{IsWellFormed}
 use Rattle.pb_json.specs.declared.form.Layout.{Layout}
 use Rattle.pb_json.specs.declared.form.Names.{Names}
@@ -14,9 +14,8 @@ use Rattle.pb_json_read.specs.declared.rules.JsonRules.{JsonRules}
 use Rattle.pb_json_read.specs.Reads.{ReadsMessage}
 use Rattle.pb_json_laws.specs.Messages.{IsCovered, NamesAreRead, message_with_one_nan}
 use Rattle.pb_json_laws.specs.Texts.{json_depth}
-use Rattle.pb_json_laws.proofs.MessageLaws.{messages_read}
+use Rattle.pb_json_laws.proofs.HereLaws.{message_value, messages_read}
 use Rattle.pb_json_laws.proofs.TextLaws.{text_read}
-use Rattle.pb_json_laws.proofs.ValueLaws.{message_value}
 use Rattle.pb_json_laws.proofs.WellLaws.{well_formed}
 
 pub message_text_read : (pool : Types) (names : Names) (layout : Layout) (rules : JsonRules) → IsPool pool → NamesAreRead names pool → (m : ℕ) (b : Message)
@@ -24,6 +23,5 @@ pub message_text_read : (pool : Types) (names : Names) (layout : Layout) (rules 
     → (text : List ℕ) → IsJsonText layout 0 (message_json pool names 101 m b) text
     → (j : Placed) × IsJson j text × ReadsMessage pool rules m j.0 j.1 (Ok (message_with_one_nan b)) × IsWellFormed pool m (message_with_one_nan b)
 message_text_read pool names layout rules is_pool named m b well covered deep text is =
-    let levels : message_depth b < 101 = omega (arith, well.depth) in
-    let r = text_read layout (message_json pool names 101 m b) text (message_value pool is_pool names 101 m b well.parts covered levels) deep is in
-    (r.0, r.1, (messages_read pool names rules is_pool named 101 m b well.parts covered levels r.0.0 r.0.1 r.2).0, well_formed pool m b well)
+    let r = text_read layout (message_json pool names 101 m b) text (message_value pool is_pool names 101 m b well.parts covered) deep is in
+    (r.0, r.1, (messages_read pool names rules is_pool named 101 m b well.parts covered r.0.0 r.0.1 r.2).0, well_formed pool m b well)

@@ -18,12 +18,12 @@ use Rattle.pb_json.specs.declared.form.Names.TheVariants.{Declared, LowerCamel}
 use Rattle.pb_json_laws.specs.Texts.{is_plain}
 use Rattle.pb_json_laws.proofs.CharacterLaws.{ascii_utf8, is_ascii}
 
-joined : (p : ℕ → Bool) (s t : List ℕ) → list_all p s ≡ true → list_all p t ≡ true → list_all p (s ++ t) ≡ true
+pub joined : (p : ℕ → Bool) (s t : List ℕ) → list_all p s ≡ true → list_all p t ≡ true → list_all p (s ++ t) ≡ true
 joined p s t a b = list_all-append p s t ∙ ap₂ (λ (x y : Bool). x && y) a b
 
 -- ---- integers
 
-digit_plain : (d : ℕ) → 48 ≤ d → d ≤ 57 → is_plain d ≡ true
+pub digit_plain : (d : ℕ) → 48 ≤ d → d ≤ 57 → is_plain d ≡ true
 digit_plain d low high =
     let e : 48 + (d - 48) ≡ d = omega arith in
     subst (λ (x : ℕ). is_plain x ≡ true) e (agree_below_at (λ n. is_plain (48 + n)) (λ n. true) 10 (d - 48) refl (omega arith))
@@ -109,7 +109,7 @@ word_is (c ∷ cs) h =
 pub word_ascii : (s : List ℕ) → IsTrue (is_word s) → list_all is_ascii s ≡ true
 word_ascii s word = word_is s word
 
-raised_ascii : (raised : Bool) (c : ℕ) → is_ascii c ≡ true → is_ascii (cased raised c) ≡ true
+pub raised_ascii : (raised : Bool) (c : ℕ) → is_ascii c ≡ true → is_ascii (cased raised c) ≡ true
 raised_ascii false c h = h
 raised_ascii true c h =
     elim (cases_lt c 97) [

@@ -148,15 +148,15 @@ zero_of' : (n : ℕ) → not (true && ltb 0 n) ≡ true → n ≡ 0
 zero_of' n h = elim (cases_Bool (ltb 0 n)) [ inl e ↦ absurd (let no : false ≡ true = rw e at h in cc) | inr e ↦ let low = ltb-false 0 n e in omega arith ]
 
 -- what is in range
-record Span (s n : ℤ) : Type 0 where
-  low : int_le (neg_ℤ (pos 315_576_000_000)) s ≡ true
-  high : int_le s (pos 315_576_000_000) ≡ true
-  nanos_low : int_le (neg_ℤ (pos 999_999_999)) n ≡ true
-  nanos_high : int_le n (pos 999_999_999) ≡ true
-  not_below : not (int_lt s (pos 0) && int_lt (pos 0) n) ≡ true
-  not_above : not (int_lt (pos 0) s && int_lt n (pos 0)) ≡ true
+pub record Span (s n : ℤ) : Type 0 where
+  pub low : int_le (neg_ℤ (pos 315_576_000_000)) s ≡ true
+  pub high : int_le s (pos 315_576_000_000) ≡ true
+  pub nanos_low : int_le (neg_ℤ (pos 999_999_999)) n ≡ true
+  pub nanos_high : int_le n (pos 999_999_999) ≡ true
+  pub not_below : not (int_lt s (pos 0) && int_lt (pos 0) n) ≡ true
+  pub not_above : not (int_lt (pos 0) s && int_lt n (pos 0)) ≡ true
 
-span_parts : (s n : ℤ) → is_span s n ≡ true → Span s n
+pub span_parts : (s n : ℤ) → is_span s n ≡ true → Span s n
 span_parts s n h =
     let seconds = is_between (neg_ℤ (pos 315_576_000_000)) (pos 315_576_000_000) s in
     let nanos = is_between (neg_ℤ (pos 999_999_999)) (pos 999_999_999) n in

@@ -1,5 +1,5 @@
 -- What a message is as JSON is a JSON value: its numbers are numbers, and its strings UTF-8.
-use Rattle.std.proofs.Common.{◌≡◌, ℕ, zero, suc, ◌<◌, ◌≤◌, Bool, true, false, cond, List, [], ◌∷◌, Option, Some, None, IsTrue, IsUtf8, IsSomeAnd, refl, sym, subst, arith, ℤ, FitsSigned, w32, decimal}
+use Rattle.std.proofs.Common.{◌≡◌, ℕ, zero, suc, Bool, true, false, cond, List, [], ◌∷◌, Option, Some, None, IsTrue, IsUtf8, IsSomeAnd, refl, sym, subst, arith, ℤ, FitsSigned, w32, decimal}
 use Rattle.std.specs.Prelude.{find, from_bits, max, option_map, slice_get}
 use Rattle.std.specs.Float.{Float, Format, binary32, binary64, nan, inf, fin}
 use Rattle.std.specs.Fmt.{signed_decimal}
@@ -15,20 +15,18 @@ use Rattle.pb_schema.specs.Names.{is_word, names_of_field}
 use Rattle.pb_schema.specs.Rules.{AreWords, IsPool}
 use Rattle.pb_schema.specs.Scalar.{Scalar, int32, int64, uint32, uint64, boolean, float, double, enum, text, bytes}
 use Rattle.pb_schema.specs.Types.{EnumView, FieldView, MessageView, Types, field_numbered, fields_of_message, message_fields}
-use Rattle.pb_value.specs.Data.{Datum, scalar, message, Datums, no_datums, datum, Entries, no_entries, entry, datums_depth, entries_depth, fields_depth, holding_depth, levels_in_entry, levels_of, message_depth}
-use Rattle.pb_value.specs.Data.{Holding, one, list, map, Fields, no_fields, field, Message, body}
+use Rattle.pb_value.specs.Data.{Datum, scalar, message, Datums, no_datums, datum, Entries, no_entries, entry}
+use Rattle.pb_value.specs.Data.{Holding, one, list, map, Fields, no_fields, field, Message}
 use Rattle.pb_value.specs.WellFormed.{AreDatums, AreEntries, AreFields, IsBody, IsDatum, IsHeld, IsOfShape, key_of, holds_declared}
 use Rattle.pb_value.proofs.JudgeLemmas.{found_in}
 use Rattle.pb_value.proofs.Options.{some_of}
 use Rattle.pb_json.specs.declared.form.Names.{Names}
-use Rattle.pb_json.specs.declared.well_known.WellKnown.{WellKnown}
-use Rattle.pb_json.specs.Anys.{any_json}
 use Rattle.pb_json.specs.Json as written
 use Rattle.pb_json.specs.JsonNames.{member_name}
 use Rattle.pb_json.specs.JsonText.{bool_text}
-use Rattle.pb_json.specs.Mapping.{datum_json, elements_json, entries_json, fields_json, float_json, holding_json, in_form, key_name, maybe_member, message_here, message_json, named_json, names_of_kind, only_json, scalar_json}
+use Rattle.pb_json.specs.Mapping.{datum_json, elements_json, entries_json, fields_json, float_json, holding_json, key_name, maybe_member, named_json, names_of_kind, scalar_json}
 use Rattle.pb_json.specs.WellKnown.{is_null_enum}
-use Rattle.pb_json_laws.specs.Messages.{AreCoveredDatums, AreCoveredEntries, AreCoveredFields, IsCovered, IsCoveredDatum, IsCoveredHolding}
+use Rattle.pb_json_laws.specs.Messages.{AreCoveredDatums, AreCoveredEntries, AreCoveredFields, IsCoveredDatum, IsCoveredHolding}
 use Rattle.pb_json_laws.specs.Texts.{AreJsonElements, AreJsonMembers, IsJsonValue}
 use Rattle.pb_json_laws.proofs.CharacterLaws.{ascii_utf8, plain_utf8}
 use Rattle.pb_json_laws.proofs.NameLaws.{first_name}
@@ -83,7 +81,7 @@ module _ (pool : Types) (is_pool : IsPool pool) where
       of_enum None name e = absurd (cc)
       of_enum (Some i) name e = found_name z (enum_values pool i) name (values_are_words i) e
 
-  scalar_value : (k : Kind) (x : Scalar) → IsOfKind k x → IsJsonValue (scalar_json pool k x)
+  pub scalar_value : (k : Kind) (x : Scalar) → IsOfKind k x → IsJsonValue (scalar_json pool k x)
   scalar_value kind.Int32 (int32 z) fits = signed_number z (wider z fits)
   scalar_value kind.Sint32 (int32 z) fits = signed_number z (wider z fits)
   scalar_value kind.Sfixed32 (int32 z) fits = signed_number z (wider z fits)
@@ -127,10 +125,10 @@ module _ (pool : Types) (is_pool : IsPool pool) where
   key_utf8 (kind.Group m) x fits = absurd fits
   key_utf8 k x fits = absurd fits
 
-  field_word : (f : FieldView) → AreWords (names_of_field f) → IsTrue (is_word f.name)
+  pub field_word : (f : FieldView) → AreWords (names_of_field f) → IsTrue (is_word f.name)
   field_word f words = (subst AreWords (first_name f.name f.number f.kind f.shape) words).0
 
-  fields_words : (m : ℕ) → AllByRecursion (λ f. AreWords (names_of_field f)) (message_fields pool m)
+  pub fields_words : (m : ℕ) → AllByRecursion (λ f. AreWords (names_of_field f)) (message_fields pool m)
   fields_words m = of_message (slice_get pool.messages m) refl
     where
       of_message : (o : Option MessageView) → slice_get pool.messages m ≡ o → AllByRecursion (λ f. AreWords (names_of_field f)) (fields_of_message o)
@@ -138,68 +136,46 @@ module _ (pool : Types) (is_pool : IsPool pool) where
       of_message (Some t) is = (each_at Rattle.pb_schema.specs.Rules.MessageIsOfWords pool.messages m t is_pool.names.message_words is).1
 
   module _ (names : Names) where
-    abbrev AreValues : (ℕ → Message → written.Json) → ℕ → Type 0
-    AreValues Inside top = (m : ℕ) (b : Message) → IsBody pool m b → IsCovered pool m b → message_depth b < top → IsJsonValue (Inside m b)
+    abbrev pub AreValues : (ℕ → Message → written.Json) → (ℕ → Message → Type 0) → Type 0
+    AreValues Inside Inner = (m : ℕ) (b : Message) → IsBody pool m b → Inner m b → IsJsonValue (Inside m b)
 
-    module _ (Inside : ℕ → Message → written.Json) (top : ℕ) (inner : AreValues Inside top) where
-      abbrev IsWithin : Datum → Type 0
-      IsWithin (scalar x) = Unit {0}
-      IsWithin (message b) = message_depth b < top
-
-      within : (d : Datum) → levels_of d ≤ top → IsWithin d
-      within (scalar x) l = tt
-      within (message b) l = omega arith
-
-      within_entry : (d : Datum) → suc (levels_in_entry d) ≤ top → IsWithin d
-      within_entry (scalar x) l = tt
-      within_entry (message b) l = omega arith
-
-      datum_value : (k : Kind) (d : Datum) → IsDatum pool k d → IsCoveredDatum pool k d → IsWithin d → IsJsonValue (datum_json pool names Inside k d)
-      datum_value k (scalar x) is covered within = scalar_value k x is
-      datum_value k (message b) is covered within = of_type (message_of_kind k) is covered
+    module _ (Inside : ℕ → Message → written.Json) (Inner : ℕ → Message → Type 0) (inner : AreValues Inside Inner) where
+      datum_value : (k : Kind) (d : Datum) → IsDatum pool k d → IsCoveredDatum pool Inner k d → IsJsonValue (datum_json pool names Inside k d)
+      datum_value k (scalar x) is covered = scalar_value k x is
+      datum_value k (message b) is covered = of_type (message_of_kind k) is covered
         where
-          of_type : (o : Option ℕ) → IsSomeAnd o (λ m. IsBody pool m b) → IsSomeAnd o (λ m. IsCovered pool m b) → IsJsonValue (option_map_or (λ m. Inside m b) o written.null)
+          of_type : (o : Option ℕ) → IsSomeAnd o (λ m. IsBody pool m b) → IsSomeAnd o (λ m. Inner m b) → IsJsonValue (option_map_or (λ m. Inside m b) o written.null)
           of_type None is covered = tt
-          of_type (Some m) is covered = inner m b is covered within
+          of_type (Some m) is covered = inner m b is covered
 
-      elements_value : (k : Kind) (ds : Datums) → AreDatums pool k ds → AreCoveredDatums pool k ds → datums_depth ds ≤ top → AreJsonElements (elements_json pool names Inside k ds)
-      elements_value k no_datums are covered deep = tt
-      elements_value k (datum d ds) are covered deep =
-          (datum_value k d are.0 covered.0 (within d (omega arith)), elements_value k ds are.1 covered.1 (omega arith))
+      elements_value : (k : Kind) (ds : Datums) → AreDatums pool k ds → AreCoveredDatums pool Inner k ds → AreJsonElements (elements_json pool names Inside k ds)
+      elements_value k no_datums are covered = tt
+      elements_value k (datum d ds) are covered =
+          (datum_value k d are.0 covered.0, elements_value k ds are.1 covered.1)
 
-      entries_value : (key k : Kind) (es : Entries) → AreEntries pool key k es → AreCoveredEntries pool k es → entries_depth es ≤ top
+      entries_value : (key k : Kind) (es : Entries) → AreEntries pool key k es → AreCoveredEntries pool Inner k es
           → AreJsonMembers (entries_json pool names Inside k es)
-      entries_value key k no_entries are covered deep = tt
-      entries_value key k (entry x d es) are covered deep =
-          (key_utf8 key x are.0, datum_value k d are.1 covered.0 (within_entry d (omega arith)), entries_value key k es are.2 covered.1 (omega arith))
+      entries_value key k no_entries are covered = tt
+      entries_value key k (entry x d es) are covered =
+          (key_utf8 key x are.0, datum_value k d are.1 covered.0, entries_value key k es are.2 covered.1)
 
-      holding_value : (s : Shape) (k : Kind) (h : Holding) → IsHeld pool s k h → IsCoveredHolding pool k h → holding_depth h ≤ top
+      pub holding_value : (s : Shape) (k : Kind) (h : Holding) → IsHeld pool s k h → IsCoveredHolding pool Inner k h
           → IsJsonValue (holding_json pool names Inside k h)
-      holding_value s k (one d) is covered deep = datum_value k d is covered (within d deep)
-      holding_value s k (list ds) is covered deep = elements_value k ds is covered deep
-      holding_value s k (map es) is covered deep =
+      holding_value s k (one d) is covered = datum_value k d is covered
+      holding_value s k (list ds) is covered = elements_value k ds is covered
+      holding_value s k (map es) is covered =
           let key = some_of (key_of s) (λ key. AreEntries pool key k es × Rattle.pb_value.specs.WellFormed.KeysRise es) is in
-          entries_value key.0 k es key.2.0 covered deep
+          entries_value key.0 k es key.2.0 covered
 
-      fields_value : (m : ℕ) (fs : Fields) → AreFields pool (message_fields pool m) fs → AreCoveredFields pool (message_fields pool m) fs → fields_depth fs ≤ top
+      pub fields_value : (m : ℕ) (fs : Fields) → AreFields pool (message_fields pool m) fs → AreCoveredFields pool Inner (message_fields pool m) fs
           → AreJsonMembers (fields_json pool names Inside (message_fields pool m) fs)
-      fields_value m no_fields are covered deep = tt
-      fields_value m (field n h fs) are covered deep =
+      fields_value m no_fields are covered = tt
+      fields_value m (field n h fs) are covered =
           let all = message_fields pool m in
           let found = some_of (field_numbered n all) (λ f. IsOfShape f.shape h × IsHeld pool f.shape f.kind h × (holds_declared pool f.kind h ≡ true)) are.0 in
           let f : FieldView = found.0 in
-          let cover : IsCoveredHolding pool f.kind h = subst (λ (o : Option FieldView). IsSomeAnd o (λ g. IsCoveredHolding pool g.kind h)) found.1 covered.0 in
+          let cover : IsCoveredHolding pool Inner f.kind h = subst (λ (o : Option FieldView). IsSomeAnd o (λ g. IsCoveredHolding pool Inner g.kind h)) found.1 covered.0 in
           let word = field_word f (found_in (λ g. AreWords (names_of_field g)) n all f (fields_words m) found.1) in
           subst (λ (o : Option FieldView). AreJsonMembers (maybe_member (option_map (λ g. (member_name names g.name, holding_json pool names Inside g.kind h)) o) (fields_json pool names Inside all fs)))
           (sym found.1)
-          (name_utf8 names f.name word, holding_value f.shape f.kind h found.2.1 cover (omega arith), fields_value m fs are.1 covered.1 (omega arith))
-
-      here_value : AreValues (message_here pool names Inside) (suc top)
-      here_value m (body fs us) is (plain, none, covered) deep =
-          subst (λ (w : WellKnown). IsJsonValue (in_form w fs (fields_json pool names Inside (message_fields pool m) fs) (only_json pool names Inside w (message_fields pool m) fs) (any_json pool Inside fs)))
-          (sym plain) (fields_value m fs is.0 covered (omega arith))
-
-    pub message_value : (levels : ℕ) → AreValues (message_json pool names levels) levels
-    unfolding message_json
-    message_value zero m b is covered deep = tt
-    message_value (suc levels) m b is covered deep = here_value (message_json pool names levels) levels (message_value levels) m b is covered deep
+          (name_utf8 names f.name word, holding_value f.shape f.kind h found.2.1 cover, fields_value m fs are.1 covered.1)

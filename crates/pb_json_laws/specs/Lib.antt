@@ -1,3 +1,4 @@
 pub mod Texts
 pub mod Scalars
+pub mod WellKnown
 pub mod Messages

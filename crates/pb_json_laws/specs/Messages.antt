@@ -1,19 +1,26 @@
 -- Messages that are read back, and what they are then.
-use Rattle.std.specs.Prelude.{◌≡◌, ℕ, pos, List, [], true, Some, IsSomeAnd, map as map_of}
+use Rattle.std.specs.Prelude.{◌≡◌, ◌⊎◌, ◌<◌, ◌^◌, ℕ, zero, suc, pos, List, [], length, true, Some, None, IsSomeAnd, map as map_of}
 use Rattle.std.specs.List.{AllByRecursion}
 use Rattle.pb_schema.specs.declared.types.Kind.{Kind}
 use Rattle.pb_schema.specs.Types.{FieldView, Types, message_fields, field_numbered}
 use Rattle.pb_schema.specs.Kinds.{message_of_kind}
 use Rattle.pb_schema.specs.Names.{AllDiffer}
 use Rattle.pb_schema.specs.Scalar.{enum}
+use Rattle.pb_value.specs.Canon.{canon_bytes}
 use Rattle.pb_value.specs.Data.{Datum, scalar, message, Datums, no_datums, datum, Entries, no_entries, entry}
 use Rattle.pb_value.specs.Data.{Holding, one, list, map, Fields, no_fields, field, Message, body}
+use Rattle.pb_value.specs.WellFormed.{IsWellFormed}
 use Rattle.pb_json.specs.declared.form.Names.{Names}
-use Rattle.pb_json.specs.declared.well_known.WellKnown.TheVariants.{Other}
+use Rattle.pb_json.specs.declared.well_known.WellKnown.{WellKnown}
+use Rattle.pb_json.specs.declared.well_known.WellKnown.TheVariants.{Any}
+use Rattle.pb_json.specs.Anys.{type_meant}
+use Rattle.pb_json.specs.Held.{bytes_at, string_at}
 use Rattle.pb_json.specs.JsonNames.{lower_camel, member_name}
+use Rattle.pb_json.specs.Refusals.{own_cause}
 use Rattle.pb_json.specs.WellKnown.{is_null_enum, well_known}
 use Rattle.pb_json_read.specs.Names.{field_meant}
 use Rattle.pb_json_laws.specs.Scalars.{with_one_nan}
+use Rattle.pb_json_laws.specs.WellKnown.{IsAsDeclared}
 
 -- each float by the bits of its value, so that each NaN is the one that is read
 abbrev mutual
@@ -50,30 +57,57 @@ NamesAreRead names pool =
 abbrev pub CamelNamesDiffer : Types → Type 0
 CamelNamesDiffer pool = AllByRecursion (λ t. AllDiffer (map_of (λ f. lower_camel f.name) t.fields)) pool.messages
 
--- A message, and each message in it, has no unknown records and a type without a form of its own, and a value of `google.protobuf.NullValue`
--- is 0: each other is written as null too.
-module _ (pool : Types) where
-  abbrev mutual
-    pub IsCoveredDatum : Kind → Datum → Type 0
-    IsCoveredDatum k (scalar x) = is_null_enum pool k ≡ true → x ≡ enum (pos 0)
-    IsCoveredDatum k (message b) = IsSomeAnd (message_of_kind k) (λ m. IsCovered m b)
+-- what an Any holds that is a message
+pub record HoldsMessage (pool : Types) (Inner : ℕ → Message → Type 0) (fs : Fields) : Type 0 where
+  pub message_type : ℕ
+  pub held : Message
+  pub named : type_meant pool (string_at 1 fs) ≡ Some message_type
+  pub well_formed : IsWellFormed pool message_type held
+  pub canonical : bytes_at 2 fs ≡ canon_bytes pool message_type held
+  pub small : length (bytes_at 2 fs) < 2 ^ 31
+  -- each NaN is the one that is read
+  pub one_nan : message_with_one_nan held ≡ held
+  pub covered : Inner message_type held
 
-    pub AreCoveredDatums : Kind → Datums → Type 0
-    AreCoveredDatums k no_datums = Unit {0}
-    AreCoveredDatums k (datum d ds) = IsCoveredDatum k d × AreCoveredDatums k ds
+-- By which messages one level further in are covered: a message has no unknown records, and a value of `google.protobuf.NullValue` is 0, since
+-- each other is written as null too. Where its type has a form of its own, the type is as Google's file declares it, and the message has this form.
+-- An Any holds nothing, or the canonical encoding of a message that is covered.
+module _ (pool : Types) (Inner : ℕ → Message → Type 0) where
+  abbrev pub IsCoveredDatum : Kind → Datum → Type 0
+  IsCoveredDatum k (scalar x) = is_null_enum pool k ≡ true → x ≡ enum (pos 0)
+  IsCoveredDatum k (message b) = IsSomeAnd (message_of_kind k) (λ m. Inner m b)
 
-    pub AreCoveredEntries : Kind → Entries → Type 0
-    AreCoveredEntries k no_entries = Unit {0}
-    AreCoveredEntries k (entry x d es) = IsCoveredDatum k d × AreCoveredEntries k es
+  abbrev pub AreCoveredDatums : Kind → Datums → Type 0
+  AreCoveredDatums k no_datums = Unit {0}
+  AreCoveredDatums k (datum d ds) = IsCoveredDatum k d × AreCoveredDatums k ds
 
-    pub IsCoveredHolding : Kind → Holding → Type 0
-    IsCoveredHolding k (one d) = IsCoveredDatum k d
-    IsCoveredHolding k (list ds) = AreCoveredDatums k ds
-    IsCoveredHolding k (map es) = AreCoveredEntries k es
+  abbrev pub AreCoveredEntries : Kind → Entries → Type 0
+  AreCoveredEntries k no_entries = Unit {0}
+  AreCoveredEntries k (entry x d es) = IsCoveredDatum k d × AreCoveredEntries k es
 
-    pub AreCoveredFields : List FieldView → Fields → Type 0
-    AreCoveredFields all no_fields = Unit {0}
-    AreCoveredFields all (field n h fs) = IsSomeAnd (field_numbered n all) (λ f. IsCoveredHolding f.kind h) × AreCoveredFields all fs
+  abbrev pub IsCoveredHolding : Kind → Holding → Type 0
+  IsCoveredHolding k (one d) = IsCoveredDatum k d
+  IsCoveredHolding k (list ds) = AreCoveredDatums k ds
+  IsCoveredHolding k (map es) = AreCoveredEntries k es
 
-    pub IsCovered : ℕ → Message → Type 0
-    IsCovered m (body fs us) = (well_known pool m ≡ Other) × (us ≡ []) × AreCoveredFields (message_fields pool m) fs
+  abbrev pub AreCoveredFields : List FieldView → Fields → Type 0
+  AreCoveredFields all no_fields = Unit {0}
+  AreCoveredFields all (field n h fs) = IsSomeAnd (field_numbered n all) (λ f. IsCoveredHolding f.kind h) × AreCoveredFields all fs
+
+  abbrev pub HoldsCovered : WellKnown → Fields → Type 0
+  HoldsCovered Any fs = (fs ≡ no_fields) ⊎ HoldsMessage pool Inner fs
+  HoldsCovered w fs = Unit {0}
+
+  abbrev pub IsCoveredHere : ℕ → Message → Type 0
+  IsCoveredHere m (body fs us) =
+      IsAsDeclared pool (well_known pool m) (message_fields pool m) × (own_cause (well_known pool m) fs ≡ None) × HoldsCovered (well_known pool m) fs
+      × (us ≡ []) × AreCoveredFields (message_fields pool m) fs
+
+-- of at most this many levels
+unfoldable pub IsCoveredWithin : Types → ℕ → ℕ → Message → Type 0
+IsCoveredWithin pool zero m b = ⊥
+IsCoveredWithin pool (suc levels) m b = IsCoveredHere pool (IsCoveredWithin pool levels) m b
+
+-- the levels are 0 to 100; the message in an Any is one level further in
+abbrev pub IsCovered : Types → ℕ → Message → Type 0
+IsCovered pool m b = IsCoveredWithin pool 101 m b

@@ -24,7 +24,7 @@ ghost use Rattle.pb_schema.specs.Kinds.{IsOfKind};
 ghost use Rattle.pb_schema.specs.Rules.{IsPool};
 ghost use Rattle.pb_schema.specs.Scalar.{Scalar, enum};
 ghost use Rattle.pb_schema.specs.Types.{Types};
-ghost use Rattle.pb_value.specs.Data.{message_depth, scalar, Message};
+ghost use Rattle.pb_value.specs.Data.{scalar, Message};
 ghost use Rattle.pb_value.specs.WellFormed.{IsBody, IsWellFormed};
 ghost use Rattle.pb_json.specs.declared.form.JsonForm.{JsonForm as AnyForm};
 ghost use Rattle.pb_json.specs.declared.form.Layout.{Layout as AnyLayout};
@@ -41,7 +41,7 @@ ghost use Rattle.pb_json_read.specs.Reads.{ReadsMessage};
 ghost use Rattle.pb_json_read.specs.Values.{IsScalar};
 ghost use Rattle.pb_json_text.specs.Json.{Json, Placed};
 ghost use Rattle.pb_json_text.specs.Texts.{IsJson};
-ghost use Rattle.pb_json_laws.specs.Messages.{CamelNamesDiffer, IsCovered, NamesAreRead, message_with_one_nan};
+ghost use Rattle.pb_json_laws.specs.Messages.{CamelNamesDiffer, IsCovered, IsCoveredWithin, NamesAreRead, message_with_one_nan};
 ghost use Rattle.pb_json_laws.specs.Texts.{IsJsonValue, Means, json_depth};
 ghost use Rattle.pb_json_laws.specs.Scalars.{IsKeyKind, IsNoEnum, with_one_nan};
 
@@ -115,7 +115,7 @@ pub fn written_names()
 /// A message that is covered, as its JSON value; each NaN is read as one NaN.
 pub fn read_messages()
     ensures { (pool : Types) (names : AnyNames) (rules : AnyRules) → IsPool pool → NamesAreRead names pool → (levels m : ℕ) (b : Message) → IsBody pool m b
-        → IsCovered pool m b → message_depth b < levels → (at : ℕ) (j : Json) → Means (message_json pool names levels m b) j
+        → IsCoveredWithin pool levels m b → (at : ℕ) (j : Json) → Means (message_json pool names levels m b) j
         → ReadsMessage pool rules m at j (Ok (message_with_one_nan b)) }
 {}
 

@@ -1,6 +1,6 @@
-use Rattle.pb_json_laws.proofs.MessageLaws.{messages_read}
+use Rattle.pb_json_laws.proofs.HereLaws.{messages_read}
 use Rattle.pb_json_laws.proofs.read_messages.Goals as goal
 
 pub returns : goal.returns
-returns c pool names rules is_pool named levels m b is covered deep at j means =
-    (messages_read pool names rules is_pool named levels m b is covered deep at j means).0
+returns c pool names rules is_pool named levels m b is covered at j means =
+    (messages_read pool names rules is_pool named levels m b is covered at j means).0
