@@ -15,7 +15,8 @@ use Rattle.pb_json.specs.declared.form.Layout.TheVariants.{Compact, Indented}
 use Rattle.pb_json.specs.declared.form.Names.TheVariants.{LowerCamel}
 use Rattle.pb_json.specs.declared.error.JsonCause.TheVariants as cause
 use Rattle.pb_json.specs.Json.{Json, null, truth, number, plain, string, array, object, no_elements, element, no_members, member}
-use Rattle.pb_json.specs.JsonNames.{lower_camel}
+use Rattle.pb_json.specs.Given.{NamesGiven}
+use Rattle.pb_json.specs.JsonNames.{json_name, lower_camel}
 use Rattle.pb_json.specs.JsonText.{IsJsonText, string_text}
 use Rattle.pb_json.specs.Mapping.{json_of, message_json}
 use Rattle.pb_json.specs.Masks.{is_path, mask_text}
@@ -39,6 +40,19 @@ escapes = refl
 
 abbrev the_field : List ℕ → ℕ → Kind → Shape → FieldView
 the_field name n k s = record { name = name; number = n; kind = k; shape = s }
+
+-- a name that is given, to this field of this type alone
+abbrev label : NamesGiven
+label = ((0, 1), codes "label") ∷ []
+
+given_name : json_name label 0 (the_field (codes "foo_bar") 1 kind.Int32 shape.Implicit) ≡ codes "label"
+given_name = refl
+
+of_another_field : json_name label 0 (the_field (codes "foo_bar") 2 kind.Int32 shape.Implicit) ≡ codes "fooBar"
+of_another_field = refl
+
+of_another_type : json_name label 1 (the_field (codes "foo_bar") 1 kind.Int32 shape.Implicit) ≡ codes "fooBar"
+of_another_type = refl
 
 abbrev a_t : Kind
 a_t = kind.Message (record { 0 = 0 })

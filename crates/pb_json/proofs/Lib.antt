@@ -1,7 +1,8 @@
 -- for bytes that are put part by part, of which it is said what they may be
 pub mod PrintLemmas
--- for names without underscores
+-- for names without underscores, and for those that fields are given
 pub mod NameLemmas
+pub mod GivenLemmas
 -- for bytes in base64
 pub mod Base64Lemmas
 -- for floats

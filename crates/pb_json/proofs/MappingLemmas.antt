@@ -71,20 +71,20 @@ entries_next pool names Inside k before after key v split = ap (λ (es : List (M
 -- FIELDS
 
 pub fields_next :
-    (pool : Types) (names : Names) (Inside : ℕ → Message → Json) (all : List FieldView) (before after : List (ℕ × Content)) (n : ℕ) (h : Content) (f : FieldView)
-    → before ≡ (n, h) ∷ after → field_numbered n all ≡ Some f
-    → fields_json pool names Inside all (fields_view before) ≡ member (member_name names f.name) (holding_json pool names Inside f.kind (content_view h)) (fields_json pool names Inside all (fields_view after))
-fields_next pool names Inside all before after n h f split found =
-    ap (λ (fs : List (ℕ × Content)). fields_json pool names Inside all (fields_view fs)) split
-    ∙ ap (λ (o : Option FieldView). maybe_member (option_map (λ (g : FieldView). (member_name names g.name, holding_json pool names Inside g.kind (content_view h))) o) (fields_json pool names Inside all (fields_view after))) found
+    (pool : Types) (names : Names) (Inside : ℕ → Message → Json) (m : ℕ) (before after : List (ℕ × Content)) (n : ℕ) (h : Content) (f : FieldView)
+    → before ≡ (n, h) ∷ after → field_numbered n (message_fields pool m) ≡ Some f
+    → fields_json pool names Inside m (fields_view before) ≡ member (member_name names m f) (holding_json pool names Inside f.kind (content_view h)) (fields_json pool names Inside m (fields_view after))
+fields_next pool names Inside m before after n h f split found =
+    ap (λ (fs : List (ℕ × Content)). fields_json pool names Inside m (fields_view fs)) split
+    ∙ ap (λ (o : Option FieldView). maybe_member (option_map (λ (g : FieldView). (member_name names m g, holding_json pool names Inside g.kind (content_view h))) o) (fields_json pool names Inside m (fields_view after))) found
 
 -- a field that the type does not have is no member
 pub fields_skip :
-    (pool : Types) (names : Names) (Inside : ℕ → Message → Json) (all : List FieldView) (before after : List (ℕ × Content)) (n : ℕ) (h : Content)
-    → before ≡ (n, h) ∷ after → field_numbered n all ≡ None → fields_json pool names Inside all (fields_view before) ≡ fields_json pool names Inside all (fields_view after)
-fields_skip pool names Inside all before after n h split none =
-    ap (λ (fs : List (ℕ × Content)). fields_json pool names Inside all (fields_view fs)) split
-    ∙ ap (λ (o : Option FieldView). maybe_member (option_map (λ (g : FieldView). (member_name names g.name, holding_json pool names Inside g.kind (content_view h))) o) (fields_json pool names Inside all (fields_view after))) none
+    (pool : Types) (names : Names) (Inside : ℕ → Message → Json) (m : ℕ) (before after : List (ℕ × Content)) (n : ℕ) (h : Content)
+    → before ≡ (n, h) ∷ after → field_numbered n (message_fields pool m) ≡ None → fields_json pool names Inside m (fields_view before) ≡ fields_json pool names Inside m (fields_view after)
+fields_skip pool names Inside m before after n h split none =
+    ap (λ (fs : List (ℕ × Content)). fields_json pool names Inside m (fields_view fs)) split
+    ∙ ap (λ (o : Option FieldView). maybe_member (option_map (λ (g : FieldView). (member_name names m g, holding_json pool names Inside g.kind (content_view h))) o) (fields_json pool names Inside m (fields_view after))) none
 
 -- MESSAGES
 
@@ -92,11 +92,11 @@ fields_skip pool names Inside all before after n h split none =
 in_its_form :
     (pool : Types) (names : Names) (Inside : ℕ → Message → Json) (m : ℕ) (b : Body) (w : WellKnown) → well_known pool m ≡ w
     → message_here pool names Inside m (body_view b)
-    ≡ in_form w (fields_view b.fields.entries) (fields_json pool names Inside (message_fields pool m) (fields_view b.fields.entries))
+    ≡ in_form w (fields_view b.fields.entries) (fields_json pool names Inside m (fields_view b.fields.entries))
     (only_json pool names Inside w (message_fields pool m) (fields_view b.fields.entries)) (any_json pool Inside (fields_view b.fields.entries))
 in_its_form pool names Inside m b w e =
     ap (λ (x : Message). message_here pool names Inside m x) (body_view-out b)
-    ∙ ap (λ (x : WellKnown). in_form x (fields_view b.fields.entries) (fields_json pool names Inside (message_fields pool m) (fields_view b.fields.entries))
+    ∙ ap (λ (x : WellKnown). in_form x (fields_view b.fields.entries) (fields_json pool names Inside m (fields_view b.fields.entries))
     (only_json pool names Inside x (message_fields pool m) (fields_view b.fields.entries)) (any_json pool Inside (fields_view b.fields.entries))) e
 
 pub as_timestamp :
@@ -116,7 +116,7 @@ as_any pool names Inside m b e = in_its_form pool names Inside m b Any e
 
 pub as_object :
     (pool : Types) (names : Names) (Inside : ℕ → Message → Json) (m : ℕ) (b : Body) → well_known pool m ≡ Other
-    → message_here pool names Inside m (body_view b) ≡ object (fields_json pool names Inside (message_fields pool m) (fields_view b.fields.entries))
+    → message_here pool names Inside m (body_view b) ≡ object (fields_json pool names Inside m (fields_view b.fields.entries))
 as_object pool names Inside m b e = in_its_form pool names Inside m b Other e
 
 -- one level in

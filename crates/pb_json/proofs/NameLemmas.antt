@@ -1,7 +1,8 @@
--- Names without underscores, letter by letter.
+-- Names without underscores, letter by letter, and beside other names.
 use Rattle.std.proofs.Common.{◌≡◌, ℕ, ◌+◌, ◌<◌, List, [], ◌∷◌, ◌++◌, length, drop, get_or, refl, sym, ap, ◌∙◌, append_assoc, append-nil}
 use Rattle.std.specs.Prelude.{Bool, true, false, ◌==◌, if◌then◌else◌}
 use Rattle.std.specs.List.{flat_map}
+use Rattle.std.specs.Str.{bytes_eq}
 use Rattle.std.proofs.lemmas.Grind.{flat_map-append}
 use Rattle.std.proofs.lemmas.List.{drop_more}
 use Rattle.pb_json.specs.JsonNames.{camel_bytes, camel_from, camel_letter, cased}
@@ -30,3 +31,7 @@ letter_next raised name i below =
 -- a prefix of the letters, and the letters that are left
 pub letters_joined : (prefix part rest whole before : List ℕ) → prefix ++ before ≡ whole → before ≡ part ++ rest → (prefix ++ part) ++ rest ≡ whole
 letters_joined prefix part rest whole before joined e = append_assoc prefix part rest ∙ ap (λ (l : List ℕ). prefix ++ l) (sym e) ∙ joined
+
+-- whether what is left of a declared name is what is left of the other
+abbrev pub is_rest : Bool → ℕ → ℕ → List ℕ → List ℕ → Bool
+is_rest raised i at d n = bytes_eq (camel_from raised (drop i d)) (drop at n)

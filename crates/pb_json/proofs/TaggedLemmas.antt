@@ -1,7 +1,7 @@
 -- The object of an Any, part by part.
 use Rattle.std.proofs.Common.{◌≡◌, ◌⊎◌, ℕ, suc, ◌+◌, List, ◌++◌, inl, inr, refl, sym, ap, ◌∙◌, subst}
 use Rattle.std.specs.Prelude.{Bool, true, false, codes}
-use Rattle.pb_schema.specs.Types.{Types, message_fields}
+use Rattle.pb_schema.specs.Types.{Types}
 use Rattle.pb_value.specs.Data.{Message}
 use Rattle.pb_value.specs.View.{body_view, fields_view}
 use Rattle.pb_value.specs.declared.body.Body.{Body}
@@ -57,7 +57,7 @@ value_joins layout indent j one h = (one, closing_line layout indent false ++ co
 pub plain_members :
     (pool : Types) (names : Names) (levels below m : ℕ) (b : Body) (v : Message) → levels ≡ suc below → is_plain (well_known pool m) ≡ true → body_view b ≡ v
     → members_or_value (is_plain (well_known pool m)) (message_json pool names levels m v)
-    ≡ fields_json pool names (message_json pool names below) (message_fields pool m) (fields_view b.fields.entries)
+    ≡ fields_json pool names (message_json pool names below) m (fields_view b.fields.entries)
 plain_members pool names levels below m b v deep plain held =
     ap (λ (x : Message). members_or_value (is_plain (well_known pool m)) (message_json pool names levels m x)) (sym held)
     ∙ ap (λ (t : Bool). members_or_value t (message_json pool names levels m (body_view b))) plain

@@ -1,9 +1,11 @@
 -- Names of members (ProtoJSON format, "Field names"; protoc's default for `json_name`).
-use Rattle.std.specs.Prelude.{ℕ, List, [], ◌∷◌, ◌++◌, Bool, true, false, ◌==◌, if◌then◌else◌}
+use Rattle.std.specs.Prelude.{ℕ, List, [], ◌∷◌, ◌++◌, Bool, true, false, ◌==◌, if◌then◌else◌, unwrap_or}
 use Rattle.std.specs.Char.{to_ascii_uppercase}
+use Rattle.pb_schema.specs.Types.{FieldView}
+use Rattle.pb_json.specs.Given.{NamesGiven, name_given}
 use Rattle.pb_json.specs.JsonText.{string_byte}
 use Rattle.pb_json.specs.declared.form.Names.{Names}
-use Rattle.pb_json.specs.declared.form.Names.TheVariants.{LowerCamel, Declared}
+use Rattle.pb_json.specs.declared.form.Names.TheVariants.{LowerCamel, Declared, Given}
 
 abbrev pub cased : Bool → ℕ → ℕ
 cased true c = to_ascii_uppercase c
@@ -25,7 +27,12 @@ lower_camel name = camel_from false name
 abbrev pub camel_bytes : Bool → ℕ → List ℕ
 camel_bytes raised c = if c == 95 then [] else string_byte (cased raised c)
 
--- the name of a field in this form
-abbrev pub member_name : Names → List ℕ → List ℕ
-member_name LowerCamel name = lower_camel name
-member_name Declared name = name
+-- the name of a field of a message type in JSON: that which it is given, or else that in lowerCamelCase
+abbrev pub json_name : NamesGiven → ℕ → FieldView → List ℕ
+json_name names m f = unwrap_or (name_given names m f.number) (lower_camel f.name)
+
+-- the name of a field of a message type in this form
+abbrev pub member_name : Names → ℕ → FieldView → List ℕ
+member_name LowerCamel m f = lower_camel f.name
+member_name Declared m f = f.name
+member_name (Given names) m f = json_name names.now m f

@@ -2,6 +2,7 @@
 pub mod Json
 pub mod Times
 pub mod JsonText
+pub mod Given
 pub mod JsonNames
 pub mod Masks
 -- ---- what messages are as JSON

@@ -158,11 +158,11 @@ module _ (pool : Types) (names : Names) (Inside : ℕ → Message → Json) wher
     holding_json k (list ds) = array (elements_json k ds)
     holding_json k (map es) = object (entries_json k es)
 
-    -- a member for each field, by rising number
-    pub fields_json : List FieldView → Fields → Members
-    fields_json all no_fields = no_members
-    fields_json all (field n h fs) =
-        maybe_member (option_map (λ f. (member_name names f.name, holding_json f.kind h)) (field_numbered n all)) (fields_json all fs)
+    -- a member for each field of a message of a type, by rising number
+    pub fields_json : ℕ → Fields → Members
+    fields_json m no_fields = no_members
+    fields_json m (field n h fs) =
+        maybe_member (option_map (λ f. (member_name names m f, holding_json f.kind h)) (field_numbered n (message_fields pool m))) (fields_json m fs)
 
     -- a wrapper, a Struct, a Value and a ListValue are what their one field holds
     pub only_json : WellKnown → List FieldView → Fields → Json
@@ -172,7 +172,7 @@ module _ (pool : Types) (names : Names) (Inside : ℕ → Message → Json) wher
   -- a message of a type
   abbrev pub message_here : ℕ → Message → Json
   message_here m (body fs us) =
-      in_form (well_known pool m) fs (fields_json (message_fields pool m) fs) (only_json (well_known pool m) (message_fields pool m) fs)
+      in_form (well_known pool m) fs (fields_json m fs) (only_json (well_known pool m) (message_fields pool m) fs)
       (any_json pool Inside fs)
 
 -- a message of a type, of at most this many levels; nothing of one that is nested deeper

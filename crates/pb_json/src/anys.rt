@@ -49,7 +49,7 @@ pub(crate) fn open_any<'p>(
 }
 
 /// The type that a URL names: that of the pool whose full name comes after the last slash.
-fn type_meant(pool: &Pool, url: &str) -> Option<MessageId>
+pub fn type_meant(pool: &Pool, url: &str) -> Option<MessageId>
     ensures found { option_map (λ m. m.0) result ≡ type_meant pool.now url.now }
     ensures within { IfSome result (λ m. m.0 < length pool.now.messages) }
 {
@@ -59,8 +59,8 @@ fn type_meant(pool: &Pool, url: &str) -> Option<MessageId>
     }
 }
 
-/// The message that bytes encode.
-fn open<'p>(
+/// The message of a type that bytes encode, within the greatest limits, or None where they encode none.
+pub fn open<'p>(
     alloc: Global,
     pool: &'p Pool,
     id: MessageId,

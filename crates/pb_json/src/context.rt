@@ -9,7 +9,7 @@ use std::alloc::Global;
 pub(crate) struct Context<'a> {
     pub alloc: Global,
     pub pool: &'a Pool,
-    pub form: JsonForm,
+    pub form: JsonForm<'a>,
 }
 
 /// Where a value is: how many levels of messages may be nested in it, and the indentation of its line.

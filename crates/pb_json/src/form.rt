@@ -1,12 +1,16 @@
 //! The forms that JSON is written in.
 
+use crate::given::JsonNames;
+
 /// How the names of fields are written.
-#[derive(Clone, Copy, Debug, PartialEq, Eq)]
-pub enum Names {
+#[derive(Clone, Copy, Debug)]
+pub enum Names<'a> {
     /// Without underscores, and the letter after one in upper case.
     LowerCamel,
     /// As the field is declared.
     Declared,
+    /// As a table gives it, and of other fields as in `LowerCamel`.
+    Given(&'a JsonNames),
 }
 
 /// How values are laid out.
@@ -19,8 +23,8 @@ pub enum Layout {
 }
 
 /// A form of JSON.
-#[derive(Clone, Copy, Debug, PartialEq, Eq)]
-pub struct JsonForm {
-    pub names: Names,
+#[derive(Clone, Copy, Debug)]
+pub struct JsonForm<'a> {
+    pub names: Names<'a>,
     pub layout: Layout,
 }

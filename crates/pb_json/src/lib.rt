@@ -1,15 +1,16 @@
 //! Messages as JSON, by the ProtoJSON format.
 #![tactic(auto)]
 
-mod anys;
+pub mod anys;
 mod context;
 mod error;
 mod form;
+mod given;
 mod held;
 mod judging;
 mod masks;
 mod messages;
-mod names;
+pub mod names;
 mod scalars;
 mod strings;
 mod times;
@@ -17,4 +18,5 @@ pub mod well_known;
 
 pub use error::{JsonCause, JsonError, Refusal};
 pub use form::{JsonForm, Layout, Names};
+pub use given::JsonNames;
 pub use messages::{put_json, write_json};

@@ -37,10 +37,10 @@ pub fn write_json<O: Output>(
     out: &mut O,
     alloc: Global,
     message: &MessageRef<'_>,
-    form: JsonForm,
+    form: JsonForm<'_>,
 ) -> Result<(), JsonError>
-    ensures written { OnOk result (Whole O.written O.failures out.old out.new form message.now) }
-    ensures failed { IfErr result (FailsAs O.written O.failures out.old out.new form message.now) }
+    ensures written { OnOk result (Whole O.written O.failures out.old out.new form.entry message.now) }
+    ensures failed { IfErr result (FailsAs O.written O.failures out.old out.new form.entry message.now) }
 {
     let mut sink = Sink::new();
     put_json(&mut sink, out, alloc, message, form)?;
@@ -56,9 +56,9 @@ pub fn put_json<O: Output>(
     out: &mut O,
     alloc: Global,
     message: &MessageRef<'_>,
-    form: JsonForm,
+    form: JsonForm<'_>,
 ) -> Result<(), JsonError>
-    ensures put { OnOk result (Prints O.written O.failures out.old out.new sink.old sink.new (IsJsonOf form message.now)) }
+    ensures put { OnOk result (Prints O.written O.failures out.old out.new sink.old sink.new (IsJsonOf form.entry message.now)) }
     ensures failed { IfErr result (λ e. RefusedAs message.now e × (out.new ≡ out.old) × (sink.new ≡ sink.old)) }
 {
     let body = message.body();
@@ -234,7 +234,7 @@ fn put_object<O: Output>(
     requires within { id.0 < length context.now.pool.now.messages }
     ensures put { OnOk result (Prints O.written O.failures out.old out.new sink.old sink.new
         (IsJsonText context.now.form.layout at.indent (object (fields_json context.now.pool.now context.now.form.names
-        (message_json context.now.pool.now context.now.form.names at.levels) (message_fields context.now.pool.now id.0) (fields_view fields.now.entries))))) }
+        (message_json context.now.pool.now context.now.form.names at.levels) id.0 (fields_view fields.now.entries))))) }
     ensures memory { IfErr result (λ _. declares_any context.now.pool.now ≡ true) }
 {
     sink.put(out, b"{");
@@ -256,7 +256,7 @@ fn put_members<O: Output>(
     requires within { id.0 < length context.now.pool.now.messages }
     ensures put { OnOk result (Prints O.written O.failures out.old out.new sink.old sink.new
         (AreMembers context.now.form.layout at.indent is_first (fields_json context.now.pool.now context.now.form.names
-        (message_json context.now.pool.now context.now.form.names at.levels) (message_fields context.now.pool.now id.0) (fields_view fields.now.entries)))) }
+        (message_json context.now.pool.now context.now.form.names at.levels) id.0 (fields_view fields.now.entries)))) }
     ensures memory { IfErr result (λ _. declares_any context.now.pool.now ≡ true) }
 {
     let form = context.form;
@@ -267,7 +267,7 @@ fn put_members<O: Output>(
     let mut is_first = is_first;
     for (number, content) in fields {
         if let Some(field) = context.pool.field_by_number(id, *number) {
-            put_field_start(sink, out, form, line.indent, is_first, field.name.as_str());
+            put_field_start(sink, out, form, line.indent, is_first, id, field);
             put_content(sink, out, context, line, field.kind, content)?;
             is_first = false;
         }

@@ -2,16 +2,20 @@
 
 ghost use Rattle.std.specs.Prelude.{◌≡◌, ◌==◌, ◌≤◌, ◌++◌, codes, false, true};
 ghost use Rattle.std.specs.List.{flat_map};
+ghost use Rattle.std.specs.Str.{bytes_eq};
+ghost use Rattle.pb_schema.specs.View.{field_view};
 ghost use Rattle.pb_value.specs.View.{key_view};
-ghost use Rattle.pb_json.specs.JsonNames.{camel_bytes, cased, lower_camel, member_name};
+ghost use Rattle.pb_json.specs.JsonNames.{camel_bytes, cased, json_name, lower_camel, member_name};
 ghost use Rattle.pb_json.specs.JsonText.{colon, member_start, new_line, separator, string_byte, string_text};
 ghost use Rattle.pb_json.specs.Mapping.{key_name};
 ghost use Rattle.pb_output.specs.Sink.{Puts};
 
 use crate::form::{JsonForm, Layout, Names};
+use crate::given::JsonNames;
 use crate::strings::{put_colon, put_line, put_separator, put_string, put_string_byte};
 use itoa::Buffer;
 use pb_output::Sink;
+use pb_schema::{Field, MessageId};
 use pb_value::MapKey;
 use pb_wire::Output;
 
@@ -19,28 +23,54 @@ use pb_wire::Output;
 pub(crate) fn put_field_start<O: Output>(
     sink: &mut Sink,
     out: &mut O,
-    form: JsonForm,
+    form: JsonForm<'_>,
     indent: usize,
     is_first: bool,
-    name: &str,
+    message: MessageId,
+    field: &Field,
 )
     requires { indent ≤ 256 }
     ensures { Puts O.written O.failures out.old out.new sink.old sink.new
-        (member_start form.layout indent is_first (member_name form.names name.now)) }
+        (member_start form.entry.layout indent is_first (member_name form.entry.names message.0 (field_view field.now))) }
 {
     put_separator(sink, out, is_first);
     put_line(sink, out, form.layout, indent);
-    put_name(sink, out, form.names, name.as_bytes());
+    put_name(sink, out, form.names, message, field);
     put_colon(sink, out, form.layout);
 }
 
-/// The name of a field, in quotes.
-fn put_name<O: Output>(sink: &mut Sink, out: &mut O, names: Names, name: &[u8])
-    ensures { Puts O.written O.failures out.old out.new sink.old sink.new (string_text (member_name names name.now)) }
+/// The name of a field of a message type, in quotes.
+fn put_name<O: Output>(
+    sink: &mut Sink,
+    out: &mut O,
+    names: Names<'_>,
+    message: MessageId,
+    field: &Field,
+)
+    ensures { Puts O.written O.failures out.old out.new sink.old sink.new
+        (string_text (member_name names.entry message.0 (field_view field.now))) }
 {
     match names {
-        Names::LowerCamel => put_camel(sink, out, name),
-        Names::Declared => put_string(sink, out, name),
+        Names::LowerCamel => put_camel(sink, out, field.name.as_bytes()),
+        Names::Declared => put_string(sink, out, field.name.as_bytes()),
+        Names::Given(given) => put_given(sink, out, given, message, field),
+    }
+}
+
+/// The name of a field as a table gives it, or else without underscores, in quotes.
+fn put_given<O: Output>(
+    sink: &mut Sink,
+    out: &mut O,
+    names: &JsonNames,
+    message: MessageId,
+    field: &Field,
+)
+    ensures { Puts O.written O.failures out.old out.new sink.old sink.new
+        (string_text (json_name names.now message.0 (field_view field.now))) }
+{
+    match names.given(message, field.number) {
+        Some(name) => put_string(sink, out, name.as_bytes()),
+        None => put_camel(sink, out, field.name.as_bytes()),
     }
 }
 
@@ -73,6 +103,26 @@ fn put_camel_byte<O: Output>(sink: &mut Sink, out: &mut O, raised: bool, byte: u
     }
     put_string_byte(sink, out, cased(raised, byte));
     false
+}
+
+/// Whether a declared name in lowerCamelCase is the other name.
+pub fn is_camel(declared: &[u8], name: &[u8]) -> bool
+    ensures { result ≡ bytes_eq (lower_camel declared.now) name.now }
+{
+    let mut raised = false;
+    let mut at = 0;
+    for byte in declared {
+        if *byte == b'_' {
+            raised = true;
+        } else {
+            if at == name.len() || name[at] != cased(raised, *byte) {
+                return false;
+            }
+            at += 1;
+            raised = false;
+        }
+    }
+    at == name.len()
 }
 
 /// A letter, in upper case where it is raised.

@@ -87,7 +87,7 @@ pub(crate) fn is_null_enum(pool: &Pool, kind: Kind) -> bool
 }
 
 /// Whether a type has no form of its own.
-pub(crate) fn is_plain(form: WellKnown) -> bool
+pub fn is_plain(form: WellKnown) -> bool
     ensures { result ≡ is_plain form }
 {
     matches!(form, WellKnown::Other)

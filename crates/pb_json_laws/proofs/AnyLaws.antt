@@ -23,9 +23,10 @@ use Rattle.pb_json.specs.Held.{bytes_at, string_at}
 use Rattle.pb_json.specs.Json as written
 use Rattle.pb_json.specs.WellKnown.{is_plain, well_known}
 use Rattle.pb_json.proofs.AnyLemmas.{encoded-is}
+use Rattle.pb_json.specs.Given.{NamesGiven}
 use Rattle.pb_json_text.specs.Json as read
 use Rattle.pb_json_read.specs.declared.rules.JsonRules.{JsonRules}
-use Rattle.pb_json_read.specs.Anys.{Encodes, ReadsAnyOf, ReadsInAny, ReadsNamed, ReadsTagged, any_fields, beside, field_of, is_tag, message_beside, only_field, only_tag, tag_before, tags, url_meant, value_field}
+use Rattle.pb_json_read.specs.Anys.{ReadsAnyOf, ReadsInAny, ReadsNamed, ReadsTagged, any_fields, beside, field_of, is_tag, message_beside, only_field, only_tag, tag_before, tags, value_field}
 use Rattle.pb_json_read.specs.Anys as anys
 use Rattle.pb_json_read.specs.Forms.{ReadsForm}
 use Rattle.pb_json_read.specs.Names.{field_meant}
@@ -33,7 +34,7 @@ use Rattle.pb_json_read.specs.Reads.{ReadsAnyObject, ReadsBeside, ReadsContent, 
 use Rattle.pb_json_read.specs.Steps.{After, Parts, Read, ReadsField, ReadsHeld, Unless, given, is_absent, is_null, nothing}
 use Rattle.pb_json_read.specs.WellKnown.{is_dynamic}
 use Rattle.pb_json_read.proofs.ReadLemmas.{after_ok, content_as, value_inside}
-use Rattle.pb_json_laws.specs.Messages.{HoldsMessage, NamesAreRead, fields_with_one_nan, message_with_one_nan}
+use Rattle.pb_json_laws.specs.Messages.{AreMemberNames, HoldsMessage, NamesAreRead, fields_with_one_nan, message_with_one_nan}
 use Rattle.pb_json_laws.specs.Texts.{AreJsonMembers, IsJsonValue, MeanMembers, Means}
 use Rattle.pb_json_laws.specs.WellKnown.{any_value, type_url}
 use Rattle.pb_json_laws.proofs.CharacterLaws.{ascii_utf8}
@@ -103,27 +104,27 @@ module _ (pool : Types) (is_pool : IsPool pool) (Inside : ℕ → Message → wr
 abbrev pub AreObjects : Types → (ℕ → Message → written.Json) → (ℕ → Message → Type 0) → Type 0
 AreObjects pool Inside Inner = (m : ℕ) (b : Message) → Inner m b → well_known pool m ≡ form.Other → IsUntagged (Inside m b)
 
-beside_read : (pool : Types) (rules : JsonRules) (all : List FieldView) (rs : read.Members) (p : Parts) (o : Read Parts) → AreNoTags rs → ReadsMembers pool rules all p rs o
-    → ReadsBeside pool rules (beside None all) p rs o
-beside_read pool rules all read.no_members p o none h = h
-beside_read pool rules all (read.member name_at name at j ms) p o none (r, first, next) = (
+beside_read : (pool : Types) (rules : JsonRules) (table : NamesGiven) (meant : List ℕ → Option FieldView) (rs : read.Members) (p : Parts) (o : Read Parts) → AreNoTags rs → ReadsMembers pool rules table meant p rs o
+    → ReadsBeside pool rules table (beside None meant) p rs o
+beside_read pool rules table meant read.no_members p o none h = h
+beside_read pool rules table meant (read.member name_at name at j ms) p o none (r, first, next) = (
   r,
-  subst (λ (b : Bool). Unless b p (λ x. ReadsField pool rules (field_meant name all) name_at j (λ s k q. ReadsContent pool rules s k at j q) p x) r) (sym none.0) first,
-  later r (λ q h. beside_read pool rules all ms q o none.1 h) next,
+  subst (λ (b : Bool). Unless b p (λ x. ReadsField pool rules (meant name) name_at j (λ s k q. ReadsContent pool rules table s k at j q) p x) r) (sym none.0) first,
+  later r (λ q h. beside_read pool rules table meant ms q o none.1 h) next,
 )
   where
-    later : (r : Read Parts) → ((q : Parts) → ReadsMembers pool rules all q ms o → ReadsBeside pool rules (beside None all) q ms o)
-        → After r (λ q x. ReadsMembers pool rules all q ms x) o → After r (λ q x. ReadsBeside pool rules (beside None all) q ms x) o
+    later : (r : Read Parts) → ((q : Parts) → ReadsMembers pool rules table meant q ms o → ReadsBeside pool rules table (beside None meant) q ms o)
+        → After r (λ q x. ReadsMembers pool rules table meant q ms x) o → After r (λ q x. ReadsBeside pool rules table (beside None meant) q ms x) o
     later (Ok q) more h = more q h
     later (Err e) more h = h
 
-module _ (pool : Types) (names : Names) (rules : JsonRules) (is_pool : IsPool pool) (named : NamesAreRead names pool) where
-  module _ (Inside : ℕ → Message → written.Json) (Inner : ℕ → Message → Type 0) (back : AreReadBack pool names rules is_pool named Inside Inner)
+module _ (pool : Types) (names : Names) (table : NamesGiven) (rules : JsonRules) (is_pool : IsPool pool) (named : NamesAreRead names table pool) where
+  module _ (Inside : ℕ → Message → written.Json) (Inner : ℕ → Message → Type 0) (back : AreReadBack pool names table rules is_pool named Inside Inner)
       (objects : AreObjects pool Inside Inner) where
     module _ (t : ℕ) (b : Message) (whole : IsBody pool t b) (inner : Inner t b) where
       -- what the members beside `@type` give
       abbrev IsGiven : Option FieldView → read.Members → Type 0
-      IsGiven f rest = (p : Parts) × ReadsBeside pool rules (beside f (message_fields pool t)) nothing rest (Ok p) × (message_beside f p.message ≡ Some (message_with_one_nan b))
+      IsGiven f rest = (p : Parts) × ReadsBeside pool rules table (beside f (field_meant table pool t)) nothing rest (Ok p) × (message_beside f p.message ≡ Some (message_with_one_nan b))
 
       plain_given : (at : ℕ) (rest : read.Members) → well_known pool t ≡ form.Other → MeanMembers (members_or_value true (Inside t b)) rest → IsGiven None rest
       plain_given at rest is means = of_parts object.0 object.1 object.2
@@ -134,14 +135,14 @@ module _ (pool : Types) (names : Names) (rules : JsonRules) (is_pool : IsPool po
           mean : MeanMembers o.0 rest
           mean = subst (λ (j : written.Json). MeanMembers (members_or_value true j) rest) o.1 means
 
-          object : ReadsObject pool rules t at (read.object rest) (Ok (message_with_one_nan b))
+          object : ReadsObject pool rules table t at (read.object rest) (Ok (message_with_one_nan b))
           object =
-              subst (λ (w : WellKnown). ReadsForm pool rules at (read.object rest) (λ key e r. ReadsMap pool rules key e at (read.object rest) r) (λ e r. ReadsList pool rules e at (read.object rest) r) w
-              (λ r. ReadsObject pool rules t at (read.object rest) r) (λ r. ReadsAnyObject pool rules t at (read.object rest) r) t (Ok (message_with_one_nan b))) is
+              subst (λ (w : WellKnown). ReadsForm pool rules at (read.object rest) (λ key e r. ReadsMap pool rules table key e at (read.object rest) r) (λ e r. ReadsList pool rules table e at (read.object rest) r) w
+              (λ r. ReadsObject pool rules table t at (read.object rest) r) (λ r. ReadsAnyObject pool rules table t at (read.object rest) r) t (Ok (message_with_one_nan b))) is
               (back t b whole inner at (read.object rest) (subst (λ (j : written.Json). Means j (read.object rest)) (sym o.1) (rest, refl, mean))).0
 
-          of_parts : (r : Read Parts) → ReadsMembers pool rules (message_fields pool t) nothing rest r → After r (λ p x. x ≡ Ok p.message) (Ok (message_with_one_nan b)) → IsGiven None rest
-          of_parts (Ok p) h e = (p, beside_read pool rules (message_fields pool t) rest nothing (Ok p) (untagged_read o.0 rest mean o.2) h, cc)
+          of_parts : (r : Read Parts) → ReadsMembers pool rules table (field_meant table pool t) nothing rest r → After r (λ p x. x ≡ Ok p.message) (Ok (message_with_one_nan b)) → IsGiven None rest
+          of_parts (Ok p) h e = (p, beside_read pool rules table (field_meant table pool t) rest nothing (Ok p) (untagged_read o.0 rest mean o.2) h, cc)
           of_parts (Err f) h e = absurd (cc)
 
       -- a message with a form of its own, in the member `value`
@@ -152,19 +153,19 @@ module _ (pool : Types) (names : Names) (rules : JsonRules) (is_pool : IsPool po
       value_given rest (name_at, at, j, more, e, means, none) =
           let r = back t b whole inner at j means in
           let content =
-          content_as pool rules shape.Explicit (kind.Message (record { 0 = t })) at j (Ok (Some (one (message (message_with_one_nan b))))) (
+          content_as pool rules table shape.Explicit (kind.Message (record { 0 = t })) at j (Ok (Some (one (message (message_with_one_nan b))))) (
             Ok (Some (message (message_with_one_nan b))),
-            value_inside pool rules (kind.Message (record { 0 = t })) at t j (Ok (Some (message (message_with_one_nan b)))) refl (Ok (message_with_one_nan b), r.0, refl),
+            value_inside pool rules table (kind.Message (record { 0 = t })) at t j (Ok (Some (message (message_with_one_nan b)))) refl (Ok (message_with_one_nan b), r.0, refl),
             refl,
           ) in
           let present : is_absent pool shape.Explicit (kind.Message (record { 0 = t })) j ≡ false = taken (is_null j) (is_dynamic (well_known pool t)) r.1 in
-          let held : ReadsHeld (value_field t) name_at (λ s k q. ReadsContent pool rules s k at j q) (is_absent pool shape.Explicit (kind.Message (record { 0 = t })) j)
+          let held : ReadsHeld (value_field t) name_at (λ s k q. ReadsContent pool rules table s k at j q) (is_absent pool shape.Explicit (kind.Message (record { 0 = t })) j)
           (record { message = body no_fields []; numbers = 1 ∷ []; oneofs = [] }) (Ok one_member) =
-          subst (λ (c : Bool). ReadsHeld (value_field t) name_at (λ s k q. ReadsContent pool rules s k at j q) c (record { message = body no_fields []; numbers = 1 ∷ []; oneofs = [] }) (Ok one_member))
+          subst (λ (c : Bool). ReadsHeld (value_field t) name_at (λ s k q. ReadsContent pool rules table s k at j q) c (record { message = body no_fields []; numbers = 1 ∷ []; oneofs = [] }) (Ok one_member))
           (sym present) (Ok (Some (one (message (message_with_one_nan b)))), content, refl) in
           let same : rest ≡ read.member name_at (codes "value") at j read.no_members = e ∙ ap (λ (ms : read.Members). read.member name_at (codes "value") at j ms) none in (
             one_member,
-            subst (λ (ms : read.Members). ReadsBeside pool rules (beside (Some (value_field t)) (message_fields pool t)) nothing ms (Ok one_member)) (sym same) (Ok one_member, held, refl),
+            subst (λ (ms : read.Members). ReadsBeside pool rules table (beside (Some (value_field t)) (field_meant table pool t)) nothing ms (Ok one_member)) (sym same) (Ok one_member, held, refl),
             refl,
           )
 
@@ -191,19 +192,19 @@ module _ (pool : Types) (names : Names) (rules : JsonRules) (is_pool : IsPool po
       all_members = read.member name_at (codes "@type") url_at (read.string url) rest
 
       abbrev Beside : (List ℕ → Option FieldView) → Read Parts → Type 0
-      Beside meant r = ReadsBeside pool rules meant nothing all_members r
+      Beside meant r = ReadsBeside pool rules table meant nothing all_members r
 
       is_given : IsGiven h.message_type h.held h.well_formed.parts h.covered (field_of pool h.message_type) rest
       is_given = given_by h.message_type h.held h.well_formed.parts h.covered (is_plain (well_known pool h.message_type)) refl at rest means
 
-      in_any : ReadsInAny pool at Beside h.message_type (Ok h.held)
+      in_any : ReadsInAny pool table at Beside h.message_type (Ok h.held)
       in_any = (
         Ok is_given.0,
         (Ok nothing, refl, is_given.1),
         sym (ap (λ (o : Option Message). given at o) (is_given.2 ∙ ap (λ (v : Message). Some v) h.one_nan)),
       )
 
-      named_read : ReadsNamed pool at Beside any_fields_are url_at (Some (url, h.message_type)) (Ok (body (fields_with_one_nan fs) []))
+      named_read : ReadsNamed pool table at Beside any_fields_are url_at (Some (url, h.message_type)) (Ok (body (fields_with_one_nan fs) []))
       named_read = (
         Ok (bytes_at 2 fs),
         (Ok h.held, in_any, (h.well_formed, h.small, h.canonical)),
@@ -220,25 +221,25 @@ module _ (pool : Types) (names : Names) (rules : JsonRules) (is_pool : IsPool po
           let none = no_tags rest (untagged_read (members_or_value (is_plain (well_known pool h.message_type)) (Inside h.message_type h.held)) rest means untagged) in
           sym (ap (λ (ts : List anys.Tag). only_tag ((name_at, (url_at, read.string url)) ∷ ts)) none)
 
-      tagged_read : ReadsAnyOf pool at Beside (Some any_fields_are) all_members (Ok (body (fields_with_one_nan fs) []))
+      tagged_read : ReadsAnyOf pool table at Beside (Some any_fields_are) all_members (Ok (body (fields_with_one_nan fs) []))
       tagged_read =
-          after_ok (only_tag (tags all_members)) (Some (url_at, read.string url)) (λ v r. ReadsTagged pool at Beside any_fields_are all_members v r)
+          after_ok (only_tag (tags all_members)) (Some (url_at, read.string url)) (λ v r. ReadsTagged pool table at Beside any_fields_are all_members v r)
           (Ok (body (fields_with_one_nan fs) [])) tag_is
-          (subst (λ (o : Option ℕ). ReadsNamed pool at Beside any_fields_are url_at (option_map (λ t. (url, t)) o) (Ok (body (fields_with_one_nan fs) []))) (sym h.named) named_read)
+          (subst (λ (o : Option ℕ). ReadsNamed pool table at Beside any_fields_are url_at (option_map (λ t. (url, t)) o) (Ok (body (fields_with_one_nan fs) []))) (sym h.named) named_read)
 
     module _ (m : ℕ) (fs : Fields) (all : message_fields pool m ≡ type_url ∷ any_value ∷ []) (at : ℕ) (j : read.Json) where
       abbrev IsAnyRead : Type 0
-      IsAnyRead = ReadsAnyObject pool rules m at j (Ok (body (fields_with_one_nan fs) [])) × (is_null j ≡ true → ⊥)
+      IsAnyRead = ReadsAnyObject pool rules table m at j (Ok (body (fields_with_one_nan fs) [])) × (is_null j ≡ true → ⊥)
 
       none_read : fs ≡ no_fields → Means (any_json pool Inside fs) j → IsAnyRead
       none_read none means =
           let here : Means (written.object written.no_members) j = subst (λ (gs : Fields). Means (any_json pool Inside gs) j) none means in
           let is : j ≡ read.object read.no_members = here.1 ∙ ap (λ (rs : read.Members). read.object rs) here.2 in
-          let reads : ReadsAnyObject pool rules m at (read.object read.no_members) (Ok (body no_fields [])) =
-          subst (λ (l : List FieldView). ReadsAnyOf pool at (λ meant r. ReadsBeside pool rules meant nothing read.no_members r) (any_fields l) read.no_members (Ok (body no_fields []))) (sym all) refl in
-          let whole : ReadsAnyObject pool rules m at (read.object read.no_members) (Ok (body (fields_with_one_nan fs) [])) =
-          subst (λ (gs : Fields). ReadsAnyObject pool rules m at (read.object read.no_members) (Ok (body (fields_with_one_nan gs) []))) (sym none) reads in
-          (subst (λ (i : read.Json). ReadsAnyObject pool rules m at i (Ok (body (fields_with_one_nan fs) []))) (sym is) whole, λ null. absurd (cc (rw is at null)))
+          let reads : ReadsAnyObject pool rules table m at (read.object read.no_members) (Ok (body no_fields [])) =
+          subst (λ (l : List FieldView). ReadsAnyOf pool table at (λ meant r. ReadsBeside pool rules table meant nothing read.no_members r) (any_fields l) read.no_members (Ok (body no_fields []))) (sym all) refl in
+          let whole : ReadsAnyObject pool rules table m at (read.object read.no_members) (Ok (body (fields_with_one_nan fs) [])) =
+          subst (λ (gs : Fields). ReadsAnyObject pool rules table m at (read.object read.no_members) (Ok (body (fields_with_one_nan gs) []))) (sym none) reads in
+          (subst (λ (i : read.Json). ReadsAnyObject pool rules table m at i (Ok (body (fields_with_one_nan fs) []))) (sym is) whole, λ null. absurd (cc (rw is at null)))
 
       held_read : IsAny fs → HoldsMessage pool Inner fs → Means (any_json pool Inside fs) j → IsAnyRead
       held_read any h means = of_object (subst (λ (w : written.Json). Means w j) (any_written pool is_pool Inside Inner fs any h) means)
@@ -248,10 +249,10 @@ module _ (pool : Types) (names : Names) (rules : JsonRules) (is_pool : IsPool po
               let same : j ≡ read.object (read.member name_at (codes "@type") url_at (read.string (string_at 1 fs)) rest) =
               is ∙ ap (λ (ms : read.Members). read.object ms) (e ∙ ap (λ (k : read.Json). read.member name_at (codes "@type") url_at k rest) url_is) in
               let reads =
-              subst (λ (l : List FieldView). ReadsAnyOf pool at (λ meant r. ReadsBeside pool rules meant nothing (read.member name_at (codes "@type") url_at (read.string (string_at 1 fs)) rest) r)
+              subst (λ (l : List FieldView). ReadsAnyOf pool table at (λ meant r. ReadsBeside pool rules table meant nothing (read.member name_at (codes "@type") url_at (read.string (string_at 1 fs)) rest) r)
               (any_fields l) (read.member name_at (codes "@type") url_at (read.string (string_at 1 fs)) rest) (Ok (body (fields_with_one_nan fs) []))) (sym all)
               (tagged_read fs any h at name_at url_at rest later) in
-              (subst (λ (k : read.Json). ReadsAnyObject pool rules m at k (Ok (body (fields_with_one_nan fs) []))) (sym same) reads, λ null. absurd (cc (rw same at null)))
+              (subst (λ (k : read.Json). ReadsAnyObject pool rules table m at k (Ok (body (fields_with_one_nan fs) []))) (sym same) reads, λ null. absurd (cc (rw same at null)))
 
       pub any_read : AreFields pool (type_url ∷ any_value ∷ []) fs → RisesFrom 0 fs → (fs ≡ no_fields) ⊎ HoldsMessage pool Inner fs → Means (any_json pool Inside fs) j → IsAnyRead
       any_read are rise (inl none) means = none_read none means
@@ -263,11 +264,11 @@ members_value : (c : Bool) (j : written.Json) → IsJsonValue j → AreJsonMembe
 members_value true (written.object ms) h = h
 members_value c j h = (ascii_utf8 (codes "value") refl, h, tt)
 
-pub any_is_value : (pool : Types) (is_pool : IsPool pool) (names : Names) (Inside : ℕ → Message → written.Json) (Inner : ℕ → Message → Type 0)
-    → AreValues pool is_pool names Inside Inner → (fs : Fields) → AreFields pool (type_url ∷ any_value ∷ []) fs → RisesFrom 0 fs
+pub any_is_value : (pool : Types) (is_pool : IsPool pool) (names : Names) (apt : AreMemberNames names) (Inside : ℕ → Message → written.Json)
+    (Inner : ℕ → Message → Type 0) → AreValues pool is_pool names apt Inside Inner → (fs : Fields) → AreFields pool (type_url ∷ any_value ∷ []) fs → RisesFrom 0 fs
     → (fs ≡ no_fields) ⊎ HoldsMessage pool Inner fs → IsJsonValue (any_json pool Inside fs)
-any_is_value pool is_pool names Inside Inner inner fs are rise (inl none) = subst (λ (gs : Fields). IsJsonValue (any_json pool Inside gs)) (sym none) tt
-any_is_value pool is_pool names Inside Inner inner fs are rise (inr h) =
+any_is_value pool is_pool names apt Inside Inner inner fs are rise (inl none) = subst (λ (gs : Fields). IsJsonValue (any_json pool Inside gs)) (sym none) tt
+any_is_value pool is_pool names apt Inside Inner inner fs are rise (inr h) =
     let any = any_held pool fs are rise in
     let held = inner h.message_type h.held h.well_formed.parts h.covered in
     subst IsJsonValue (sym (any_written pool is_pool Inside Inner fs any h))

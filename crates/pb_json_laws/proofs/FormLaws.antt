@@ -36,6 +36,7 @@ use Rattle.pb_json.specs.WellKnown.{is_null_enum, well_known}
 use Rattle.pb_json_scalars.specs.declared.times.Time.{Time}
 use Rattle.pb_json_scalars.specs.Clock.{duration, time, timestamp}
 use Rattle.pb_json_scalars.specs.Paths.{mask_paths}
+use Rattle.pb_json.specs.Given.{NamesGiven}
 use Rattle.pb_json_text.specs.Json as read
 use Rattle.pb_json_read.specs.declared.rules.JsonRules.{JsonRules}
 use Rattle.pb_json_read.specs.Forms.{ReadsAlone, ReadsForm, Where, mask_message, time_message}
@@ -184,10 +185,10 @@ module _ (pool : Types) (names : Names) (Inside : ℕ → Message → written.Js
           → body (field 1 (one (scalar (with_one_nan x))) no_fields) [] ≡ (with_held shape.Implicit 1 (Some (one (scalar (with_one_nan x)))) nothing).message
       put_value x e = rw e refl
 
-pub wrapper_read : (pool : Types) (names : Names) (rules : JsonRules) (Inside : ℕ → Message → written.Json) (k : Kind) → IsWrapped k → (fs : Fields) → AreFields pool (wrapped k ∷ []) fs
+pub wrapper_read : (pool : Types) (names : Names) (table : NamesGiven) (rules : JsonRules) (Inside : ℕ → Message → written.Json) (k : Kind) → IsWrapped k → (fs : Fields) → AreFields pool (wrapped k ∷ []) fs
     → RisesFrom 0 fs → (at : ℕ) (j : read.Json) → Means (only_json pool names Inside form.Wrapper (wrapped k ∷ []) fs) j
-    → ReadsAlone (field_numbered 1 (wrapped k ∷ [])) at (FlatOf pool rules at j) (Ok (body (fields_with_one_nan fs) []))
-wrapper_read pool names rules Inside k is_wrapped fs are rise at j means =
+    → ReadsAlone (field_numbered 1 (wrapped k ∷ [])) at (FlatOf pool rules table at j) (Ok (body (fields_with_one_nan fs) []))
+wrapper_read pool names table rules Inside k is_wrapped fs are rise at j means =
     let w = wrapper_json pool names Inside k is_wrapped fs are rise in
     let here : Means (scalar_json pool k w.0) j = subst (λ (x : written.Json). Means x j) w.2 means in (
       Ok (Some (one (scalar (with_one_nan w.0)))),
@@ -209,22 +210,22 @@ finite_none false h = absurd (cc)
 
 -- ---- types that hold other values
 
-module _ (pool : Types) (names : Names) (rules : JsonRules) (is_pool : IsPool pool) (named : NamesAreRead names pool) where
-  module _ (Inside : ℕ → Message → written.Json) (Inner : ℕ → Message → Type 0) (back : AreReadBack pool names rules is_pool named Inside Inner) where
+module _ (pool : Types) (names : Names) (table : NamesGiven) (rules : JsonRules) (is_pool : IsPool pool) (named : NamesAreRead names table pool) where
+  module _ (Inside : ℕ → Message → written.Json) (Inner : ℕ → Message → Type 0) (back : AreReadBack pool names table rules is_pool named Inside Inner) where
     -- what is read of a type that is what its one field holds, and which form of JSON value it is
     abbrev ReadsSoleOf : FieldView → ℕ → WellKnown → Fields → Type 0
     ReadsSoleOf f n w fs = AreCoveredFields pool Inner (f ∷ []) fs → (at : ℕ) (j : read.Json) → Means (only_json pool names Inside w (f ∷ []) fs) j
-        → ReadsAlone (field_numbered 1 (f ∷ [])) at (FlatOf pool rules at j) (Ok (body (fields_with_one_nan fs) [])) × (field_for j ≡ n)
+        → ReadsAlone (field_numbered 1 (f ∷ [])) at (FlatOf pool rules table at j) (Ok (body (fields_with_one_nan fs) [])) × (field_for j ≡ n)
 
     -- a Struct
     map_read : (v : MessageId) (es : Entries) → AreEntries pool kind.Text (kind.Message v) es → KeysRise es → AreCoveredEntries pool Inner (kind.Message v) es
         → (at : ℕ) (j : read.Json) → Means (written.object (entries_json pool names Inside (kind.Message v) es)) j
-        → FlatOf pool rules at j (shape.Map kind.Text) (kind.Message v) (Ok (Some (map (entries_with_one_nan es)))) × (field_for j ≡ 5)
+        → FlatOf pool rules table at j (shape.Map kind.Text) (kind.Message v) (Ok (Some (map (entries_with_one_nan es)))) × (field_for j ≡ 5)
     map_read v es are rise covered at j (rs, e, means) = (
       (
         Ok (entries_with_one_nan es),
-        subst (λ (i : read.Json). ReadsMap pool rules kind.Text (kind.Message v) at i (Ok (entries_with_one_nan es))) (sym e)
-            (entries_read pool names rules is_pool named Inside Inner back kind.Text (kind.Message v) es are rise tt refl covered no_entries (first_before es) rs means),
+        subst (λ (i : read.Json). ReadsMap pool rules table kind.Text (kind.Message v) at i (Ok (entries_with_one_nan es))) (sym e)
+            (entries_read pool names table rules is_pool named Inside Inner back kind.Text (kind.Message v) es are rise tt refl covered no_entries (first_before es) rs means),
         refl,
       ),
       ap field_for e,
@@ -255,12 +256,12 @@ module _ (pool : Types) (names : Names) (rules : JsonRules) (is_pool : IsPool po
     -- a ListValue
     list_read : (v : MessageId) (ds : Datums) → AreDatums pool (kind.Message v) ds → datums_declared pool (kind.Message v) ds ≡ true → AreCoveredDatums pool Inner (kind.Message v) ds
         → (at : ℕ) (j : read.Json) → Means (written.array (elements_json pool names Inside (kind.Message v) ds)) j
-        → FlatOf pool rules at j (shape.List false) (kind.Message v) (Ok (Some (list (datums_with_one_nan ds)))) × (field_for j ≡ 6)
+        → FlatOf pool rules table at j (shape.List false) (kind.Message v) (Ok (Some (list (datums_with_one_nan ds)))) × (field_for j ≡ 6)
     list_read v ds are declares covered at j (rs, e, means) = (
       (
         Ok (datums_with_one_nan ds),
-        subst (λ (i : read.Json). ReadsList pool rules (kind.Message v) at i (Ok (datums_with_one_nan ds))) (sym e)
-            (elements_read pool names rules is_pool named Inside Inner back (kind.Message v) ds are declares covered no_datums rs means),
+        subst (λ (i : read.Json). ReadsList pool rules table (kind.Message v) at i (Ok (datums_with_one_nan ds))) (sym e)
+            (elements_read pool names table rules is_pool named Inside Inner back (kind.Message v) ds are declares covered no_datums rs means),
         refl,
       ),
       ap field_for e,
@@ -288,23 +289,23 @@ module _ (pool : Types) (names : Names) (rules : JsonRules) (is_pool : IsPool po
     abbrev ReadsChosen : List FieldView → FieldView → Type 0
     ReadsChosen all f = (h : Holding) → Holds pool h f → IsCoveredHolding pool Inner f.kind h → held_cause h ≡ None → (at : ℕ) (j : read.Json)
         → Means (holding_json pool names Inside f.kind h) j
-        → ReadsAlone (field_numbered (field_for j) all) at (DeepOf pool rules at j) (Ok (body (field f.number (holding_with_one_nan h) no_fields) []))
+        → ReadsAlone (field_numbered (field_for j) all) at (DeepOf pool rules table at j) (Ok (body (field f.number (holding_with_one_nan h) no_fields) []))
 
     choice_read : (all : List FieldView) (name : List ℕ) (n : ℕ) (k : Kind) (at : ℕ) (j : read.Json) (d : Datum)
         → field_numbered (field_for j) all ≡ Some (declared name n k (shape.OneofMember 0))
-        → ReadsSingle pool rules k at j (NestedOf pool rules at j) (Ok (Some d))
-        → ReadsAlone (field_numbered (field_for j) all) at (DeepOf pool rules at j) (Ok (body (field n (one d) no_fields) []))
+        → ReadsSingle pool rules k at j (NestedOf pool rules table at j) (Ok (Some d))
+        → ReadsAlone (field_numbered (field_for j) all) at (DeepOf pool rules table at j) (Ok (body (field n (one d) no_fields) []))
     choice_read all name n k at j d found single =
-        subst (λ (o : Option FieldView). ReadsAlone o at (DeepOf pool rules at j) (Ok (body (field n (one d) no_fields) []))) (sym found)
+        subst (λ (o : Option FieldView). ReadsAlone o at (DeepOf pool rules table at j) (Ok (body (field n (one d) no_fields) []))) (sym found)
         (Ok (Some (one d)), (Ok (Some d), single, refl), refl)
 
     -- the message of a type that is what its field 1 holds
-    nested_read : (m at : ℕ) (j : read.Json) (o : Read Message) → is_sole (well_known pool m) ≡ true → ReadsMessage pool rules m at j o → NestedOf pool rules at j m o
+    nested_read : (m at : ℕ) (j : read.Json) (o : Read Message) → is_sole (well_known pool m) ≡ true → ReadsMessage pool rules table m at j o → NestedOf pool rules table at j m o
     nested_read m at j o = by_form (well_known pool m)
       where
         by_form : (w : WellKnown) → is_sole w ≡ true
-            → ReadsForm pool rules at j (λ key e r. ReadsMap pool rules key e at j r) (λ e r. ReadsList pool rules e at j r) w (λ r. ReadsObject pool rules m at j r) (λ r. ReadsAnyObject pool rules m at j r) m o
-            → Where (is_sole w) at (SoleOf pool rules at j m) o
+            → ReadsForm pool rules at j (λ key e r. ReadsMap pool rules table key e at j r) (λ e r. ReadsList pool rules table e at j r) w (λ r. ReadsObject pool rules table m at j r) (λ r. ReadsAnyObject pool rules table m at j r) m o
+            → Where (is_sole w) at (SoleOf pool rules table at j m) o
         by_form form.Wrapper is h = h
         by_form form.Struct is h = h
         by_form form.ListValue is h = h
@@ -378,7 +379,7 @@ module _ (pool : Types) (names : Names) (rules : JsonRules) (is_pool : IsPool po
 
         pub dynamic_read : (fs : Fields) → AreFields pool (choices e s l) fs → HasOneMemberEach (choices e s l) fs → AreCoveredFields pool Inner (choices e s l) fs
             → value_cause fs ≡ None → (at : ℕ) (j : read.Json) → Means (only_json pool names Inside form.Value (choices e s l) fs) j
-            → ReadsAlone (field_numbered (field_for j) (choices e s l)) at (DeepOf pool rules at j) (Ok (body (fields_with_one_nan fs) []))
+            → ReadsAlone (field_numbered (field_for j) (choices e s l)) at (DeepOf pool rules table at j) (Ok (body (fields_with_one_nan fs) []))
         dynamic_read no_fields are alone covered none at j means = absurd (cc)
         dynamic_read (field n h fs) are alone covered none at j means =
             let all = choices e s l in
@@ -388,7 +389,7 @@ module _ (pool : Types) (names : Names) (rules : JsonRules) (is_pool : IsPool po
             let cover : IsCoveredHolding pool Inner f.kind h = subst (λ (o : Option FieldView). IsSomeAnd o (λ g. IsCoveredHolding pool Inner g.kind h)) c.found covered.0 in
             let here : Means (holding_json pool names Inside f.kind h) j =
             subst (λ (o : Option FieldView). Means (option_map_or (λ g. holding_json pool names Inside g.kind h) o written.null) j) c.found means in
-            subst (λ (gs : Fields). ReadsAlone (field_numbered (field_for j) all) at (DeepOf pool rules at j) (Ok (body gs [])))
+            subst (λ (gs : Fields). ReadsAlone (field_numbered (field_for j) all) at (DeepOf pool rules table at j) (Ok (body gs [])))
             (same_field f.number n (holding_with_one_nan h) (holding_with_one_nan h) no_fields (fields_with_one_nan fs) (number_found n all f c.found) refl
             (sym (ap fields_with_one_nan c.no_other)))
             (reads h c.holds cover none at j here)

@@ -21,13 +21,14 @@ use Rattle.pb_json.specs.WellKnown.{well_known}
 use Rattle.pb_json_scalars.specs.declared.times.Time.{Time}
 use Rattle.pb_json_scalars.specs.Clock.{duration, timestamp}
 use Rattle.pb_json_scalars.specs.Paths.{mask_paths}
+use Rattle.pb_json.specs.Given.{NamesGiven}
 use Rattle.pb_json_text.specs.Json as read
 use Rattle.pb_json_read.specs.declared.rules.JsonRules.{JsonRules}
 use Rattle.pb_json_read.specs.Forms.{ReadsAlone, ReadsForm, mask_message, time_message}
 use Rattle.pb_json_read.specs.Reads.{DeepOf, FlatOf, ReadsAnyObject, ReadsList, ReadsMap, ReadsMessage, ReadsObject}
 use Rattle.pb_json_read.specs.Steps.{Read, given, is_null}
 use Rattle.pb_json_read.specs.WellKnown.{field_for, is_dynamic, paths_field, string_meant, time_fields}
-use Rattle.pb_json_laws.specs.Messages.{AreCoveredFields, HoldsCovered, IsCoveredHere, IsCoveredHolding, IsCoveredWithin, NamesAreRead, fields_with_one_nan}
+use Rattle.pb_json_laws.specs.Messages.{AreCoveredFields, AreMemberNames, HoldsCovered, IsCoveredHere, IsCoveredHolding, IsCoveredWithin, NamesAreRead, fields_with_one_nan}
 use Rattle.pb_json_laws.specs.Texts.{IsJsonValue, Means}
 use Rattle.pb_json_laws.specs.WellKnown.{IsAsDeclared, choices, nanos, paths, seconds}
 use Rattle.pb_json_laws.proofs.AnyLaws.{AreObjects, any_is_value, any_read}
@@ -58,23 +59,23 @@ mask_null f at b j reads null = absurd (cc)
 
 -- ---- messages are read back
 
-module _ (pool : Types) (names : Names) (rules : JsonRules) (is_pool : IsPool pool) (named : NamesAreRead names pool) where
-  module _ (Inside : ℕ → Message → written.Json) (Inner : ℕ → Message → Type 0) (back : AreReadBack pool names rules is_pool named Inside Inner) (objects : AreObjects pool Inside Inner) where
+module _ (pool : Types) (names : Names) (table : NamesGiven) (rules : JsonRules) (is_pool : IsPool pool) (apt : AreMemberNames names) (named : NamesAreRead names table pool) where
+  module _ (Inside : ℕ → Message → written.Json) (Inner : ℕ → Message → Type 0) (back : AreReadBack pool names table rules is_pool named Inside Inner) (objects : AreObjects pool Inside Inner) where
     -- by the form of the type
     module _ (m : ℕ) (fs : Fields) (is : IsBody pool m (body fs [])) (covered : AreCoveredFields pool Inner (message_fields pool m) fs) (at : ℕ) (j : read.Json) where
       abbrev IsReadAs : WellKnown → Type 0
       IsReadAs w =
-          ReadsForm pool rules at j (λ key e r. ReadsMap pool rules key e at j r) (λ e r. ReadsList pool rules e at j r) w (λ r. ReadsObject pool rules m at j r)
-          (λ r. ReadsAnyObject pool rules m at j r) m (Ok (body (fields_with_one_nan fs) []))
+          ReadsForm pool rules at j (λ key e r. ReadsMap pool rules table key e at j r) (λ e r. ReadsList pool rules table e at j r) w (λ r. ReadsObject pool rules table m at j r)
+          (λ r. ReadsAnyObject pool rules table m at j r) m (Ok (body (fields_with_one_nan fs) []))
           × (is_null j ≡ true → is_dynamic w ≡ true) × IsOfForm w j
 
       abbrev AreMeant : WellKnown → List FieldView → Type 0
       AreMeant w all = Means (only_json pool names Inside w all fs) j
 
       -- what one field holds, in a type that has these fields
-      sole : (all : List FieldView) → message_fields pool m ≡ all → ReadsAlone (field_numbered 1 all) at (FlatOf pool rules at j) (Ok (body (fields_with_one_nan fs) []))
-          → ReadsAlone (field_numbered 1 (message_fields pool m)) at (FlatOf pool rules at j) (Ok (body (fields_with_one_nan fs) []))
-      sole all e h = subst (λ (l : List FieldView). ReadsAlone (field_numbered 1 l) at (FlatOf pool rules at j) (Ok (body (fields_with_one_nan fs) []))) (sym e) h
+      sole : (all : List FieldView) → message_fields pool m ≡ all → ReadsAlone (field_numbered 1 all) at (FlatOf pool rules table at j) (Ok (body (fields_with_one_nan fs) []))
+          → ReadsAlone (field_numbered 1 (message_fields pool m)) at (FlatOf pool rules table at j) (Ok (body (fields_with_one_nan fs) []))
+      sole all e h = subst (λ (l : List FieldView). ReadsAlone (field_numbered 1 l) at (FlatOf pool rules table at j) (Ok (body (fields_with_one_nan fs) []))) (sym e) h
 
       fields_in : (all : List FieldView) → message_fields pool m ≡ all → AreFields pool all fs
       fields_in all e = subst (λ (l : List FieldView). AreFields pool l fs) e is.0
@@ -86,30 +87,30 @@ module _ (pool : Types) (names : Names) (rules : JsonRules) (is_pool : IsPool po
       meant_in w all e means = subst (AreMeant w) e means
 
       by_form : (w : WellKnown) → IsAsDeclared pool w (message_fields pool m) → own_cause w fs ≡ None → HoldsCovered pool Inner w fs
-          → Means (in_form w fs (fields_json pool names Inside (message_fields pool m) fs) (only_json pool names Inside w (message_fields pool m) fs) (any_json pool Inside fs)) j
+          → Means (in_form w fs (fields_json pool names Inside m fs) (only_json pool names Inside w (message_fields pool m) fs) (any_json pool Inside fs)) j
           → IsReadAs w
       by_form form.Other has none holds means =
-          (object_read pool names rules is_pool named Inside Inner back m fs is covered at j means, λ null. absurd (cc (rw means.1 at null)), tt)
+          (object_read pool names table rules is_pool named Inside Inner back m fs is covered at j means, λ null. absurd (cc (rw means.1 at null)), tt)
       by_form form.Wrapper (k, wraps, e) none holds means =
           let here = meant_in form.Wrapper _ e means in
           let w = wrapper_json pool names Inside k wraps fs (fields_in _ e) is.1 in
           let value : Means (scalar_json pool k w.0) j = subst (λ (x : written.Json). Means x j) w.2 here in (
-            sole _ e (wrapper_read pool names rules Inside k wraps fs (fields_in _ e) is.1 at j here),
+            sole _ e (wrapper_read pool names table rules Inside k wraps fs (fields_in _ e) is.1 at j here),
             λ null. absurd (let a = scalar_null pool k w.0 j value null in let b = (plain_kind k wraps).not_null pool in cc),
             tt,
           )
       by_form form.Struct (v, value_is, e) none holds means =
-          let r = struct_read pool names rules is_pool named Inside Inner back v fs (fields_in _ e) is.1 (covered_in _ e) at j (meant_in form.Struct _ e means) in
+          let r = struct_read pool names table rules is_pool named Inside Inner back v fs (fields_in _ e) is.1 (covered_in _ e) at j (meant_in form.Struct _ e means) in
           (sole _ e r.0, λ null. absurd (let a = null_field j null in let b = r.1 in omega (arith, a, b)), r.1)
       by_form form.ListValue (v, value_is, e) none holds means =
-          let r = list_value_read pool names rules is_pool named Inside Inner back v fs (fields_in _ e) is.1 (covered_in _ e) at j (meant_in form.ListValue _ e means) in
+          let r = list_value_read pool names table rules is_pool named Inside Inner back v fs (fields_in _ e) is.1 (covered_in _ e) at j (meant_in form.ListValue _ e means) in
           (sole _ e r.0, λ null. absurd (let a = null_field j null in let b = r.1 in omega (arith, a, b)), r.1)
       by_form form.Value (e, s, l, null, struct_is, list_is, all) none holds means =
           let alone : HasOneMemberEach (choices e s l) fs = subst (λ (l : List FieldView). HasOneMemberEach l fs) all is.2 in
           let r =
-          dynamic_read pool names rules is_pool named Inside Inner back e s l null struct_is list_is fs (fields_in _ all) alone (covered_in _ all) none at j
+          dynamic_read pool names table rules is_pool named Inside Inner back e s l null struct_is list_is fs (fields_in _ all) alone (covered_in _ all) none at j
           (meant_in form.Value _ all means) in (
-            subst (λ (l : List FieldView). ReadsAlone (field_numbered (field_for j) l) at (DeepOf pool rules at j) (Ok (body (fields_with_one_nan fs) []))) (sym all) r,
+            subst (λ (l : List FieldView). ReadsAlone (field_numbered (field_for j) l) at (DeepOf pool rules table at j) (Ok (body (fields_with_one_nan fs) []))) (sym all) r,
             λ null. refl,
             tt,
           )
@@ -132,20 +133,20 @@ module _ (pool : Types) (names : Names) (rules : JsonRules) (is_pool : IsPool po
             tt,
           )
       by_form form.Any e none holds means =
-          let r = any_read pool names rules is_pool named Inside Inner back objects m fs e at j (fields_in _ e) is.1 holds means in (r.0, λ null. absurd (r.1 null), tt)
+          let r = any_read pool names table rules is_pool named Inside Inner back objects m fs e at j (fields_in _ e) is.1 holds means in (r.0, λ null. absurd (r.1 null), tt)
 
     -- a message of one level more
-    here_read : AreReadBack pool names rules is_pool named (message_here pool names Inside) (IsCoveredHere pool Inner)
+    here_read : AreReadBack pool names table rules is_pool named (message_here pool names Inside) (IsCoveredHere pool Inner)
     here_read m (body fs us) is (has, none, holds, known, covered) at j means =
         let whole : IsBody pool m (body fs []) = subst (λ (u : List Record). IsBody pool m (body fs u)) known is in
         let r = by_form m fs whole covered at j (well_known pool m) has none holds means in
-        (subst (λ (u : List Record). ReadsMessage pool rules m at j (Ok (body (fields_with_one_nan fs) u))) (sym known) r.0, r.1, r.2)
+        (subst (λ (u : List Record). ReadsMessage pool rules table m at j (Ok (body (fields_with_one_nan fs) u))) (sym known) r.0, r.1, r.2)
 
-  pub messages_read : (levels : ℕ) → AreReadBack pool names rules is_pool named (message_json pool names levels) (IsCoveredWithin pool levels)
+  pub messages_read : (levels : ℕ) → AreReadBack pool names table rules is_pool named (message_json pool names levels) (IsCoveredWithin pool levels)
   unfolding message_json IsCoveredWithin
   messages_read zero m b is covered at j means = absurd covered
   messages_read (suc levels) m b is covered at j means =
-      here_read (message_json pool names levels) (IsCoveredWithin pool levels) (messages_read levels) (objects_at pool is_pool names levels) m b is covered at j means
+      here_read (message_json pool names levels) (IsCoveredWithin pool levels) (messages_read levels) (objects_at pool is_pool names apt levels) m b is covered at j means
 
 -- ---- messages are JSON values
 
@@ -163,8 +164,8 @@ span_value s n fits = by_test (is_span s n) refl
     by_test true is = span_plain s n fits is
     by_test false is = tt
 
-module _ (pool : Types) (is_pool : IsPool pool) (names : Names) where
-  module _ (Inside : ℕ → Message → written.Json) (Inner : ℕ → Message → Type 0) (inner : AreValues pool is_pool names Inside Inner) where
+module _ (pool : Types) (is_pool : IsPool pool) (names : Names) (apt : AreMemberNames names) where
+  module _ (Inside : ℕ → Message → written.Json) (Inner : ℕ → Message → Type 0) (inner : AreValues pool is_pool names apt Inside Inner) where
     only_value : (w : WellKnown) (all : List FieldView) (fs : Fields) → AreFields pool all fs → AreCoveredFields pool Inner all fs
         → IsJsonValue (absent_json pool w all) → IsJsonValue (only_json pool names Inside w all fs)
     only_value w all no_fields are covered absent = absent
@@ -173,12 +174,12 @@ module _ (pool : Types) (is_pool : IsPool pool) (names : Names) where
         let f : FieldView = found.0 in
         let cover : IsCoveredHolding pool Inner f.kind h = subst (λ (o : Option FieldView). IsSomeAnd o (λ g. IsCoveredHolding pool Inner g.kind h)) found.1 covered.0 in
         subst (λ (o : Option FieldView). IsJsonValue (option_map_or (λ g. holding_json pool names Inside g.kind h) o written.null)) (sym found.1)
-        (holding_value pool is_pool names Inside Inner inner f.shape f.kind h found.2.1 cover)
+        (holding_value pool is_pool names apt Inside Inner inner f.shape f.kind h found.2.1 cover)
 
     module _ (m : ℕ) (fs : Fields) (is : IsBody pool m (body fs [])) (covered : AreCoveredFields pool Inner (message_fields pool m) fs) where
       value_by : (w : WellKnown) → IsAsDeclared pool w (message_fields pool m) → HoldsCovered pool Inner w fs
-          → IsJsonValue (in_form w fs (fields_json pool names Inside (message_fields pool m) fs) (only_json pool names Inside w (message_fields pool m) fs) (any_json pool Inside fs))
-      value_by form.Other has holds = fields_value pool is_pool names Inside Inner inner m fs is.0 covered
+          → IsJsonValue (in_form w fs (fields_json pool names Inside m fs) (only_json pool names Inside w (message_fields pool m) fs) (any_json pool Inside fs))
+      value_by form.Other has holds = fields_value pool is_pool names apt Inside Inner inner m fs is.0 covered
       value_by form.Wrapper (k, wraps, e) holds =
           let w = wrapper_json pool names Inside k wraps fs (subst (λ (l : List FieldView). AreFields pool l fs) e is.0) is.1 in
           let same : only_json pool names Inside form.Wrapper (message_fields pool m) fs ≡ scalar_json pool k w.0 =
@@ -196,14 +197,14 @@ module _ (pool : Types) (is_pool : IsPool pool) (names : Names) where
           let p = mask_held pool fs (subst (λ (l : List FieldView). AreFields pool l fs) e is.0) is.1 in
           let a : strings_at 1 fs ≡ p.all = ap (strings_at 1) p.is ∙ paths_back p.all in
           subst (λ (l : List (List ℕ)). IsUtf8 (mask_text l)) (sym a) (mask_utf8 p.all p.utf8)
-      value_by form.Any e holds = any_is_value pool is_pool names Inside Inner inner fs (subst (λ (l : List FieldView). AreFields pool l fs) e is.0) is.1 holds
+      value_by form.Any e holds = any_is_value pool is_pool names apt Inside Inner inner fs (subst (λ (l : List FieldView). AreFields pool l fs) e is.0) is.1 holds
 
-    here_value : AreValues pool is_pool names (message_here pool names Inside) (IsCoveredHere pool Inner)
+    here_value : AreValues pool is_pool names apt (message_here pool names Inside) (IsCoveredHere pool Inner)
     here_value m (body fs us) is (has, none, holds, known, covered) =
         let whole : IsBody pool m (body fs []) = subst (λ (u : List Record). IsBody pool m (body fs u)) known is in
         value_by m fs whole covered (well_known pool m) has holds
 
-  pub message_value : (levels : ℕ) → AreValues pool is_pool names (message_json pool names levels) (IsCoveredWithin pool levels)
+  pub message_value : (levels : ℕ) → AreValues pool is_pool names apt (message_json pool names levels) (IsCoveredWithin pool levels)
   unfolding message_json IsCoveredWithin
   message_value zero m b is covered = absurd covered
   message_value (suc levels) m b is covered = here_value (message_json pool names levels) (IsCoveredWithin pool levels) (message_value levels) m b is covered

@@ -1,6 +1,6 @@
 -- What a message is as JSON is read as the message.
 use Rattle.std.proofs.Common.{◌≡◌, ℕ, ◌+◌, ◌≤◌, Bool, true, false, cond, ◌&&◌, not, eqb, List, [], ◌∷◌, Option, Some, None, IfSome, IsSomeAnd, Ok, inl, inr, refl, sym, ap, ◌∙◌, subst, arith, eqb-true}
-use Rattle.std.specs.Prelude.{max, is_some, option_map}
+use Rattle.std.specs.Prelude.{option_map}
 use Rattle.std.specs.Option.{option_map_or}
 use Rattle.std.specs.BTreeSet.{insert_key}
 use Rattle.std.specs.Ordering.{nat_cmp}
@@ -27,8 +27,9 @@ use Rattle.pb_json.specs.declared.well_known.WellKnown.{WellKnown}
 use Rattle.pb_json.specs.declared.well_known.WellKnown.TheVariants.{ListValue, Struct}
 use Rattle.pb_json.specs.Json as written
 use Rattle.pb_json.specs.JsonNames.{member_name}
-use Rattle.pb_json.specs.Mapping.{datum_json, elements_json, entries_json, fields_json, float_json, holding_json, in_form, key_name, maybe_member, message_here, message_json, named_json, only_json, scalar_json}
+use Rattle.pb_json.specs.Mapping.{datum_json, elements_json, entries_json, fields_json, float_json, holding_json, key_name, maybe_member, named_json, scalar_json}
 use Rattle.pb_json.specs.WellKnown.{is_null_enum, well_known}
+use Rattle.pb_json.specs.Given.{NamesGiven}
 use Rattle.pb_json_text.specs.Json as read
 use Rattle.pb_json_read.specs.declared.rules.JsonRules.{JsonRules}
 use Rattle.pb_json_read.specs.Names.{field_meant}
@@ -202,24 +203,24 @@ IsOfForm Struct j = field_for j ≡ 5
 IsOfForm ListValue j = field_for j ≡ 6
 IsOfForm w j = Unit {0}
 
-module _ (pool : Types) (names : Names) (rules : JsonRules) (is_pool : IsPool pool) (named : NamesAreRead names pool) where
+module _ (pool : Types) (names : Names) (table : NamesGiven) (rules : JsonRules) (is_pool : IsPool pool) (named : NamesAreRead names table pool) where
   -- what messages of fewer levels are as JSON is read so
   abbrev pub AreReadBack : (ℕ → Message → written.Json) → (ℕ → Message → Type 0) → Type 0
   AreReadBack Inside Inner = (m : ℕ) (b : Message) → IsBody pool m b → Inner m b → (at : ℕ) (j : read.Json) → Means (Inside m b) j
-      → ReadsMessage pool rules m at j (Ok (message_with_one_nan b)) × (is_null j ≡ true → is_dynamic (well_known pool m) ≡ true) × IsOfForm (well_known pool m) j
+      → ReadsMessage pool rules table m at j (Ok (message_with_one_nan b)) × (is_null j ≡ true → is_dynamic (well_known pool m) ≡ true) × IsOfForm (well_known pool m) j
 
   module _ (Inside : ℕ → Message → written.Json) (Inner : ℕ → Message → Type 0) (back : AreReadBack Inside Inner) where
     datum_read : (k : Kind) (d : Datum) → IsDatum pool k d → datum_declared pool k d ≡ true → IsCoveredDatum pool Inner k d → (at : ℕ) (j : read.Json)
-        → Means (datum_json pool names Inside k d) j → ReadsValue pool rules k at j (Ok (Some (datum_with_one_nan d)))
+        → Means (datum_json pool names Inside k d) j → ReadsValue pool rules table k at j (Ok (Some (datum_with_one_nan d)))
     datum_read k (scalar x) is declared covered at j means =
-        value_plain pool rules k at j (Ok (Some (scalar (with_one_nan x)))) (no_message k x is) (value_read pool is_pool k x j is declared covered means)
+        value_plain pool rules table k at j (Ok (Some (scalar (with_one_nan x)))) (no_message k x is) (value_read pool is_pool k x j is declared covered means)
     datum_read k (message b) is declared covered at j means = of_type (message_of_kind k) refl is covered means
       where
         of_type : (o : Option ℕ) → message_of_kind k ≡ o → IsSomeAnd o (λ m. IsBody pool m b) → IsSomeAnd o (λ m. Inner m b)
-            → Means (option_map_or (λ m. Inside m b) o written.null) j → ReadsValue pool rules k at j (Ok (Some (message (message_with_one_nan b))))
+            → Means (option_map_or (λ m. Inside m b) o written.null) j → ReadsValue pool rules table k at j (Ok (Some (message (message_with_one_nan b))))
         of_type None e is covered means = absurd is
         of_type (Some m) e is covered means =
-            value_inside pool rules k at m j (Ok (Some (message (message_with_one_nan b)))) e
+            value_inside pool rules table k at m j (Ok (Some (message (message_with_one_nan b)))) e
             (Ok (message_with_one_nan b), (back m b is covered at j means).0, refl)
 
     datum_taken : (k : Kind) (d : Datum) → IsDatum pool k d → IsCoveredDatum pool Inner k d → (at : ℕ) (j : read.Json) → Means (datum_json pool names Inside k d) j
@@ -234,40 +235,40 @@ module _ (pool : Types) (names : Names) (rules : JsonRules) (is_pool : IsPool po
 
     pub elements_read : (k : Kind) (ds : Datums) → AreDatums pool k ds → datums_declared pool k ds ≡ true → AreCoveredDatums pool Inner k ds
         → (before : Datums) (rs : read.Elements) → MeanElements (elements_json pool names Inside k ds) rs
-        → ReadsElements pool rules k before rs (Ok (joined_datums before (datums_with_one_nan ds)))
+        → ReadsElements pool rules table k before rs (Ok (joined_datums before (datums_with_one_nan ds)))
     elements_read k no_datums are declared covered before rs means =
-        subst (λ (r : read.Elements). ReadsElements pool rules k before r (Ok (joined_datums before no_datums))) (sym means)
+        subst (λ (r : read.Elements). ReadsElements pool rules table k before r (Ok (joined_datums before no_datums))) (sym means)
         (ap (λ (ds : Datums). Ok ds) (datums.joined_none before))
     elements_read k (datum d ds) are declared covered before rs (at, j, more, is, means, later) =
         let both = and_parts (datum_declared pool k d) (datums_declared pool k ds) declared in
         let first = datum_read k d are.0 both.0 covered.0 at j means in
         let rest = elements_read k ds are.1 both.1 covered.1 (joined_datums before (datum (datum_with_one_nan d) no_datums)) more later in
-        subst (λ (r : read.Elements). ReadsElements pool rules k before r (Ok (joined_datums before (datums_with_one_nan (datum d ds))))) (sym is) (
+        subst (λ (r : read.Elements). ReadsElements pool rules table k before r (Ok (joined_datums before (datums_with_one_nan (datum d ds))))) (sym is) (
           Ok (Some (datum_with_one_nan d)),
           first,
-          subst (λ (x : Datums). ReadsElements pool rules k (joined_datums before (datum (datum_with_one_nan d) no_datums)) more (Ok x))
+          subst (λ (x : Datums). ReadsElements pool rules table k (joined_datums before (datum (datum_with_one_nan d) no_datums)) more (Ok x))
               (datums.joined_more before (datum_with_one_nan d) (datums_with_one_nan ds)) rest,
         )
 
     pub entries_read : (key k : Kind) (es : Entries) → AreEntries pool key k es → KeysRise es → IsKeyKind key → closed_enum k ≡ None → AreCoveredEntries pool Inner k es
         → (before : Entries) → AreBefore before es → (ms : read.Members) → MeanMembers (entries_json pool names Inside k es) ms
-        → ReadsEntries pool rules key k before ms (Ok (joined_entries before (entries_with_one_nan es)))
+        → ReadsEntries pool rules table key k before ms (Ok (joined_entries before (entries_with_one_nan es)))
     entries_read key k no_entries are rise may unclosed covered before ahead ms means =
-        subst (λ (r : read.Members). ReadsEntries pool rules key k before r (Ok (joined_entries before no_entries))) (sym means)
+        subst (λ (r : read.Members). ReadsEntries pool rules table key k before r (Ok (joined_entries before no_entries))) (sym means)
         (ap (λ (es : Entries). Ok es) (joined_none before))
     entries_read key k (entry x d es) are rise may unclosed covered before ahead ms (name_at, at, j, more, is, means, later) =
         let d' = datum_with_one_nan d in
         let value = datum_read k d are.1 (declared d) covered.0 at j means in
         let next = joined_entries before (entry x d' no_entries) in
-        let put : ReadsEntry key (key_name x) name_at (λ r. ReadsValue pool rules k at j r) before (Ok next) = (
+        let put : ReadsEntry key (key_name x) name_at (λ r. ReadsValue pool rules table k at j r) before (Ok next) = (
           x,
           key_read key x may are.0,
-          under_free x name_at (λ r. ReadsValue pool rules k at j r) before (Ok next) (none_there x before ahead)
+          under_free x name_at (λ r. ReadsValue pool rules table k at j r) before (Ok next) (none_there x before ahead)
               (Ok (Some d'), value, ap (λ (es : Entries). Ok es) (sym (put_last x d' before ahead))),
         ) in
         let rest = entries_read key k es are.2 rise.1 may unclosed covered.1 next (next_before x d' es before rise.0 ahead) more later in
-        subst (λ (r : read.Members). ReadsEntries pool rules key k before r (Ok (joined_entries before (entries_with_one_nan (entry x d es))))) (sym is)
-        (Ok next, put, subst (λ (y : Entries). ReadsEntries pool rules key k next more (Ok y)) (joined_more before x d' (entries_with_one_nan es)) rest)
+        subst (λ (r : read.Members). ReadsEntries pool rules table key k before r (Ok (joined_entries before (entries_with_one_nan (entry x d es))))) (sym is)
+        (Ok next, put, subst (λ (y : Entries). ReadsEntries pool rules table key k next more (Ok y)) (joined_more before x d' (entries_with_one_nan es)) rest)
       where
         declared : (d : Datum) → datum_declared pool k d ≡ true
         declared (scalar x) = rw unclosed refl
@@ -276,32 +277,32 @@ module _ (pool : Types) (names : Names) (rules : JsonRules) (is_pool : IsPool po
     -- what a field holds
     content_read : (s : Shape) (k : Kind) (h : Holding) → HasKeyKind s → MayBeValue s k → IsOfShape s h → IsHeld pool s k h → holds_declared pool k h ≡ true
         → IsCoveredHolding pool Inner k h → (at : ℕ) (j : read.Json) → Means (holding_json pool names Inside k h) j
-        → ReadsContent pool rules s k at j (Ok (Some (holding_with_one_nan h)))
+        → ReadsContent pool rules table s k at j (Ok (Some (holding_with_one_nan h)))
     content_read s k h key may is held declared covered at j means =
-        content_as pool rules s k at j (Ok (Some (holding_with_one_nan h))) (by_shape s h key may is held declared covered means)
+        content_as pool rules table s k at j (Ok (Some (holding_with_one_nan h))) (by_shape s h key may is held declared covered means)
       where
         single : (d : Datum) → IsDatum pool k d → datum_declared pool k d ≡ true → IsCoveredDatum pool Inner k d
             → Means (datum_json pool names Inside k d) j
-            → Made (λ r. ReadsValue pool rules k at j r) (option_map one) (Ok (Some (one (datum_with_one_nan d))))
+            → Made (λ r. ReadsValue pool rules table k at j r) (option_map one) (Ok (Some (one (datum_with_one_nan d))))
         single d is declared covered means =
             (Ok (Some (datum_with_one_nan d)), datum_read k d is declared covered at j means, refl)
 
         by_shape : (s : Shape) (h : Holding) → HasKeyKind s → MayBeValue s k → IsOfShape s h → IsHeld pool s k h → holds_declared pool k h ≡ true
             → IsCoveredHolding pool Inner k h → Means (holding_json pool names Inside k h) j
-            → ReadsShape s (λ r. ReadsValue pool rules k at j r) (λ r. ReadsList pool rules k at j r) (λ key r. ReadsMap pool rules key k at j r)
+            → ReadsShape s (λ r. ReadsValue pool rules table k at j r) (λ r. ReadsList pool rules table k at j r) (λ key r. ReadsMap pool rules table key k at j r)
             (Ok (Some (holding_with_one_nan h)))
         by_shape shape.Implicit (one d) key may is held declared covered means = single d held declared covered means
         by_shape shape.Explicit (one d) key may is held declared covered means = single d held declared covered means
         by_shape (shape.OneofMember o) (one d) key may is held declared covered means = single d held declared covered means
         by_shape (shape.List p) (list ds) key may is held declared covered (rs, e, means) = (
           Ok (datums_with_one_nan ds),
-          subst (λ (i : read.Json). ReadsList pool rules k at i (Ok (datums_with_one_nan ds))) (sym e)
+          subst (λ (i : read.Json). ReadsList pool rules table k at i (Ok (datums_with_one_nan ds))) (sym e)
               (elements_read k ds held declared covered no_datums rs means),
           refl,
         )
         by_shape (shape.Map key_kind_of) (map es) key may is held declared covered (ms, e, means) = (
           Ok (entries_with_one_nan es),
-          subst (λ (i : read.Json). ReadsMap pool rules key_kind_of k at i (Ok (entries_with_one_nan es))) (sym e)
+          subst (λ (i : read.Json). ReadsMap pool rules table key_kind_of k at i (Ok (entries_with_one_nan es))) (sym e)
               (entries_read key_kind_of k es held.0 held.1 (key_kind key_kind_of key) (not_closed k may) covered no_entries
               (first_before es) ms means),
           refl,
@@ -329,14 +330,14 @@ module _ (pool : Types) (names : Names) (rules : JsonRules) (is_pool : IsPool po
     module _ (m : ℕ) where
       record Ended (before : Fields) (ns os : List ℕ) (fs : Fields) (rs : read.Members) : Type 0 where
         parts_are : Parts
-        reads : ReadsMembers pool rules (message_fields pool m) (parts before ns os) rs (Ok parts_are)
+        reads : ReadsMembers pool rules table (field_meant table pool m) (parts before ns os) rs (Ok parts_are)
         message_is : parts_are.message ≡ body (joined_fields before (fields_with_one_nan fs)) []
 
       member_read : (f : FieldView) (n low : ℕ) (h : Holding) → field_numbered n (message_fields pool m) ≡ Some f → IsOfShape f.shape h → IsHeld pool f.shape f.kind h
           → holds_declared pool f.kind h ≡ true → IsCoveredHolding pool Inner f.kind h → low ≤ n
           → (before : Fields) (ns os : List ℕ) → NumbersBelow low before → has n ns ≡ false → ((o : ℕ) → oneof_of f.shape ≡ Some o → has o os ≡ false)
           → (name_at at : ℕ) (j : read.Json) → Means (holding_json pool names Inside f.kind h) j
-          → ReadsField pool rules (Some f) name_at j (λ s k r. ReadsContent pool rules s k at j r) (parts before ns os)
+          → ReadsField pool rules (Some f) name_at j (λ s k r. ReadsContent pool rules table s k at j r) (parts before ns os)
           (Ok (parts (joined_fields before (field n (holding_with_one_nan h) no_fields)) (insert_key nat_cmp ns n) (oneofs_with f.shape os)))
       member_read f n low h found is held declared covered l before ns os below free alone name_at at j means =
           let rule = found_field pool m (λ g. eqb g.number n) f is_pool found in
@@ -344,11 +345,11 @@ module _ (pool : Types) (names : Names) (rules : JsonRules) (is_pool : IsPool po
           let h' = holding_with_one_nan h in
           let content = content_read f.shape f.kind h rule.key rule.value is held declared covered at j means in
           let present = content_taken f.shape f.kind h is held covered at j means in
-          subst (λ (i : ℕ). ReadsField pool rules (Some f) name_at j (λ s k r. ReadsContent pool rules s k at j r) (parts before ns os)
+          subst (λ (i : ℕ). ReadsField pool rules (Some f) name_at j (λ s k r. ReadsContent pool rules table s k at j r) (parts before ns os)
           (Ok (parts (joined_fields before (field i h' no_fields)) (insert_key nat_cmp ns i) (oneofs_with f.shape os)))) number
           (after_ok (with_number f.number name_at (parts before ns os)) (parts before (insert_key nat_cmp ns f.number) os) _ _
           (number_put f name_at before ns os (subst (λ (i : ℕ). has i ns ≡ false) (sym number) free))
-          (subst (λ (b : Bool). ReadsHeld f name_at (λ s k r. ReadsContent pool rules s k at j r) b (parts before (insert_key nat_cmp ns f.number) os)
+          (subst (λ (b : Bool). ReadsHeld f name_at (λ s k r. ReadsContent pool rules table s k at j r) b (parts before (insert_key nat_cmp ns f.number) os)
           (Ok (parts (joined_fields before (field f.number h' no_fields)) (insert_key nat_cmp ns f.number) (oneofs_with f.shape os)))) (sym present)
           (after_ok (with_oneof f.shape name_at (parts before (insert_key nat_cmp ns f.number) os))
           (parts before (insert_key nat_cmp ns f.number) (oneofs_with f.shape os)) _ _
@@ -362,19 +363,19 @@ module _ (pool : Types) (names : Names) (rules : JsonRules) (is_pool : IsPool po
       -- the fields that are read after some
       abbrev ReadLater : ℕ → Fields → Type 0
       ReadLater low fs = (before : Fields) (ns os : List ℕ) → NumbersBelow low before → ((k : ℕ) → low ≤ k → has k ns ≡ false) → AreFree (message_fields pool m) os fs
-          → (rs : read.Members) → MeanMembers (fields_json pool names Inside (message_fields pool m) fs) rs → Ended before ns os fs rs
+          → (rs : read.Members) → MeanMembers (fields_json pool names Inside m fs) rs → Ended before ns os fs rs
 
       field_read : (f : FieldView) (n low : ℕ) (h : Holding) (fs : Fields) → field_numbered n (message_fields pool m) ≡ Some f
           → IsOfShape f.shape h × IsHeld pool f.shape f.kind h × (holds_declared pool f.kind h ≡ true) → IsCoveredHolding pool Inner f.kind h → low ≤ n
           → IfSome (oneof_of f.shape) (λ o. HasNoMember (message_fields pool m) o fs) → ReadLater (n + 1) fs
           → (before : Fields) (ns os : List ℕ) → NumbersBelow low before → ((k : ℕ) → low ≤ k → has k ns ≡ false) → AreFree (message_fields pool m) os (field n h fs)
-          → (rs : read.Members) → MeanMembers (written.member (member_name names f.name) (holding_json pool names Inside f.kind h) (fields_json pool names Inside (message_fields pool m) fs)) rs
+          → (rs : read.Members) → MeanMembers (written.member (member_name names m f) (holding_json pool names Inside f.kind h) (fields_json pool names Inside m fs)) rs
           → Ended before ns os (field n h fs) rs
       field_read f n low h fs found (is, held, declared) covered l alone next before ns os below free others rs (name_at, at, j, more, e, means, means_more) =
           let all = message_fields pool m in
           let h' = holding_with_one_nan h in
-          let meant : field_meant (member_name names f.name) all ≡ Some f =
-          found_in (λ g. field_meant (member_name names g.name) all ≡ Some g) n all f (named m) found in
+          let meant : field_meant table pool m (member_name names m f) ≡ Some f =
+          found_in (λ g. field_meant table pool m (member_name names m g) ≡ Some g) n all f (named m) found in
           let now : Fields = joined_fields before (field n h' no_fields) in
           let numbers : List ℕ = insert_key nat_cmp ns n in
           let oneofs : List ℕ = oneofs_with f.shape os in
@@ -386,9 +387,9 @@ module _ (pool : Types) (names : Names) (rules : JsonRules) (is_pool : IsPool po
           record {
             parts_are = later.parts_are;
             reads =
-                subst (λ (r : read.Members). ReadsMembers pool rules all (parts before ns os) r (Ok later.parts_are)) (sym e) (
+                subst (λ (r : read.Members). ReadsMembers pool rules table (field_meant table pool m) (parts before ns os) r (Ok later.parts_are)) (sym e) (
                   Ok (parts now numbers oneofs),
-                  subst (λ (o : Option FieldView). ReadsField pool rules o name_at j (λ s k r. ReadsContent pool rules s k at j r) (parts before ns os) (Ok (parts now numbers oneofs)))
+                  subst (λ (o : Option FieldView). ReadsField pool rules o name_at j (λ s k r. ReadsContent pool rules table s k at j r) (parts before ns os) (Ok (parts now numbers oneofs)))
                       (sym meant) first,
                   later.reads,
                 );
@@ -399,7 +400,7 @@ module _ (pool : Types) (names : Names) (rules : JsonRules) (is_pool : IsPool po
           → AreCoveredFields pool Inner (message_fields pool m) fs → ReadLater low fs
       fields_read no_fields low are rise alone covered before ns os below free others rs means = record {
         parts_are = parts before ns os;
-        reads = subst (λ (r : read.Members). ReadsMembers pool rules (message_fields pool m) (parts before ns os) r (Ok (parts before ns os))) (sym means) refl;
+        reads = subst (λ (r : read.Members). ReadsMembers pool rules table (field_meant table pool m) (parts before ns os) r (Ok (parts before ns os))) (sym means) refl;
         message_is = ap (λ (gs : Fields). body gs []) (sym (joined_no_fields before));
       }
       fields_read (field n h fs) low are rise alone covered before ns os below free others rs means =
@@ -409,15 +410,15 @@ module _ (pool : Types) (names : Names) (rules : JsonRules) (is_pool : IsPool po
           (subst (λ (o : Option FieldView). IsSomeAnd o (λ f. IsCoveredHolding pool Inner f.kind h)) found.1 covered.0) rise.0
           (subst (λ (o : Option FieldView). IfSome (Rattle.std.specs.Prelude.option_and_then (λ g. oneof_of g.shape) o) (λ o. HasNoMember all o fs)) found.1 alone.0)
           (fields_read fs (n + 1) are.1 rise.1 alone.1 covered.1) before ns os below free others rs
-          (subst (λ (o : Option FieldView). MeanMembers (maybe_member (option_map (λ f. (member_name names f.name, holding_json pool names Inside f.kind h)) o) (fields_json pool names Inside all fs)) rs)
+          (subst (λ (o : Option FieldView). MeanMembers (maybe_member (option_map (λ f. (member_name names m f, holding_json pool names Inside f.kind h)) o) (fields_json pool names Inside m fs)) rs)
           found.1 means)
 
     pub object_read : (m : ℕ) (fs : Fields) → IsBody pool m (body fs []) → AreCoveredFields pool Inner (message_fields pool m) fs
-        → (at : ℕ) (j : read.Json) → Means (written.object (fields_json pool names Inside (message_fields pool m) fs)) j
-        → ReadsObject pool rules m at j (Ok (body (fields_with_one_nan fs) []))
+        → (at : ℕ) (j : read.Json) → Means (written.object (fields_json pool names Inside m fs)) j
+        → ReadsObject pool rules table m at j (Ok (body (fields_with_one_nan fs) []))
     object_read m fs is covered at j (rs, e, means) =
         let end = fields_read m fs 0 is.0 is.1 is.2 covered no_fields [] [] tt (λ k l. refl) (λ o h. absurd (none_at o h)) rs means in
-        subst (λ (i : read.Json). ReadsObject pool rules m at i (Ok (body (fields_with_one_nan fs) []))) (sym e)
+        subst (λ (i : read.Json). ReadsObject pool rules table m at i (Ok (body (fields_with_one_nan fs) []))) (sym e)
         (Ok end.parts_are, end.reads, ap (λ (b : Message). Ok b) (sym end.message_is))
       where
         none_at : (o : ℕ) → has o [] ≡ true → ⊥

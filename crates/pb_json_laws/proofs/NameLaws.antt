@@ -1,6 +1,7 @@
--- The names of fields, as they are written, are read as these fields: as they are declared in each pool, and in lowerCamelCase where these differ.
+-- The names of fields, as they are written, are read as these fields: as they are declared in each pool, in lowerCamelCase where these differ, and
+-- as they are given where these differ.
 use Rattle.std.proofs.Common.{◌≡◌, ◌≢◌, ℕ, zero, suc, ◌-◌, Bool, true, false, cond, eqb, List, [], ◌∷◌, ◌++◌, map, Option, Some, None, inl, inr, refl, sym, ap, ap₂, ◌∙◌, subst, arith, lt-ltb, le-ltb, ne_eqb}
-use Rattle.std.specs.Prelude.{find, flat_map, slice_get}
+use Rattle.std.specs.Prelude.{find, flat_map, slice_get, unwrap_or}
 use Rattle.std.specs.Char.{to_ascii_uppercase}
 use Rattle.std.specs.List.{AllByRecursion}
 use Rattle.std.specs.Option.{option_or}
@@ -17,9 +18,11 @@ use Rattle.pb_schema.specs.Types.{FieldView, MessageView, Types, fields_of_messa
 use Rattle.pb_schema.proofs.LookupLemmas.{AllDiffer-firsts, at_message}
 use Rattle.pb_schema.proofs.NameSetLemmas.{AllDiffer-front}
 use Rattle.pb_json.specs.declared.form.Names.TheVariants.{Declared, LowerCamel}
-use Rattle.pb_json.specs.JsonNames.{camel_from, cased, lower_camel}
-use Rattle.pb_json_read.specs.Names.{field_in_camel, field_meant}
-use Rattle.pb_json_laws.specs.Messages.{CamelNamesDiffer, NamesAreRead}
+use Rattle.pb_json.specs.Given.{NamesGiven, name_given, none_given}
+use Rattle.pb_json.specs.JsonNames.{camel_from, cased, json_name, lower_camel}
+use Rattle.pb_json_read.specs.Names.{field_given, field_in_json, field_meant, is_given}
+use Rattle.pb_json_laws.specs.Messages.{CamelNamesDiffer, DeclaredApart, GivenNamesAreRead, JsonNamesDiffer, NamesAreRead}
+use Rattle.pb_json_read.proofs.NameLemmas.{not_given}
 use Rattle.pb_json_laws.proofs.EnumLaws.{differ_at, differ_before}
 
 -- ---- one of each name
@@ -40,6 +43,12 @@ found_by key (g ∷ gs) (suc i) f differ e =
       | inr is ↦ rw is (found_by key gs i f differ.1 e)
     ]
 
+-- fields with one name are one
+same_found : (key : FieldView → List ℕ) (fs : List FieldView) (i j : ℕ) (f g : FieldView) → AllDiffer (map key fs) → slice_get fs i ≡ Some f
+    → slice_get fs j ≡ Some g → key g ≡ key f → ◌≡◌ {A = Option FieldView} (Some g) (Some f)
+same_found key fs i j f g differ at_f at_g same =
+    sym (found_by key fs j g differ at_g) ∙ ap (λ (n : List ℕ). find (λ h. bytes_eq (key h) n) fs) same ∙ found_by key fs i f differ at_f
+
 -- what is found passes the test, and has a place
 record IsFound (test : FieldView → Bool) (fs : List FieldView) (g : FieldView) : Type 0 where
   place : ℕ
@@ -57,6 +66,14 @@ found_is test (f ∷ fs) g e = by_test (test f) refl (found_is test fs g) e
 from_places : (P : FieldView → Type 0) (fs : List FieldView) → ((i : ℕ) (f : FieldView) → slice_get fs i ≡ Some f → P f) → AllByRecursion P fs
 from_places P [] h = tt
 from_places P (f ∷ fs) h = (h 0 f refl, from_places P fs (λ i g e. h (suc i) g e))
+
+-- ---- where no field is given a name
+
+none_is_given : (pool : Types) (m : ℕ) (name : List ℕ) → field_meant none_given pool m name
+    ≡ option_or (field_named name (message_fields pool m)) (field_in_json none_given m (message_fields pool m) name)
+none_is_given pool m name =
+    ap (λ (o : Option FieldView). option_or o (option_or (field_named name (message_fields pool m)) (field_in_json none_given m (message_fields pool m) name)))
+    (not_given m (message_fields pool m) name)
 
 -- ---- names as they are declared
 
@@ -96,11 +113,14 @@ module _ (pool : Types) (is_pool : IsPool pool) where
           let fields : AllDiffer (flat_map names_of_field t.fields) = AllDiffer-front (flat_map names_of_field t.fields) t.oneofs simple in
           AllDiffer-firsts (λ f. f.name) (λ (f : FieldView). later_names f.shape f.name) t.fields (subst AllDiffer (all_names t.fields) fields)
 
-  pub declared_read : NamesAreRead Declared pool
-  declared_read m = from_places (λ f. field_meant f.name (message_fields pool m) ≡ Some f) (message_fields pool m) each
+  pub declared_read : NamesAreRead Declared none_given pool
+  declared_read m = from_places (λ f. field_meant none_given pool m f.name ≡ Some f) (message_fields pool m) each
     where
-      each : (i : ℕ) (f : FieldView) → slice_get (message_fields pool m) i ≡ Some f → field_meant f.name (message_fields pool m) ≡ Some f
-      each i f e = rw (found_by (λ g. g.name) (message_fields pool m) i f (names_differ m) e) refl
+      each : (i : ℕ) (f : FieldView) → slice_get (message_fields pool m) i ≡ Some f → field_meant none_given pool m f.name ≡ Some f
+      each i f e =
+          none_is_given pool m f.name
+          ∙ ap (λ (o : Option FieldView). option_or o (field_in_json none_given m (message_fields pool m) f.name))
+          (found_by (λ g. g.name) (message_fields pool m) i f (names_differ m) e)
 
 -- ---- names in lowerCamelCase
 
@@ -136,24 +156,56 @@ module _ (pool : Types) (differ : CamelNamesDiffer pool) where
       of_message None is = tt
       of_message (Some t) is = at_message (λ s. AllDiffer (map (λ f. lower_camel f.name) s.fields)) pool.messages m t differ is
 
-  pub camel_read : NamesAreRead LowerCamel pool
-  camel_read m = from_places (λ f. field_meant (lower_camel f.name) (message_fields pool m) ≡ Some f) (message_fields pool m) each
+  pub camel_read : NamesAreRead LowerCamel none_given pool
+  camel_read m = from_places (λ f. field_meant none_given pool m (lower_camel f.name) ≡ Some f) (message_fields pool m) each
     where
       -- a field that is declared by a name in lowerCamelCase has it in lowerCamelCase too
       same_field : (i : ℕ) (f g : FieldView) → slice_get (message_fields pool m) i ≡ Some f
           → IsFound (λ h. bytes_eq h.name (lower_camel f.name)) (message_fields pool m) g → ◌≡◌ {A = Option FieldView} (Some g) (Some f)
       same_field i f g e found =
-          let all = message_fields pool m in
           let name : g.name ≡ lower_camel f.name = (bytes_eq-Decides g.name (lower_camel f.name)).0 found.passes in
-          let camel : lower_camel g.name ≡ lower_camel f.name = ap lower_camel name ∙ camel_again false f.name in
-          sym (found_by (λ h. lower_camel h.name) all found.place g (camel_differ m) found.there)
-          ∙ ap (λ (n : List ℕ). find (λ h. bytes_eq (lower_camel h.name) n) all) camel
-          ∙ found_by (λ h. lower_camel h.name) all i f (camel_differ m) e
+          same_found (λ h. lower_camel h.name) (message_fields pool m) i found.place f g (camel_differ m) e found.there
+          (ap lower_camel name ∙ camel_again false f.name)
 
-      each : (i : ℕ) (f : FieldView) → slice_get (message_fields pool m) i ≡ Some f → field_meant (lower_camel f.name) (message_fields pool m) ≡ Some f
-      each i f e = by_name (field_named (lower_camel f.name) (message_fields pool m)) refl
+      each : (i : ℕ) (f : FieldView) → slice_get (message_fields pool m) i ≡ Some f → field_meant none_given pool m (lower_camel f.name) ≡ Some f
+      each i f e = none_is_given pool m (lower_camel f.name) ∙ by_name (field_named (lower_camel f.name) (message_fields pool m)) refl
         where
           by_name : (o : Option FieldView) → field_named (lower_camel f.name) (message_fields pool m) ≡ o
-              → option_or o (field_in_camel (lower_camel f.name) (message_fields pool m)) ≡ Some f
+              → option_or o (field_in_json none_given m (message_fields pool m) (lower_camel f.name)) ≡ Some f
           by_name None is = found_by (λ h. lower_camel h.name) (message_fields pool m) i f (camel_differ m) e
           by_name (Some g) is = same_field i f g e (found_is (λ h. bytes_eq h.name (lower_camel f.name)) (message_fields pool m) g is)
+
+-- ---- names that are given
+
+given_name : (o : Option (List ℕ)) (other name : List ℕ) → is_given o name ≡ true → unwrap_or o other ≡ name
+given_name None other name e = absurd (cc)
+given_name (Some given) other name e = (bytes_eq-Decides given name).0 e
+
+module _
+    (pool : Types) (names : NamesGiven) (differ : JsonNamesDiffer names pool) (apart : DeclaredApart names pool) (m i : ℕ) (f : FieldView)
+    (e : slice_get (message_fields pool m) i ≡ Some f) where
+  abbrev all : List FieldView
+  all = message_fields pool m
+
+  abbrev name : List ℕ
+  name = json_name names m f
+
+  by_name : (o : Option FieldView) → field_named name all ≡ o → option_or o (field_in_json names m all name) ≡ Some f
+  by_name None is = found_by (λ h. json_name names m h) all i f (differ m) e
+  by_name (Some g) is =
+      let found = found_is (λ h. bytes_eq h.name name) all g is in
+      ap (λ (h : FieldView). Some h) (apart m i found.place f g e found.there ((bytes_eq-Decides g.name name).0 found.passes))
+
+  by_given : (o : Option FieldView) → field_given names m all name ≡ o → option_or o (option_or (field_named name all) (field_in_json names m all name)) ≡ Some f
+  by_given None is = by_name (field_named name all) refl
+  by_given (Some g) is =
+      let found = found_is (λ h. is_given (name_given names m h.number) name) all g is in
+      same_found (λ h. json_name names m h) all i found.place f g (differ m) e found.there
+      (given_name (name_given names m g.number) (lower_camel g.name) name found.passes)
+
+  one_given : field_meant names pool m name ≡ Some f
+  one_given = by_given (field_given names m all name) refl
+
+pub given_read : (pool : Types) → GivenNamesAreRead pool
+given_read pool names differ apart m =
+    from_places (λ f. field_meant names.now pool m (json_name names.now m f) ≡ Some f) (message_fields pool m) (one_given pool names.now differ apart m)

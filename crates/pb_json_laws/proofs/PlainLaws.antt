@@ -1,5 +1,5 @@
 -- Digits, names and base64 are ASCII, and need no escape where they are written without one.
-use Rattle.std.proofs.Common.{◌≡◌, ℕ, zero, suc, ◌+◌, ◌-◌, ◌*◌, ◌/◌, ◌%◌, ◌^◌, ◌<◌, ◌≤◌, Bool, true, false, eqb, ◌&&◌, ◌||◌, List, [], ◌∷◌, ◌++◌, length, get_or, replicate, IsTrue, IsUtf8, inl, inr, refl, ap₂, ◌∙◌, subst, arith, le-leb, le-ltb, lt-ltb, ne_eqb, ℤ, pos, negsuc, FitsSigned, w64, decimal}
+use Rattle.std.proofs.Common.{◌≡◌, ℕ, zero, suc, ◌+◌, ◌-◌, ◌*◌, ◌/◌, ◌%◌, ◌^◌, ◌<◌, ◌≤◌, Bool, true, false, eqb, ◌&&◌, ◌||◌, List, [], ◌∷◌, ◌++◌, length, get_or, replicate, IsTrue, IsUtf8, Option, Some, None, IfSome, inl, inr, refl, ap₂, ◌∙◌, subst, arith, le-leb, le-ltb, lt-ltb, ne_eqb, ℤ, pos, negsuc, FitsSigned, w64, decimal}
 use Rattle.std.proofs.lemmas.Bool.{agree_below_at, and_parts, cases_Bool, cases_lt, lt-leb}
 use Rattle.std.proofs.lemmas.Fmt.{decimal_is_IsNumeral}
 use Rattle.std.proofs.lemmas.Int.{ints}
@@ -7,14 +7,19 @@ use Rattle.std.proofs.lemmas.List.Folds.{list_all-append}
 use Rattle.std.proofs.lemmas.Str.Parse.{digit_from_value}
 use Rattle.std.specs.Fmt.{signed_decimal}
 use Rattle.std.specs.List.{list_all}
+use Rattle.std.specs.Prelude.{unwrap_or}
 use Rattle.std.specs.Str.Parse.{AllDigits}
 use Rattle.base64.specs.Engines.{standard}
 use Rattle.base64.specs.GeneralPurpose.{IsBytes, encode_of, engine_symbols}
 use Rattle.base64.specs.Rfc4648.{encode_symbols, padding_len}
 use Rattle.pb_schema.specs.Names.{begins_word, continues_word, is_word}
+use Rattle.pb_schema.specs.Types.{FieldView}
+use Rattle.pb_json.specs.Given.{name_given}
 use Rattle.pb_json.specs.JsonNames.{camel_from, cased, lower_camel, member_name}
 use Rattle.pb_json.specs.declared.form.Names.{Names}
-use Rattle.pb_json.specs.declared.form.Names.TheVariants.{Declared, LowerCamel}
+use Rattle.pb_json.specs.declared.form.Names.TheVariants.{Declared, Given, LowerCamel}
+use Rattle.pb_json_read.specs.Anys.{is_tag}
+use Rattle.pb_json_laws.specs.Messages.{AreMemberNames}
 use Rattle.pb_json_laws.specs.Texts.{is_plain}
 use Rattle.pb_json_laws.proofs.CharacterLaws.{ascii_utf8, is_ascii}
 
@@ -130,9 +135,14 @@ camel_ascii raised (c ∷ cs) h =
       | inr e ↦ rw (e, raised_ascii raised c p.0) (rw e at later)
     ]
 
-pub name_utf8 : (names : Names) (s : List ℕ) → IsTrue (is_word s) → IsUtf8 (member_name names s)
-name_utf8 LowerCamel s word = ascii_utf8 (lower_camel s) (camel_ascii false s (word_ascii s word))
-name_utf8 Declared s word = ascii_utf8 s (word_ascii s word)
+pub name_utf8 : (names : Names) → AreMemberNames names → (m : ℕ) (f : FieldView) → IsTrue (is_word f.name) → IsUtf8 (member_name names m f)
+name_utf8 LowerCamel are m f word = ascii_utf8 (lower_camel f.name) (camel_ascii false f.name (word_ascii f.name word))
+name_utf8 Declared are m f word = ascii_utf8 f.name (word_ascii f.name word)
+name_utf8 (Given names) are m f word = of (name_given names.now m f.number) (are m f.number)
+  where
+    of : (o : Option (List ℕ)) → IfSome o (λ s. IsUtf8 s × (is_tag s ≡ false)) → IsUtf8 (unwrap_or o (lower_camel f.name))
+    of None h = ascii_utf8 (lower_camel f.name) (camel_ascii false f.name (word_ascii f.name word))
+    of (Some s) h = h.0
 
 plain_byte : (x : ℕ) → is_plain x ≡ true → is_ascii x ≡ true
 plain_byte x h = let p = Rattle.pb_json_laws.proofs.CharacterLaws.plain_parts x h in lt-ltb x 128 (omega arith)

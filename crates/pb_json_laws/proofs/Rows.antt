@@ -16,6 +16,7 @@ use Rattle.pb_json.specs.declared.form.Names.TheVariants.{LowerCamel}
 use Rattle.pb_json.specs.declared.well_known.WellKnown.TheVariants.{Any, FieldMask, ListValue, Other, Struct, Timestamp, Value, Wrapper}
 use Rattle.pb_json.specs.Json as written
 use Rattle.pb_json.specs.WellKnown.{well_known}
+use Rattle.pb_json.specs.Given.{none_given}
 use Rattle.pb_json_text.specs.Json as read
 use Rattle.pb_json_laws.specs.Messages.{CamelNamesDiffer, HoldsMessage, IsCovered, IsCoveredWithin, NamesAreRead, message_with_one_nan}
 use Rattle.pb_json_laws.specs.Scalars.{IsKeyKind, IsNoEnum, with_one_nan}
@@ -149,7 +150,7 @@ two_are_one : CamelNamesDiffer two_names → ⊥
 two_are_one h = absurd (h.0.0.0 refl)
 
 -- `isOn` is the second field's declared name, and is read as this field
-another_field : NamesAreRead LowerCamel two_names → ⊥
+another_field : NamesAreRead LowerCamel none_given two_names → ⊥
 another_field h = let e : 2 ≡ 1 = ap (λ (o : Option FieldView). option_map_or (λ f. f.number) o 0) (h 0).0 in absurd (omega (arith, e))
 
 -- ---- types as Google declares them

@@ -1,6 +1,6 @@
 -- No field's name is written as `@type`.
-use Rattle.std.proofs.Common.{◌≡◌, ℕ, zero, suc, ◌-◌, Bool, true, false, not, eqb, List, [], ◌∷◌, Option, Some, None, IsTrue, inl, inr, refl, sym, ap, subst, arith, codes, eqb-true, le-ltb, lt-ltb, ne_eqb}
-use Rattle.std.specs.Prelude.{option_map}
+use Rattle.std.proofs.Common.{◌≡◌, ℕ, zero, suc, ◌-◌, Bool, true, false, not, eqb, List, [], ◌∷◌, Option, Some, None, IfSome, IsTrue, IsUtf8, inl, inr, refl, sym, ap, subst, arith, codes, eqb-true, le-ltb, lt-ltb, ne_eqb}
+use Rattle.std.specs.Prelude.{option_map, unwrap_or}
 use Rattle.std.specs.List.{AllByRecursion, list_all}
 use Rattle.std.proofs.lemmas.Bool.{and_parts, cases_Bool, cases_lt}
 use Rattle.std.proofs.lemmas.Slice.Eq.{bytes_eq-Decides}
@@ -10,14 +10,15 @@ use Rattle.pb_schema.specs.Types.{FieldView, Types, field_numbered, message_fiel
 use Rattle.pb_value.specs.Data.{Fields, no_fields, field, Message, body}
 use Rattle.pb_value.proofs.JudgeLemmas.{found_in}
 use Rattle.pb_json.specs.declared.form.Names.{Names}
-use Rattle.pb_json.specs.declared.form.Names.TheVariants.{Declared, LowerCamel}
+use Rattle.pb_json.specs.declared.form.Names.TheVariants.{Declared, Given, LowerCamel}
 use Rattle.pb_json.specs.declared.well_known.WellKnown.{WellKnown}
 use Rattle.pb_json.specs.Anys.{any_json}
 use Rattle.pb_json.specs.Json as written
-use Rattle.pb_json.specs.JsonNames.{camel_from, cased, member_name}
+use Rattle.pb_json.specs.Given.{name_given}
+use Rattle.pb_json.specs.JsonNames.{camel_from, cased, lower_camel, member_name}
 use Rattle.pb_json.specs.Mapping.{fields_json, holding_json, in_form, maybe_member, message_here, message_json, only_json}
 use Rattle.pb_json_read.specs.Anys.{is_tag}
-use Rattle.pb_json_laws.specs.Messages.{IsCoveredHere, IsCoveredWithin}
+use Rattle.pb_json_laws.specs.Messages.{AreMemberNames, IsCoveredHere, IsCoveredWithin}
 use Rattle.pb_json_laws.proofs.AnyLaws.{AreObjects, AreUntagged}
 use Rattle.pb_json_laws.proofs.ValueLaws.{field_word, fields_words}
 
@@ -79,10 +80,6 @@ camel_without raised (c ∷ cs) h =
       | inr e ↦ rw (e, raised_without raised c (no_at c p.0)) (rw e at later)
     ]
 
-name_without : (names : Names) (s : List ℕ) → IsTrue (is_word s) → list_all is_no_at (member_name names s) ≡ true
-name_without LowerCamel s word = camel_without false s (word_without s word)
-name_without Declared s word = word_without s word
-
 untagged : (name : List ℕ) → list_all is_no_at name ≡ true → is_tag name ≡ false
 untagged name h =
     elim (cases_Bool (is_tag name)) [
@@ -90,32 +87,44 @@ untagged name h =
       | inr e ↦ e
     ]
 
+name_untagged : (names : Names) → AreMemberNames names → (m : ℕ) (f : FieldView) → IsTrue (is_word f.name) → is_tag (member_name names m f) ≡ false
+name_untagged LowerCamel apt m f word = untagged (lower_camel f.name) (camel_without false f.name (word_without f.name word))
+name_untagged Declared apt m f word = untagged f.name (word_without f.name word)
+name_untagged (Given names) apt m f word = of (name_given names.now m f.number) (apt m f.number)
+  where
+    of : (o : Option (List ℕ)) → IfSome o (λ s. IsUtf8 s × (is_tag s ≡ false)) → is_tag (unwrap_or o (lower_camel f.name)) ≡ false
+    of None h = untagged (lower_camel f.name) (camel_without false f.name (word_without f.name word))
+    of (Some s) h = h.1
+
 all_as : (P Q : FieldView → Type 0) (fs : List FieldView) → ((f : FieldView) → P f → Q f) → AllByRecursion P fs → AllByRecursion Q fs
 all_as P Q [] h each = tt
 all_as P Q (f ∷ fs) h each = (h f each.0, all_as P Q fs h each.1)
 
-module _ (pool : Types) (is_pool : IsPool pool) (names : Names) (Inside : ℕ → Message → written.Json) where
-  fields_untagged : (all : List FieldView) (fs : Fields) → AllByRecursion (λ f. is_tag (member_name names f.name) ≡ false) all → AreUntagged (fields_json pool names Inside all fs)
-  fields_untagged all no_fields each = tt
-  fields_untagged all (field n h fs) each = of_field (field_numbered n all) refl (fields_untagged all fs each)
+module _ (pool : Types) (is_pool : IsPool pool) (names : Names) (apt : AreMemberNames names) (Inside : ℕ → Message → written.Json) where
+  fields_untagged : (m : ℕ) (fs : Fields) → AllByRecursion (λ f. is_tag (member_name names m f) ≡ false) (message_fields pool m)
+      → AreUntagged (fields_json pool names Inside m fs)
+  fields_untagged m no_fields each = tt
+  fields_untagged m (field n h fs) each = of_field (field_numbered n (message_fields pool m)) refl (fields_untagged m fs each)
     where
-      of_field : (o : Option FieldView) → field_numbered n all ≡ o → AreUntagged (fields_json pool names Inside all fs)
-          → AreUntagged (maybe_member (option_map (λ f. (member_name names f.name, holding_json pool names Inside f.kind h)) o) (fields_json pool names Inside all fs))
+      of_field : (o : Option FieldView) → field_numbered n (message_fields pool m) ≡ o → AreUntagged (fields_json pool names Inside m fs)
+          → AreUntagged (maybe_member (option_map (λ f. (member_name names m f, holding_json pool names Inside f.kind h)) o) (fields_json pool names Inside m fs))
       of_field None e more = more
-      of_field (Some f) e more = (found_in (λ g. is_tag (member_name names g.name) ≡ false) n all f each e, more)
+      of_field (Some f) e more = (found_in (λ g. is_tag (member_name names m g) ≡ false) n (message_fields pool m) f each e, more)
 
   pub here_objects : (Inner : ℕ → Message → Type 0) → AreObjects pool (message_here pool names Inside) (IsCoveredHere pool Inner)
   here_objects Inner m (body fs us) covered other =
       let all = message_fields pool m in
       let each =
-      all_as (λ f. AreWords (names_of_field f)) (λ f. is_tag (member_name names f.name) ≡ false) all
-      (λ f words. untagged (member_name names f.name) (name_without names f.name (field_word pool is_pool f words))) (fields_words pool is_pool m) in (
-        fields_json pool names Inside all fs,
-        ap (λ (w : WellKnown). in_form w fs (fields_json pool names Inside all fs) (only_json pool names Inside w all fs) (any_json pool Inside fs)) other,
-        fields_untagged all fs each,
+      all_as (λ f. AreWords (names_of_field f)) (λ f. is_tag (member_name names m f) ≡ false) all
+      (λ f words. name_untagged names apt m f (field_word pool is_pool f words)) (fields_words pool is_pool m) in (
+        fields_json pool names Inside m fs,
+        ap (λ (w : WellKnown). in_form w fs (fields_json pool names Inside m fs) (only_json pool names Inside w all fs) (any_json pool Inside fs)) other,
+        fields_untagged m fs each,
       )
 
-pub objects_at : (pool : Types) (is_pool : IsPool pool) (names : Names) (levels : ℕ) → AreObjects pool (message_json pool names levels) (IsCoveredWithin pool levels)
+pub objects_at : (pool : Types) (is_pool : IsPool pool) (names : Names) (apt : AreMemberNames names) (levels : ℕ)
+    → AreObjects pool (message_json pool names levels) (IsCoveredWithin pool levels)
 unfolding message_json IsCoveredWithin
-objects_at pool is_pool names zero m b covered other = absurd covered
-objects_at pool is_pool names (suc levels) m b covered other = here_objects pool is_pool names (message_json pool names levels) (IsCoveredWithin pool levels) m b covered other
+objects_at pool is_pool names apt zero m b covered other = absurd covered
+objects_at pool is_pool names apt (suc levels) m b covered other =
+    here_objects pool is_pool names apt (message_json pool names levels) (IsCoveredWithin pool levels) m b covered other

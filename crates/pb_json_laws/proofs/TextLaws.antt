@@ -9,7 +9,7 @@ use Rattle.pb_json.specs.Json as written
 use Rattle.pb_json.specs.JsonText.{IsJsonText, AreElements, AreMembers, bool_text, closing_line, colon, in_quotes, member_start, new_line, separator, string_byte, string_text}
 use Rattle.pb_json_text.specs.Json as read
 use Rattle.pb_json_text.specs.Grammar as grammar
-use Rattle.pb_json_text.specs.Grammar.{AreBlanks, Around, Blanks, Characters, IsString, IsValue, Place, Spells}
+use Rattle.pb_json_text.specs.Grammar.{AreBlanks, Blanks, IsString, IsValue, Place, Spells}
 use Rattle.pb_json_text.specs.Texts.{IsJson}
 use Rattle.pb_json_laws.specs.Texts.{AreJsonElements, AreJsonMembers, IsJsonValue, Means, MeanElements, MeanMembers, elements_depth, json_depth, members_depth}
 use Rattle.pb_json_laws.proofs.CharacterLaws.{ascii_utf8, byte_utf8, plain_characters, plain_utf8, string_characters, string_utf8}

@@ -1,6 +1,6 @@
 -- What a message is as JSON is a JSON value: its numbers are numbers, and its strings UTF-8.
 use Rattle.std.proofs.Common.{◌≡◌, ℕ, zero, suc, Bool, true, false, cond, List, [], ◌∷◌, Option, Some, None, IsTrue, IsUtf8, IsSomeAnd, refl, sym, subst, arith, ℤ, FitsSigned, w32, decimal}
-use Rattle.std.specs.Prelude.{find, from_bits, max, option_map, slice_get}
+use Rattle.std.specs.Prelude.{find, from_bits, option_map, slice_get}
 use Rattle.std.specs.Float.{Float, Format, binary32, binary64, nan, inf, fin}
 use Rattle.std.specs.Fmt.{signed_decimal}
 use Rattle.std.specs.List.{AllByRecursion}
@@ -26,7 +26,7 @@ use Rattle.pb_json.specs.JsonNames.{member_name}
 use Rattle.pb_json.specs.JsonText.{bool_text}
 use Rattle.pb_json.specs.Mapping.{datum_json, elements_json, entries_json, fields_json, float_json, holding_json, key_name, maybe_member, named_json, names_of_kind, scalar_json}
 use Rattle.pb_json.specs.WellKnown.{is_null_enum}
-use Rattle.pb_json_laws.specs.Messages.{AreCoveredDatums, AreCoveredEntries, AreCoveredFields, IsCoveredDatum, IsCoveredHolding}
+use Rattle.pb_json_laws.specs.Messages.{AreMemberNames, AreCoveredDatums, AreCoveredEntries, AreCoveredFields, IsCoveredDatum, IsCoveredHolding}
 use Rattle.pb_json_laws.specs.Texts.{AreJsonElements, AreJsonMembers, IsJsonValue}
 use Rattle.pb_json_laws.proofs.CharacterLaws.{ascii_utf8, plain_utf8}
 use Rattle.pb_json_laws.proofs.NameLaws.{first_name}
@@ -135,7 +135,7 @@ module _ (pool : Types) (is_pool : IsPool pool) where
       of_message None is = tt
       of_message (Some t) is = (each_at Rattle.pb_schema.specs.Rules.MessageIsOfWords pool.messages m t is_pool.names.message_words is).1
 
-  module _ (names : Names) where
+  module _ (names : Names) (apt : AreMemberNames names) where
     abbrev pub AreValues : (ℕ → Message → written.Json) → (ℕ → Message → Type 0) → Type 0
     AreValues Inside Inner = (m : ℕ) (b : Message) → IsBody pool m b → Inner m b → IsJsonValue (Inside m b)
 
@@ -168,7 +168,7 @@ module _ (pool : Types) (is_pool : IsPool pool) where
           entries_value key.0 k es key.2.0 covered
 
       pub fields_value : (m : ℕ) (fs : Fields) → AreFields pool (message_fields pool m) fs → AreCoveredFields pool Inner (message_fields pool m) fs
-          → AreJsonMembers (fields_json pool names Inside (message_fields pool m) fs)
+          → AreJsonMembers (fields_json pool names Inside m fs)
       fields_value m no_fields are covered = tt
       fields_value m (field n h fs) are covered =
           let all = message_fields pool m in
@@ -176,6 +176,6 @@ module _ (pool : Types) (is_pool : IsPool pool) where
           let f : FieldView = found.0 in
           let cover : IsCoveredHolding pool Inner f.kind h = subst (λ (o : Option FieldView). IsSomeAnd o (λ g. IsCoveredHolding pool Inner g.kind h)) found.1 covered.0 in
           let word = field_word f (found_in (λ g. AreWords (names_of_field g)) n all f (fields_words m) found.1) in
-          subst (λ (o : Option FieldView). AreJsonMembers (maybe_member (option_map (λ g. (member_name names g.name, holding_json pool names Inside g.kind h)) o) (fields_json pool names Inside all fs)))
+          subst (λ (o : Option FieldView). AreJsonMembers (maybe_member (option_map (λ g. (member_name names m g, holding_json pool names Inside g.kind h)) o) (fields_json pool names Inside m fs)))
           (sym found.1)
-          (name_utf8 names f.name word, holding_value f.shape f.kind h found.2.1 cover, fields_value m fs are.1 covered.1)
+          (name_utf8 names apt m f word, holding_value f.shape f.kind h found.2.1 cover, fields_value m fs are.1 covered.1)

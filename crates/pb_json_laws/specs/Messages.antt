@@ -1,6 +1,8 @@
 -- Messages that are read back, and what they are then.
-use Rattle.std.specs.Prelude.{◌≡◌, ◌⊎◌, ◌<◌, ◌^◌, ℕ, zero, suc, pos, List, [], length, true, Some, None, IsSomeAnd, map as map_of}
+use Rattle.std.specs.Prelude.{◌≡◌, ◌⊎◌, ◌<◌, ◌^◌, ℕ, zero, suc, pos, List, [], length, true, false, Some, None, IfSome, IsSomeAnd, map as map_of, slice_get}
+use Rattle.std.specs.Borrow.{Bor}
 use Rattle.std.specs.List.{AllByRecursion}
+use Rattle.std.specs.Str.{IsUtf8}
 use Rattle.pb_schema.specs.declared.types.Kind.{Kind}
 use Rattle.pb_schema.specs.Types.{FieldView, Types, message_fields, field_numbered}
 use Rattle.pb_schema.specs.Kinds.{message_of_kind}
@@ -11,13 +13,16 @@ use Rattle.pb_value.specs.Data.{Datum, scalar, message, Datums, no_datums, datum
 use Rattle.pb_value.specs.Data.{Holding, one, list, map, Fields, no_fields, field, Message, body}
 use Rattle.pb_value.specs.WellFormed.{IsWellFormed}
 use Rattle.pb_json.specs.declared.form.Names.{Names}
+use Rattle.pb_json.specs.declared.form.Names.TheVariants.{LowerCamel, Declared, Given}
 use Rattle.pb_json.specs.declared.well_known.WellKnown.{WellKnown}
 use Rattle.pb_json.specs.declared.well_known.WellKnown.TheVariants.{Any}
 use Rattle.pb_json.specs.Anys.{type_meant}
 use Rattle.pb_json.specs.Held.{bytes_at, string_at}
-use Rattle.pb_json.specs.JsonNames.{lower_camel, member_name}
+use Rattle.pb_json.specs.Given.{NamesGiven, name_given}
+use Rattle.pb_json.specs.JsonNames.{json_name, lower_camel, member_name}
 use Rattle.pb_json.specs.Refusals.{own_cause}
 use Rattle.pb_json.specs.WellKnown.{is_null_enum, well_known}
+use Rattle.pb_json_read.specs.Anys.{is_tag}
 use Rattle.pb_json_read.specs.Names.{field_meant}
 use Rattle.pb_json_laws.specs.Scalars.{with_one_nan}
 use Rattle.pb_json_laws.specs.WellKnown.{IsAsDeclared}
@@ -48,14 +53,35 @@ abbrev mutual
   pub message_with_one_nan : Message → Message
   message_with_one_nan (body fs us) = body (fields_with_one_nan fs) us
 
--- the name that is written of a field is read as that field, in each type
-abbrev pub NamesAreRead : Names → Types → Type 0
-NamesAreRead names pool =
-    (m : ℕ) → AllByRecursion (λ f. field_meant (member_name names f.name) (message_fields pool m) ≡ Some f) (message_fields pool m)
+-- the name that is written of a field is read as that field, in each type, where fields are given these names
+abbrev pub NamesAreRead : Names → NamesGiven → Types → Type 0
+NamesAreRead names given pool =
+    (m : ℕ) → AllByRecursion (λ f. field_meant given pool m (member_name names m f) ≡ Some f) (message_fields pool m)
+
+-- each name that is given is a string, and not that of the member for the type of an Any
+abbrev pub AreMemberNames : Names → Type 0
+AreMemberNames LowerCamel = Unit {0}
+AreMemberNames Declared = Unit {0}
+AreMemberNames (Given names) = (m n : ℕ) → IfSome (name_given names.now m n) (λ s. IsUtf8 s × (is_tag s ≡ false))
 
 -- no two fields of a message have one name in lowerCamelCase
 abbrev pub CamelNamesDiffer : Types → Type 0
 CamelNamesDiffer pool = AllByRecursion (λ t. AllDiffer (map_of (λ f. lower_camel f.name) t.fields)) pool.messages
+
+-- no two fields of a message have one name in JSON
+abbrev pub JsonNamesDiffer : NamesGiven → Types → Type 0
+JsonNamesDiffer given pool = (m : ℕ) → AllDiffer (map_of (λ f. json_name given m f) (message_fields pool m))
+
+-- no field is declared by the name that another field of the message has in JSON
+abbrev pub DeclaredApart : NamesGiven → Types → Type 0
+DeclaredApart given pool =
+    (m i j : ℕ) (f g : FieldView) → slice_get (message_fields pool m) i ≡ Some f → slice_get (message_fields pool m) j ≡ Some g
+    → g.name ≡ json_name given m f → g ≡ f
+
+-- names that are given are read, where fields can be told apart by them
+abbrev pub GivenNamesAreRead : Types → Type 0
+GivenNamesAreRead pool =
+    (names : Bor NamesGiven) → JsonNamesDiffer names.now pool → DeclaredApart names.now pool → NamesAreRead (Given names) names.now pool
 
 -- what an Any holds that is a message
 pub record HoldsMessage (pool : Types) (Inner : ℕ → Message → Type 0) (fs : Fields) : Type 0 where

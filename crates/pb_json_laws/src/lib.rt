@@ -30,18 +30,20 @@ ghost use Rattle.pb_json.specs.declared.form.JsonForm.{JsonForm as AnyForm};
 ghost use Rattle.pb_json.specs.declared.form.Layout.{Layout as AnyLayout};
 ghost use Rattle.pb_json.specs.declared.form.Names.{Names as AnyNames};
 ghost use Rattle.pb_json.specs.declared.form.Names.TheVariants.{Declared, LowerCamel};
+ghost use Rattle.pb_json.specs.Given.{none_given, NamesGiven};
 ghost use Rattle.pb_json.specs.Json as written;
 ghost use Rattle.pb_json.specs.JsonText.{IsJsonText};
 ghost use Rattle.pb_json.specs.Mapping.{key_name, message_json, scalar_json};
 ghost use Rattle.pb_json.specs.WellKnown.{is_null_enum};
 ghost use Rattle.pb_json_read.specs.declared.rules.JsonRules.{JsonRules as AnyRules};
-ghost use Rattle.pb_json_read.specs.Answers.{IsReadAs};
+ghost use Rattle.pb_json_read.specs.Answers.{IsReadBy};
 ghost use Rattle.pb_json_read.specs.Keys.{IsKey};
 ghost use Rattle.pb_json_read.specs.Reads.{ReadsMessage};
 ghost use Rattle.pb_json_read.specs.Values.{IsScalar};
 ghost use Rattle.pb_json_text.specs.Json.{Json, Placed};
 ghost use Rattle.pb_json_text.specs.Texts.{IsJson};
-ghost use Rattle.pb_json_laws.specs.Messages.{CamelNamesDiffer, IsCovered, IsCoveredWithin, NamesAreRead, message_with_one_nan};
+ghost use Rattle.pb_json_laws.specs.Messages.{AreMemberNames, CamelNamesDiffer, GivenNamesAreRead, IsCovered, IsCoveredWithin};
+ghost use Rattle.pb_json_laws.specs.Messages.{NamesAreRead, message_with_one_nan};
 ghost use Rattle.pb_json_laws.specs.Texts.{IsJsonValue, Means, json_depth};
 ghost use Rattle.pb_json_laws.specs.Scalars.{IsKeyKind, IsNoEnum, with_one_nan};
 
@@ -106,22 +108,25 @@ pub fn written_texts()
         → (v : Placed) × IsJson v text × Means j v.1 }
 {}
 
-/// The name of each field, as it is declared in each pool, and in lowerCamelCase in a pool where no two fields of a message have one.
+/// The name of each field, as it is declared in each pool, and in lowerCamelCase in a pool where no two fields of a message have one. Where fields are
+/// given names: as these say, in a pool where no two fields of a message have one, and none is declared by that of another.
 pub fn written_names()
-    ensures declared { (pool : Types) → IsPool pool → NamesAreRead Declared pool }
-    ensures lower_camel { (pool : Types) → CamelNamesDiffer pool → NamesAreRead LowerCamel pool }
+    ensures declared { (pool : Types) → IsPool pool → NamesAreRead Declared none_given pool }
+    ensures lower_camel { (pool : Types) → CamelNamesDiffer pool → NamesAreRead LowerCamel none_given pool }
+    ensures given { (pool : Types) → GivenNamesAreRead pool }
 {}
 
 /// A message that is covered, as its JSON value; each NaN is read as one NaN.
 pub fn read_messages()
-    ensures { (pool : Types) (names : AnyNames) (rules : AnyRules) → IsPool pool → NamesAreRead names pool → (levels m : ℕ) (b : Message) → IsBody pool m b
-        → IsCoveredWithin pool levels m b → (at : ℕ) (j : Json) → Means (message_json pool names levels m b) j
-        → ReadsMessage pool rules m at j (Ok (message_with_one_nan b)) }
+    ensures { (pool : Types) (names : AnyNames) (given : NamesGiven) (rules : AnyRules) → IsPool pool → AreMemberNames names
+        → NamesAreRead names given pool → (levels m : ℕ) (b : Message) → IsBody pool m b → IsCoveredWithin pool levels m b → (at : ℕ) (j : Json) → Means (message_json pool names levels m b) j
+        → ReadsMessage pool rules given m at j (Ok (message_with_one_nan b)) }
 {}
 
 /// A message that is covered, as its text in each form. It nests at most 100 arrays and objects, and each NaN is read as one NaN.
 pub fn written_messages()
-    ensures { (pool : Types) (form : AnyForm) (rules : AnyRules) → IsPool pool → NamesAreRead form.names pool → (m : ℕ) (b : Message) → IsWellFormed pool m b
-        → IsCovered pool m b → json_depth (message_json pool form.names 101 m b) ≤ 100
-        → (text : List ℕ) → IsJsonText form.layout 0 (message_json pool form.names 101 m b) text → IsReadAs pool rules m text (message_with_one_nan b) }
+    ensures { (pool : Types) (form : AnyForm) (given : NamesGiven) (rules : AnyRules) → IsPool pool → AreMemberNames form.names
+        → NamesAreRead form.names given pool → (m : ℕ) (b : Message) → IsWellFormed pool m b → IsCovered pool m b → json_depth (message_json pool form.names 101 m b) ≤ 100
+        → (text : List ℕ) → IsJsonText form.layout 0 (message_json pool form.names 101 m b) text
+        → IsReadBy pool rules given m text (message_with_one_nan b) }
 {}

@@ -8,6 +8,7 @@ use Rattle.pb_value.specs.Data.{Message, fields_of, get_field}
 use Rattle.pb_value.specs.View.{body_view}
 use Rattle.pb_value.specs.WellFormed.{IsWellFormed}
 use Rattle.pb_value.specs.declared.body.Body.{Body}
+use Rattle.pb_json.specs.Given.{NamesGiven}
 use Rattle.pb_json_text.specs.Json.{Members, Placed}
 use Rattle.pb_json_text.specs.View.{Named, form_view, members_view}
 use Rattle.pb_json_text.specs.declared.value.JsonMember.{JsonMember}
@@ -18,6 +19,7 @@ use Rattle.pb_json_read.specs.Answers.{Answers, Changes}
 use Rattle.pb_json_read.specs.Anys.{Tag, any_fields, beside, field_of, is_tag, message_beside, message_held, only_tag, tag_before, tags, untagged, value_field}
 use Rattle.pb_json_read.specs.Anys.{Encodes, ReadsAnyOf, ReadsNamed, ReadsTagged, url_meant}
 use Rattle.pb_json_read.specs.Faults.{fault, out_of_memory}
+use Rattle.pb_json_read.specs.Names.{field_meant}
 use Rattle.pb_json_read.specs.Reads.{AnyOf, InAnyOf, ReadsBeside, ReadsMember, ReadsMemberBeside}
 use Rattle.pb_json_read.specs.Steps.{Read, Made, Parts, Then, Unless, given, nothing}
 use Rattle.pb_json_read.specs.WellKnown.{string_meant}
@@ -100,16 +102,16 @@ encodes_done pool t at b bs well short is = (well, subst (λ (s : List ℕ). len
 
 -- THE OTHER MEMBERS
 
-module _ (pool : Types) (rules : JsonRules) (meant : List ℕ → Option FieldView) (m : Named) (p : Parts) where
-  pub beside_tag : is_tag m.1 ≡ true → ReadsMemberBeside pool rules meant m p (Ok p)
-  beside_tag is = subst (λ (b : Bool). Unless b p (λ r. ReadsMember pool rules (meant m.1) m p r) (Ok p)) (sym is) refl
+module _ (pool : Types) (rules : JsonRules) (names : NamesGiven) (meant : List ℕ → Option FieldView) (m : Named) (p : Parts) where
+  pub beside_tag : is_tag m.1 ≡ true → ReadsMemberBeside pool rules names meant m p (Ok p)
+  beside_tag is = subst (λ (b : Bool). Unless b p (λ r. ReadsMember pool rules names (meant m.1) m p r) (Ok p)) (sym is) refl
 
   pub beside_other : {X : Type 0} (f : Option FieldView) (new : Parts) (r : Result X JsonReadError) → is_tag m.1 ≡ false → f ≡ meant m.1
-      → Changes new (ReadsMember pool rules f m p) r → Changes new (ReadsMemberBeside pool rules meant m p) r
+      → Changes new (ReadsMember pool rules names f m p) r → Changes new (ReadsMemberBeside pool rules names meant m p) r
   beside_other f new r is same h =
-      changes_weaker new (ReadsMember pool rules f m p) (ReadsMemberBeside pool rules meant m p) r
-      (λ o k. subst (λ (b : Bool). Unless b p (λ s. ReadsMember pool rules (meant m.1) m p s) o) (sym is)
-      (subst (λ (g : Option FieldView). ReadsMember pool rules g m p o) same k)) h
+      changes_weaker new (ReadsMember pool rules names f m p) (ReadsMemberBeside pool rules names meant m p) r
+      (λ o k. subst (λ (b : Bool). Unless b p (λ s. ReadsMember pool rules names (meant m.1) m p s) o) (sym is)
+      (subst (λ (g : Option FieldView). ReadsMember pool rules names g m p o) same k)) h
 
 abbrev Same : (r s : Read Message) → Type 0
 Same r s = r ≡ s
@@ -122,22 +124,22 @@ ok_err x e same = cc
 
 -- THE WHOLE
 
-module _ (pool : Types) (rules : JsonRules) (at : ℕ) (ms : Members) where
+module _ (pool : Types) (rules : JsonRules) (names : NamesGiven) (at : ℕ) (ms : Members) where
   abbrev Beside : (List ℕ → Option FieldView) → Read Parts → Type 0
-  Beside meant o = ReadsBeside pool rules meant nothing ms o
+  Beside meant o = ReadsBeside pool rules names meant nothing ms o
 
   abbrev Inside : ℕ → Option FieldView → Read Message → Type 0
-  Inside t f o = Then (Beside (beside f (message_fields pool t))) (λ p r. r ≡ given at (message_beside f p.message)) o
+  Inside t f o = Then (Beside (beside f (field_meant names pool t))) (λ p r. r ≡ given at (message_beside f p.message)) o
 
   -- the message in an Any
   module _ (t : ℕ) where
     pub in_any_plain : (r : Result Body JsonReadError) → field_of pool t ≡ None
-        → Answers body_view (Made (Beside (beside None (message_fields pool t))) (λ p. p.message)) r → Answers body_view (InAnyOf pool rules at ms t) r
+        → Answers body_view (Made (Beside (beside None (field_meant names pool t))) (λ p. p.message)) r → Answers body_view (InAnyOf pool rules names at ms t) r
     in_any_plain r is h = subst (λ (f : Option FieldView). Answers body_view (Inside t f) r) (sym is) h
 
     pub in_any_held : (b : Message) (r : Result Body JsonReadError) → field_of pool t ≡ Some (value_field t)
-        → Made (Beside (beside (Some (value_field t)) (message_fields pool t))) (λ p. p.message) (Ok b)
-        → Answers body_view (λ o. o ≡ given at (option_and_then message_held (get_field 1 (fields_of b)))) r → Answers body_view (InAnyOf pool rules at ms t) r
+        → Made (Beside (beside (Some (value_field t)) (field_meant names pool t))) (λ p. p.message) (Ok b)
+        → Answers body_view (λ o. o ≡ given at (option_and_then message_held (get_field 1 (fields_of b)))) r → Answers body_view (InAnyOf pool rules names at ms t) r
     in_any_held b r is (Ok p, first, same) h =
         subst (λ (f : Option FieldView). Answers body_view (Inside t f) r) (sym is)
         (answers_weaker body_view (λ o. o ≡ given at (option_and_then message_held (get_field 1 (fields_of b)))) (Inside t (Some (value_field t))) r
@@ -145,32 +147,32 @@ module _ (pool : Types) (rules : JsonRules) (at : ℕ) (ms : Members) where
     in_any_held b r is (Err e, first, same) h = absurd (ok_err b e same)
 
     pub in_any_stops : (e : JsonReadError) → field_of pool t ≡ Some (value_field t)
-        → (e ≡ out_of_memory) ⊎ Made (Beside (beside (Some (value_field t)) (message_fields pool t))) (λ p. p.message) (Err e)
-        → (e ≡ out_of_memory) ⊎ InAnyOf pool rules at ms t (Err e)
+        → (e ≡ out_of_memory) ⊎ Made (Beside (beside (Some (value_field t)) (field_meant names pool t))) (λ p. p.message) (Err e)
+        → (e ≡ out_of_memory) ⊎ InAnyOf pool rules names at ms t (Err e)
     in_any_stops e is (inl none) = inl none
     in_any_stops e is (inr (Ok p, first, same)) = absurd (ok_err p.message e (sym same))
     in_any_stops e is (inr (Err f, first, same)) = inr (subst (λ (g : Option FieldView). Inside t g (Err e)) (sym is) (Err f, first, same))
 
   -- an Any, by its fields
   module _ (m : ℕ) where
-    pub any_none : (e : JsonReadError) → any_fields (message_fields pool m) ≡ None → e ≡ fault at BadValue → Answers body_view (AnyOf pool rules at ms m) (Err e)
+    pub any_none : (e : JsonReadError) → any_fields (message_fields pool m) ≡ None → e ≡ fault at BadValue → Answers body_view (AnyOf pool rules names at ms m) (Err e)
     any_none e is same =
-        subst (λ (fs : Option (FieldView × FieldView)). Answers body_view (ReadsAnyOf pool at Beside fs ms) (Err e)) (sym is) (none_answers body_view at e same)
+        subst (λ (fs : Option (FieldView × FieldView)). Answers body_view (ReadsAnyOf pool names at Beside fs ms) (Err e)) (sym is) (none_answers body_view at e same)
 
     module _ (fs : FieldView × FieldView) (are : any_fields (message_fields pool m) ≡ Some fs) where
-      pub any_stops : (e : JsonReadError) → (e ≡ out_of_memory) ⊎ (Err e ≡ only_tag (tags ms)) → (e ≡ out_of_memory) ⊎ AnyOf pool rules at ms m (Err e)
+      pub any_stops : (e : JsonReadError) → (e ≡ out_of_memory) ⊎ (Err e ≡ only_tag (tags ms)) → (e ≡ out_of_memory) ⊎ AnyOf pool rules names at ms m (Err e)
       any_stops e h =
-          subst (λ (gs : Option (FieldView × FieldView)). (e ≡ out_of_memory) ⊎ ReadsAnyOf pool at Beside gs ms (Err e)) (sym are)
-          (or_weaker (after_err (only_tag (tags ms)) (λ v r. ReadsTagged pool at Beside fs ms v r) e) h)
+          subst (λ (gs : Option (FieldView × FieldView)). (e ≡ out_of_memory) ⊎ ReadsAnyOf pool names at Beside gs ms (Err e)) (sym are)
+          (or_weaker (after_err (only_tag (tags ms)) (λ v r. ReadsTagged pool names at Beside fs ms v r) e) h)
 
       pub any_tagged : (v : Option Placed) (r : Result Body JsonReadError) → Ok v ≡ only_tag (tags ms)
-          → Answers body_view (ReadsTagged pool at Beside fs ms v) r → Answers body_view (AnyOf pool rules at ms m) r
+          → Answers body_view (ReadsTagged pool names at Beside fs ms v) r → Answers body_view (AnyOf pool rules names at ms m) r
       any_tagged v r found h =
-          subst (λ (gs : Option (FieldView × FieldView)). Answers body_view (ReadsAnyOf pool at Beside gs ms) r) (sym are)
-          (answers_weaker body_view (ReadsTagged pool at Beside fs ms v) (ReadsAnyOf pool at Beside (Some fs) ms) r
-          (λ o k. after_ok (only_tag (tags ms)) v (λ w s. ReadsTagged pool at Beside fs ms w s) o found k) h)
+          subst (λ (gs : Option (FieldView × FieldView)). Answers body_view (ReadsAnyOf pool names at Beside gs ms) r) (sym are)
+          (answers_weaker body_view (ReadsTagged pool names at Beside fs ms v) (ReadsAnyOf pool names at Beside (Some fs) ms) r
+          (λ o k. after_ok (only_tag (tags ms)) v (λ w s. ReadsTagged pool names at Beside fs ms w s) o found k) h)
 
       pub any_named : (v : Placed) (url : Option (List ℕ × ℕ)) (r : Result Body JsonReadError) → Ok (Some v) ≡ only_tag (tags ms)
-          → url ≡ string_meant (url_meant pool) v.1 → Answers body_view (ReadsNamed pool at Beside fs v.0 url) r → Answers body_view (AnyOf pool rules at ms m) r
+          → url ≡ string_meant (url_meant pool) v.1 → Answers body_view (ReadsNamed pool names at Beside fs v.0 url) r → Answers body_view (AnyOf pool rules names at ms m) r
       any_named v url r found is h =
-          any_tagged (Some v) r found (subst (λ (u : Option (List ℕ × ℕ)). Answers body_view (ReadsNamed pool at Beside fs v.0 u) r) is h)
+          any_tagged (Some v) r found (subst (λ (u : Option (List ℕ × ℕ)). Answers body_view (ReadsNamed pool names at Beside fs v.0 u) r) is h)

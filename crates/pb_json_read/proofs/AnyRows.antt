@@ -9,6 +9,7 @@ use Rattle.pb_schema.specs.Types.{FieldView, MessageView, Types}
 use Rattle.pb_schema.specs.Scalar.{boolean, bytes, text}
 use Rattle.pb_value.specs.Data.{scalar, message, one, body, field, no_fields, empty, Message}
 use Rattle.pb_value.specs.WellFormed.{IsWellFormed}
+use Rattle.pb_json.specs.Given.{none_given}
 use Rattle.pb_json_text.specs.Json as json
 use Rattle.pb_json_read.specs.declared.rules.JsonRules.TheVariants.{Strict}
 use Rattle.pb_json_read.specs.declared.error.JsonReadCause.TheVariants.{BadValue, RepeatedName, UnknownName}
@@ -55,27 +56,27 @@ tag j ms = json.object (json.member 1 (codes "@type") 9 j ms)
 
 -- ---- the type
 
-unset : ReadsMessage pool Strict 0 0 (json.object json.no_members) (Ok empty)
+unset : ReadsMessage pool Strict none_given 0 0 (json.object json.no_members) (Ok empty)
 unset = refl
 
-no_object : ReadsMessage pool Strict 0 4 (json.array json.no_elements) (Err (fault 4 BadValue))
+no_object : ReadsMessage pool Strict none_given 0 4 (json.array json.no_elements) (Err (fault 4 BadValue))
 no_object = refl
 
-untyped : ReadsMessage pool Strict 0 0 (json.object (json.member 1 (codes "isOn") 8 (json.boolean true) json.no_members)) (Err (fault 0 BadValue))
+untyped : ReadsMessage pool Strict none_given 0 0 (json.object (json.member 1 (codes "isOn") 8 (json.boolean true) json.no_members)) (Err (fault 0 BadValue))
 untyped = refl
 
-no_string : ReadsMessage pool Strict 0 0 (tag (json.number (codes "1")) json.no_members) (Err (fault 9 BadValue))
+no_string : ReadsMessage pool Strict none_given 0 0 (tag (json.number (codes "1")) json.no_members) (Err (fault 9 BadValue))
 no_string = refl
 
-no_type : ReadsMessage pool Strict 0 0 (tag (json.string (codes "/google.protobuf.U")) json.no_members) (Err (fault 9 BadValue))
+no_type : ReadsMessage pool Strict none_given 0 0 (tag (json.string (codes "/google.protobuf.U")) json.no_members) (Err (fault 9 BadValue))
 unfolding rsplit_once
 no_type = refl
 
-no_slash : ReadsMessage pool Strict 0 0 (tag (json.string (codes "google.protobuf.T")) json.no_members) (Err (fault 9 BadValue))
+no_slash : ReadsMessage pool Strict none_given 0 0 (tag (json.string (codes "google.protobuf.T")) json.no_members) (Err (fault 9 BadValue))
 unfolding rsplit_once
 no_slash = refl
 
-typed_twice : ReadsMessage pool Strict 0 0 (tag (json.string t_url) (json.member 30 (codes "@type") 38 (json.string t_url) json.no_members)) (Err (fault 30 RepeatedName))
+typed_twice : ReadsMessage pool Strict none_given 0 0 (tag (json.string t_url) (json.member 30 (codes "@type") 38 (json.string t_url) json.no_members)) (Err (fault 30 RepeatedName))
 typed_twice = refl
 
 -- ---- the other members: of a type without a form of its own, before the URL
@@ -83,7 +84,7 @@ typed_twice = refl
 abbrev flagged : Parts
 flagged = record { message = on; numbers = 1 ∷ []; oneofs = [] }
 
-of_t : ReadsMessage pool Strict 0 0 (json.object (json.member 1 (codes "isOn") 8 (json.boolean true) (json.member 13 (codes "@type") 21 (json.string t_url) json.no_members))) (Ok (an_any t_url))
+of_t : ReadsMessage pool Strict none_given 0 0 (json.object (json.member 1 (codes "isOn") 8 (json.boolean true) (json.member 13 (codes "@type") 21 (json.string t_url) json.no_members))) (Ok (an_any t_url))
 unfolding rsplit_once shortest shortest_within
 of_t = (
   Ok (8 ∷ 1 ∷ []),
@@ -103,7 +104,7 @@ of_t = (
   refl,
 )
 
-no_member_of_t : ReadsMessage pool Strict 0 0 (tag (json.string t_url) (json.member 30 (codes "value") 38 (json.boolean true) json.no_members)) (Err (fault 30 UnknownName))
+no_member_of_t : ReadsMessage pool Strict none_given 0 0 (tag (json.string t_url) (json.member 30 (codes "value") 38 (json.boolean true) json.no_members)) (Err (fault 30 UnknownName))
 unfolding rsplit_once
 no_member_of_t = (
   Err (fault 30 UnknownName),
@@ -116,7 +117,7 @@ no_member_of_t = (
 abbrev held : Parts
 held = record { message = body (field 1 (one (message on)) no_fields) []; numbers = 1 ∷ []; oneofs = [] }
 
-of_bool : ReadsMessage pool Strict 0 0 (tag (json.string bool_url) (json.member 30 (codes "value") 38 (json.boolean true) json.no_members)) (Ok (an_any bool_url))
+of_bool : ReadsMessage pool Strict none_given 0 0 (tag (json.string bool_url) (json.member 30 (codes "value") 38 (json.boolean true) json.no_members)) (Ok (an_any bool_url))
 unfolding rsplit_once shortest shortest_within
 of_bool = (
   Ok (8 ∷ 1 ∷ []),
@@ -148,11 +149,11 @@ of_bool = (
   refl,
 )
 
-no_value : ReadsMessage pool Strict 0 0 (tag (json.string bool_url) json.no_members) (Err (fault 0 BadValue))
+no_value : ReadsMessage pool Strict none_given 0 0 (tag (json.string bool_url) json.no_members) (Err (fault 0 BadValue))
 unfolding rsplit_once
 no_value = (Err (fault 0 BadValue), (Err (fault 0 BadValue), (Ok nothing, (Ok nothing, refl, refl), refl), refl), refl)
 
-no_member_of_bool : ReadsMessage pool Strict 0 0 (tag (json.string bool_url) (json.member 30 (codes "isOn") 38 (json.boolean true) json.no_members)) (Err (fault 30 UnknownName))
+no_member_of_bool : ReadsMessage pool Strict none_given 0 0 (tag (json.string bool_url) (json.member 30 (codes "isOn") 38 (json.boolean true) json.no_members)) (Err (fault 30 UnknownName))
 unfolding rsplit_once
 no_member_of_bool = (
   Err (fault 30 UnknownName),

@@ -8,6 +8,7 @@ use Rattle.pb_schema.specs.declared.types.Shape.TheVariants as shape
 use Rattle.pb_schema.specs.Types.{FieldView, MessageView, Types}
 use Rattle.pb_schema.specs.Scalar.{boolean, enum, int32, int64, text}
 use Rattle.pb_value.specs.Data.{scalar, message, one, list, datum, no_datums, body, field, no_fields, empty}
+use Rattle.pb_json.specs.Given.{none_given}
 use Rattle.pb_json_text.specs.Json as json
 use Rattle.pb_json_read.specs.declared.rules.JsonRules.TheVariants.{Strict}
 use Rattle.pb_json_read.specs.declared.error.JsonReadCause.TheVariants.{BadValue}
@@ -101,27 +102,27 @@ null_is_no_list = refl
 
 -- ---- messages: `true` and `false` as a BoolValue, and a string, which is none; `null` and `[]` as a Value
 
-wrapped : ReadsMessage pool Strict 0 4 (json.boolean true) (Ok (body (field 1 (one (scalar (boolean true))) no_fields) []))
+wrapped : ReadsMessage pool Strict none_given 0 4 (json.boolean true) (Ok (body (field 1 (one (scalar (boolean true))) no_fields) []))
 wrapped = (Ok (Some (one (scalar (boolean true)))), (Ok (Some (scalar (boolean true))), (true, refl, refl), refl), refl)
 
-wrapped_default : ReadsMessage pool Strict 0 4 (json.boolean false) (Ok empty)
+wrapped_default : ReadsMessage pool Strict none_given 0 4 (json.boolean false) (Ok empty)
 wrapped_default = (Ok (Some (one (scalar (boolean false)))), (Ok (Some (scalar (boolean false))), (false, refl, refl), refl), refl)
 
-not_wrapped : ReadsMessage pool Strict 0 4 (json.string (codes "true")) (Err (fault 4 BadValue))
+not_wrapped : ReadsMessage pool Strict none_given 0 4 (json.string (codes "true")) (Err (fault 4 BadValue))
 not_wrapped = (Err (fault 4 BadValue), (Err (fault 4 BadValue), (λ d h. h.1, refl, refl), refl), refl)
 
-null_value : ReadsMessage pool Strict 1 4 json.null (Ok (body (field 1 (one (scalar (enum (pos 0)))) no_fields) []))
+null_value : ReadsMessage pool Strict none_given 1 4 json.null (Ok (body (field 1 (one (scalar (enum (pos 0)))) no_fields) []))
 null_value = (Ok (Some (one (scalar (enum (pos 0))))), (Ok (Some (scalar (enum (pos 0)))), (pos 0, (refl, refl), refl), refl), refl)
 
-a_list_value : ReadsMessage pool Strict 1 4 (json.array json.no_elements) (Ok (body (field 6 (one (message empty)) no_fields) []))
+a_list_value : ReadsMessage pool Strict none_given 1 4 (json.array json.no_elements) (Ok (body (field 6 (one (message empty)) no_fields) []))
 a_list_value = (
   Ok (Some (one (message empty))),
   (Ok (Some (message empty)), (Ok empty, (Ok (Some (list no_datums)), (Ok no_datums, refl, refl), refl), refl), refl),
   refl,
 )
 
-no_field_for_it : ReadsMessage pool Strict 1 4 (json.boolean true) (Err (fault 4 BadValue))
+no_field_for_it : ReadsMessage pool Strict none_given 1 4 (json.boolean true) (Err (fault 4 BadValue))
 no_field_for_it = refl
 
-no_list : ReadsMessage pool Strict 2 4 (json.object json.no_members) (Err (fault 4 BadValue))
+no_list : ReadsMessage pool Strict none_given 2 4 (json.object json.no_members) (Err (fault 4 BadValue))
 no_list = (Err (fault 4 BadValue), (Err (fault 4 BadValue), refl, refl), refl)

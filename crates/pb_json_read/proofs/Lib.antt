@@ -1,4 +1,4 @@
--- for names of members in lowerCamelCase
+-- for names of members
 pub mod NameLemmas
 -- for readers of single values: the one thing of which a fact holds, and what is read of none
 pub mod ScalarLemmas

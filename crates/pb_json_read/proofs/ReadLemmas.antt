@@ -10,6 +10,7 @@ use Rattle.pb_value.specs.Data.{Datum, message, Datums, Entries, Holding}
 use Rattle.pb_value.specs.View.{body_view}
 use Rattle.pb_value.specs.declared.body.Body.{Body}
 use Rattle.pb_json.specs.declared.well_known.WellKnown.{WellKnown}
+use Rattle.pb_json.specs.Given.{NamesGiven}
 use Rattle.pb_json.specs.WellKnown.{well_known}
 use Rattle.pb_json_text.specs.Json.{Json, null, boolean, number, string, array, object, Elements, element, Members, member}
 use Rattle.pb_json_text.specs.View.{Named, elements_view, members_view, members_from, elements_from, member_view, value_view, form_view}
@@ -22,7 +23,6 @@ use Rattle.pb_json_read.specs.declared.rules.JsonRules.{JsonRules}
 use Rattle.pb_json_read.specs.Answers.{Answers, Changes, named}
 use Rattle.pb_json_read.specs.Faults.{fault, out_of_memory}
 use Rattle.pb_json_read.specs.Forms.{ReadsForm}
-use Rattle.pb_json_read.specs.Names.{field_meant}
 use Rattle.pb_json_read.specs.Steps.{Read, After, Then, Made, NoValue, Parts, with_datum}
 use Rattle.pb_json_read.specs.Steps.{ReadsSingle, ReadsOf, ReadsShape, ReadsScalar}
 use Rattle.pb_json_read.specs.Reads.{ReadsMember, ReadsMemberBeside, ReadsMemberEntry}
@@ -77,55 +77,55 @@ elements_next vs i v below is =
     ap elements_view (from_item vs i v below is)
     ∙ ap (λ p. elements_from (p ∷ map value_view (drop (i + 1) vs))) (value_view-parts v)
 
-module _ (pool : Types) (rules : JsonRules) where
-  pub members_step : (all : List FieldView) (p q : Parts) (ms : List JsonMember) (i : ℕ) (m : JsonMember) → i < length ms → m ≡ get_or ms i m
-      → ReadsMember pool rules (field_meant (named m).1 all) (named m) p (Ok q) → (o : Read Parts) → ReadsMembers pool rules all q (members_view (drop (i + 1) ms)) o
-      → ReadsMembers pool rules all p (members_view (drop i ms)) o
-  members_step all p q ms i m below is first o rest =
-      subst (λ (l : Members). ReadsMembers pool rules all p l o) (sym (members_next ms i m below is)) (Ok q, first, rest)
+module _ (pool : Types) (rules : JsonRules) (names : NamesGiven) where
+  pub members_step : (meant : List ℕ → Option FieldView) (p q : Parts) (ms : List JsonMember) (i : ℕ) (m : JsonMember) → i < length ms → m ≡ get_or ms i m
+      → ReadsMember pool rules names (meant (named m).1) (named m) p (Ok q) → (o : Read Parts) → ReadsMembers pool rules names meant q (members_view (drop (i + 1) ms)) o
+      → ReadsMembers pool rules names meant p (members_view (drop i ms)) o
+  members_step meant p q ms i m below is first o rest =
+      subst (λ (l : Members). ReadsMembers pool rules names meant p l o) (sym (members_next ms i m below is)) (Ok q, first, rest)
 
-  pub members_stop : (all : List FieldView) (p : Parts) (ms : List JsonMember) (i : ℕ) (m : JsonMember) → i < length ms → m ≡ get_or ms i m → (e : JsonReadError)
-      → ReadsMember pool rules (field_meant (named m).1 all) (named m) p (Err e) → ReadsMembers pool rules all p (members_view (drop i ms)) (Err e)
-  members_stop all p ms i m below is e first =
-      subst (λ (l : Members). ReadsMembers pool rules all p l (Err e)) (sym (members_next ms i m below is)) (Err e, first, refl)
+  pub members_stop : (meant : List ℕ → Option FieldView) (p : Parts) (ms : List JsonMember) (i : ℕ) (m : JsonMember) → i < length ms → m ≡ get_or ms i m → (e : JsonReadError)
+      → ReadsMember pool rules names (meant (named m).1) (named m) p (Err e) → ReadsMembers pool rules names meant p (members_view (drop i ms)) (Err e)
+  members_stop meant p ms i m below is e first =
+      subst (λ (l : Members). ReadsMembers pool rules names meant p l (Err e)) (sym (members_next ms i m below is)) (Err e, first, refl)
 
   pub beside_step : (meant : List ℕ → Option FieldView) (p q : Parts) (ms : List JsonMember) (i : ℕ) (m : JsonMember) → i < length ms → m ≡ get_or ms i m
-      → ReadsMemberBeside pool rules meant (named m) p (Ok q) → (o : Read Parts) → ReadsBeside pool rules meant q (members_view (drop (i + 1) ms)) o
-      → ReadsBeside pool rules meant p (members_view (drop i ms)) o
+      → ReadsMemberBeside pool rules names meant (named m) p (Ok q) → (o : Read Parts) → ReadsBeside pool rules names meant q (members_view (drop (i + 1) ms)) o
+      → ReadsBeside pool rules names meant p (members_view (drop i ms)) o
   beside_step meant p q ms i m below is first o rest =
-      subst (λ (l : Members). ReadsBeside pool rules meant p l o) (sym (members_next ms i m below is)) (Ok q, first, rest)
+      subst (λ (l : Members). ReadsBeside pool rules names meant p l o) (sym (members_next ms i m below is)) (Ok q, first, rest)
 
   pub beside_stop : (meant : List ℕ → Option FieldView) (p : Parts) (ms : List JsonMember) (i : ℕ) (m : JsonMember) → i < length ms → m ≡ get_or ms i m → (e : JsonReadError)
-      → ReadsMemberBeside pool rules meant (named m) p (Err e) → ReadsBeside pool rules meant p (members_view (drop i ms)) (Err e)
+      → ReadsMemberBeside pool rules names meant (named m) p (Err e) → ReadsBeside pool rules names meant p (members_view (drop i ms)) (Err e)
   beside_stop meant p ms i m below is e first =
-      subst (λ (l : Members). ReadsBeside pool rules meant p l (Err e)) (sym (members_next ms i m below is)) (Err e, first, refl)
+      subst (λ (l : Members). ReadsBeside pool rules names meant p l (Err e)) (sym (members_next ms i m below is)) (Err e, first, refl)
 
   pub entries_step : (key k : Kind) (es fs : Entries) (ms : List JsonMember) (i : ℕ) (m : JsonMember) → i < length ms → m ≡ get_or ms i m
-      → ReadsMemberEntry pool rules key k (named m) es (Ok fs) → (o : Read Entries) → ReadsEntries pool rules key k fs (members_view (drop (i + 1) ms)) o
-      → ReadsEntries pool rules key k es (members_view (drop i ms)) o
+      → ReadsMemberEntry pool rules names key k (named m) es (Ok fs) → (o : Read Entries) → ReadsEntries pool rules names key k fs (members_view (drop (i + 1) ms)) o
+      → ReadsEntries pool rules names key k es (members_view (drop i ms)) o
   entries_step key k es fs ms i m below is first o rest =
-      subst (λ (l : Members). ReadsEntries pool rules key k es l o) (sym (members_next ms i m below is)) (Ok fs, first, rest)
+      subst (λ (l : Members). ReadsEntries pool rules names key k es l o) (sym (members_next ms i m below is)) (Ok fs, first, rest)
 
   pub entries_stop : (key k : Kind) (es : Entries) (ms : List JsonMember) (i : ℕ) (m : JsonMember) → i < length ms → m ≡ get_or ms i m → (e : JsonReadError)
-      → ReadsMemberEntry pool rules key k (named m) es (Err e) → ReadsEntries pool rules key k es (members_view (drop i ms)) (Err e)
+      → ReadsMemberEntry pool rules names key k (named m) es (Err e) → ReadsEntries pool rules names key k es (members_view (drop i ms)) (Err e)
   entries_stop key k es ms i m below is e first =
-      subst (λ (l : Members). ReadsEntries pool rules key k es l (Err e)) (sym (members_next ms i m below is)) (Err e, first, refl)
+      subst (λ (l : Members). ReadsEntries pool rules names key k es l (Err e)) (sym (members_next ms i m below is)) (Err e, first, refl)
 
   pub elements_step : (k : Kind) (ds : Datums) (d : Option Datum) (vs : List JsonValue) (i : ℕ) (v : JsonValue) → i < length vs → v ≡ get_or vs i v
-      → ReadsValue pool rules k v.at (form_view v.form) (Ok d) → (o : Read Datums) → ReadsElements pool rules k (with_datum ds d) (elements_view (drop (i + 1) vs)) o
-      → ReadsElements pool rules k ds (elements_view (drop i vs)) o
+      → ReadsValue pool rules names k v.at (form_view v.form) (Ok d) → (o : Read Datums) → ReadsElements pool rules names k (with_datum ds d) (elements_view (drop (i + 1) vs)) o
+      → ReadsElements pool rules names k ds (elements_view (drop i vs)) o
   elements_step k ds d vs i v below is first o rest =
-      subst (λ (l : Elements). ReadsElements pool rules k ds l o) (sym (elements_next vs i v below is)) (Ok d, first, rest)
+      subst (λ (l : Elements). ReadsElements pool rules names k ds l o) (sym (elements_next vs i v below is)) (Ok d, first, rest)
 
   pub elements_stop : (k : Kind) (ds : Datums) (vs : List JsonValue) (i : ℕ) (v : JsonValue) → i < length vs → v ≡ get_or vs i v → (e : JsonReadError)
-      → ReadsValue pool rules k v.at (form_view v.form) (Err e) → ReadsElements pool rules k ds (elements_view (drop i vs)) (Err e)
+      → ReadsValue pool rules names k v.at (form_view v.form) (Err e) → ReadsElements pool rules names k ds (elements_view (drop i vs)) (Err e)
   elements_stop k ds vs i v below is e first =
-      subst (λ (l : Elements). ReadsElements pool rules k ds l (Err e)) (sym (elements_next vs i v below is)) (Err e, first, refl)
+      subst (λ (l : Elements). ReadsElements pool rules names k ds l (Err e)) (sym (elements_next vs i v below is)) (Err e, first, refl)
 
   -- A VALUE, BY HOW ITS PARTS ARE READ
 
-  value_as : (k : Kind) (at : ℕ) (j : Json) (o : Read (Option Datum)) → ReadsSingle pool rules k at j (λ m r. ReadsMessage pool rules m at j r) o
-      → ReadsValue pool rules k at j o
+  value_as : (k : Kind) (at : ℕ) (j : Json) (o : Read (Option Datum)) → ReadsSingle pool rules k at j (λ m r. ReadsMessage pool rules names m at j r) o
+      → ReadsValue pool rules names k at j o
   value_as k at (object ms) o h = h
   value_as k at (array js) o h = h
   value_as k at null o h = h
@@ -133,18 +133,18 @@ module _ (pool : Types) (rules : JsonRules) where
   value_as k at (number s) o h = h
   value_as k at (string s) o h = h
 
-  pub value_plain : (k : Kind) (at : ℕ) (j : Json) (o : Read (Option Datum)) → message_of_kind k ≡ None → ReadsScalar pool rules k at j o → ReadsValue pool rules k at j o
+  pub value_plain : (k : Kind) (at : ℕ) (j : Json) (o : Read (Option Datum)) → message_of_kind k ≡ None → ReadsScalar pool rules k at j o → ReadsValue pool rules names k at j o
   value_plain k at j o is h =
-      value_as k at j o (subst (λ (t : Option ℕ). ReadsOf t (ReadsScalar pool rules k at j) (λ m r. ReadsMessage pool rules m at j r) o) (sym is) h)
+      value_as k at j o (subst (λ (t : Option ℕ). ReadsOf t (ReadsScalar pool rules k at j) (λ m r. ReadsMessage pool rules names m at j r) o) (sym is) h)
 
-  pub value_inside : (k : Kind) (at m : ℕ) (j : Json) (o : Read (Option Datum)) → message_of_kind k ≡ Some m → Made (ReadsMessage pool rules m at j) (λ b. Some (message b)) o
-      → ReadsValue pool rules k at j o
+  pub value_inside : (k : Kind) (at m : ℕ) (j : Json) (o : Read (Option Datum)) → message_of_kind k ≡ Some m → Made (ReadsMessage pool rules names m at j) (λ b. Some (message b)) o
+      → ReadsValue pool rules names k at j o
   value_inside k at m j o is h =
-      value_as k at j o (subst (λ (t : Option ℕ). ReadsOf t (ReadsScalar pool rules k at j) (λ n r. ReadsMessage pool rules n at j r) o) (sym is) h)
+      value_as k at j o (subst (λ (t : Option ℕ). ReadsOf t (ReadsScalar pool rules k at j) (λ n r. ReadsMessage pool rules names n at j r) o) (sym is) h)
 
   pub content_as : (s : Shape) (k : Kind) (at : ℕ) (j : Json) (o : Read (Option Holding))
-      → ReadsShape s (λ r. ReadsValue pool rules k at j r) (λ r. ReadsList pool rules k at j r) (λ key r. ReadsMap pool rules key k at j r) o
-      → ReadsContent pool rules s k at j o
+      → ReadsShape s (λ r. ReadsValue pool rules names k at j r) (λ r. ReadsList pool rules names k at j r) (λ key r. ReadsMap pool rules names key k at j r) o
+      → ReadsContent pool rules names s k at j o
   content_as s k at (object ms) o h = h
   content_as s k at (array js) o h = h
   content_as s k at null o h = h
@@ -155,10 +155,10 @@ module _ (pool : Types) (rules : JsonRules) where
   -- A MESSAGE, BY THE FORM OF ITS TYPE
 
   pub form_answers : (m at : ℕ) (j : Json) (w : WellKnown) → well_known pool m ≡ w → (r : Result Body JsonReadError)
-      → Answers body_view (λ o. ReadsForm pool rules at j (λ key e q. ReadsMap pool rules key e at j q) (λ e q. ReadsList pool rules e at j q) w (λ q. ReadsObject pool rules m at j q) (λ q. ReadsAnyObject pool rules m at j q) m o) r
-      → Answers body_view (ReadsMessage pool rules m at j) r
+      → Answers body_view (λ o. ReadsForm pool rules at j (λ key e q. ReadsMap pool rules names key e at j q) (λ e q. ReadsList pool rules names e at j q) w (λ q. ReadsObject pool rules names m at j q) (λ q. ReadsAnyObject pool rules names m at j q) m o) r
+      → Answers body_view (ReadsMessage pool rules names m at j) r
   form_answers m at j w is r h =
-      subst (λ (v : WellKnown). Answers body_view (λ o. ReadsForm pool rules at j (λ key e q. ReadsMap pool rules key e at j q) (λ e q. ReadsList pool rules e at j q) v (λ q. ReadsObject pool rules m at j q) (λ q. ReadsAnyObject pool rules m at j q) m o) r)
+      subst (λ (v : WellKnown). Answers body_view (λ o. ReadsForm pool rules at j (λ key e q. ReadsMap pool rules names key e at j q) (λ e q. ReadsList pool rules names e at j q) v (λ q. ReadsObject pool rules names m at j q) (λ q. ReadsAnyObject pool rules names m at j q) m o) r)
       (sym is) h
 
 -- ANSWERS

@@ -5,6 +5,7 @@ use Rattle.pb_schema.specs.Types.{Types}
 use Rattle.pb_value.specs.Data.{Message}
 use Rattle.pb_value.specs.Dynamic.{Dynamic}
 use Rattle.pb_value.specs.WellFormed.{IsWellFormed}
+use Rattle.pb_json.specs.Given.{NamesGiven}
 use Rattle.pb_json_text.specs.Json.{Placed}
 use Rattle.pb_json_text.specs.Texts.{IsJson, HasFault}
 use Rattle.pb_json_text.specs.Fault as text
@@ -16,7 +17,7 @@ use Rattle.pb_json_text.specs.declared.value.JsonValue.{JsonValue}
 use Rattle.pb_json_read.specs.declared.error.JsonReadCause.TheVariants.{TooDeep}
 use Rattle.pb_json_read.specs.declared.error.JsonReadError.{JsonReadError}
 use Rattle.pb_json_read.specs.declared.rules.JsonRules.{JsonRules}
-use Rattle.pb_json_read.specs.Answers.{IsReadAs, IsRefusedWith}
+use Rattle.pb_json_read.specs.Answers.{IsReadBy, IsRefusedBy}
 use Rattle.pb_json_read.specs.Faults.{fault, fault_of, out_of_memory}
 use Rattle.pb_json_read.specs.Reads.{ReadsMessage}
 use Rattle.pb_json_read.proofs.UniqueReads.{message_one}
@@ -40,17 +41,17 @@ ok_ok x y same = cc
 err_err : (e f : JsonReadError) → Same (Err e) (Err f) → e ≡ f
 err_err e f same = cc
 
-module _ (pool : Types) (rules : JsonRules) (m : ℕ) (b : List ℕ) where
+module _ (pool : Types) (rules : JsonRules) (names : NamesGiven) (m : ℕ) (b : List ℕ) where
   -- ---- the bytes are no JSON text
 
-  pub no_text_fault : (e : JsonFault) → (e ≡ text.out_of_memory) ⊎ HasFault e.cause b e.byte → (fault_of e ≡ out_of_memory) ⊎ IsRefusedWith pool rules m b (fault_of e)
+  pub no_text_fault : (e : JsonFault) → (e ≡ text.out_of_memory) ⊎ HasFault e.cause b e.byte → (fault_of e ≡ out_of_memory) ⊎ IsRefusedBy pool rules names m b (fault_of e)
   no_text_fault e (inl same) = inl (ap fault_of same)
   no_text_fault e (inr has) = inr (inl (e.byte, e.cause, has, refl))
 
-  pub no_text_accepted : (e : JsonFault) → Accepts b (Err e) → (v : Message) → IsReadAs pool rules m b v → fault_of e ≡ out_of_memory
+  pub no_text_accepted : (e : JsonFault) → Accepts b (Err e) → (v : Message) → IsReadBy pool rules names m b v → fault_of e ≡ out_of_memory
   no_text_accepted e accepts v (j, is, reads, well) = ap fault_of (accepts j is)
 
-  pub no_text_refused : (e : JsonFault) → Accepts b (Err e) → Refuses b (Err e) → (f : JsonReadError) → IsRefusedWith pool rules m b f
+  pub no_text_refused : (e : JsonFault) → Accepts b (Err e) → Refuses b (Err e) → (f : JsonReadError) → IsRefusedBy pool rules names m b f
       → (fault_of e ≡ out_of_memory) ⊎ (fault_of e ≡ f)
   no_text_refused e accepts refuses f (inl (n, c, has, is)) = by (refuses n c has)
     where
@@ -61,46 +62,46 @@ module _ (pool : Types) (rules : JsonRules) (m : ℕ) (b : List ℕ) where
 
   -- ---- the bytes are a text of this value
   module _ (w : JsonValue) (accepts : Accepts b (Ok w)) (refuses : Refuses b (Ok w)) (is : IsJson (value_view w) b) where
-    pub read_fault : (e : JsonReadError) → (e ≡ out_of_memory) ⊎ ReadsMessage pool rules m (value_view w).0 (value_view w).1 (Err e)
-        → (e ≡ out_of_memory) ⊎ IsRefusedWith pool rules m b e
+    pub read_fault : (e : JsonReadError) → (e ≡ out_of_memory) ⊎ ReadsMessage pool rules names m (value_view w).0 (value_view w).1 (Err e)
+        → (e ≡ out_of_memory) ⊎ IsRefusedBy pool rules names m b e
     read_fault e (inl same) = inl same
     read_fault e (inr reads) = inr (inr (value_view w, is, inl reads))
 
-    same_read : (j : Placed) → IsJson j b → (o : Result Message JsonReadError) → ReadsMessage pool rules m j.0 j.1 o
-        → ReadsMessage pool rules m (value_view w).0 (value_view w).1 o
-    same_read j also o reads = subst (λ (p : Placed). ReadsMessage pool rules m p.0 p.1 o) (sym (accepts j also)) reads
+    same_read : (j : Placed) → IsJson j b → (o : Result Message JsonReadError) → ReadsMessage pool rules names m j.0 j.1 o
+        → ReadsMessage pool rules names m (value_view w).0 (value_view w).1 o
+    same_read j also o reads = subst (λ (p : Placed). ReadsMessage pool rules names m p.0 p.1 o) (sym (accepts j also)) reads
 
-    pub fault_accepted : (e : JsonReadError) → (e ≡ out_of_memory) ⊎ ReadsMessage pool rules m (value_view w).0 (value_view w).1 (Err e)
-        → (v : Message) → IsReadAs pool rules m b v → e ≡ out_of_memory
+    pub fault_accepted : (e : JsonReadError) → (e ≡ out_of_memory) ⊎ ReadsMessage pool rules names m (value_view w).0 (value_view w).1 (Err e)
+        → (v : Message) → IsReadBy pool rules names m b v → e ≡ out_of_memory
     fault_accepted e (inl same) v read = same
     fault_accepted e (inr reads) v (j, also, other, well) =
-        absurd (ok_err v e (message_one pool rules m (value_view w).0 (value_view w).1 (Ok v) (Err e) (same_read j also (Ok v) other) reads))
+        absurd (ok_err v e (message_one pool rules names m (value_view w).0 (value_view w).1 (Ok v) (Err e) (same_read j also (Ok v) other) reads))
 
-    pub fault_refused : (e : JsonReadError) → (e ≡ out_of_memory) ⊎ ReadsMessage pool rules m (value_view w).0 (value_view w).1 (Err e)
-        → (f : JsonReadError) → IsRefusedWith pool rules m b f → (e ≡ out_of_memory) ⊎ (e ≡ f)
+    pub fault_refused : (e : JsonReadError) → (e ≡ out_of_memory) ⊎ ReadsMessage pool rules names m (value_view w).0 (value_view w).1 (Err e)
+        → (f : JsonReadError) → IsRefusedBy pool rules names m b f → (e ≡ out_of_memory) ⊎ (e ≡ f)
     fault_refused e (inl same) f has = inl same
     fault_refused e (inr reads) f (inl (n, c, has, k)) = absurd (refuses n c has)
     fault_refused e (inr reads) f (inr (j, also, inl other)) =
-        inr (err_err e f (message_one pool rules m (value_view w).0 (value_view w).1 (Err e) (Err f) reads (same_read j also (Err f) other)))
+        inr (err_err e f (message_one pool rules names m (value_view w).0 (value_view w).1 (Err e) (Err f) reads (same_read j also (Err f) other)))
     fault_refused e (inr reads) f (inr (j, also, inr (v, other, ill, k))) =
-        absurd (ok_err v e (message_one pool rules m (value_view w).0 (value_view w).1 (Ok v) (Err e) (same_read j also (Ok v) other) reads))
+        absurd (ok_err v e (message_one pool rules names m (value_view w).0 (value_view w).1 (Ok v) (Err e) (same_read j also (Ok v) other) reads))
 
-    module _ (body : Message) (reads : ReadsMessage pool rules m (value_view w).0 (value_view w).1 (Ok body)) where
-      same_body : (j : Placed) → IsJson j b → (v : Message) → ReadsMessage pool rules m j.0 j.1 (Ok v) → v ≡ body
+    module _ (body : Message) (reads : ReadsMessage pool rules names m (value_view w).0 (value_view w).1 (Ok body)) where
+      same_body : (j : Placed) → IsJson j b → (v : Message) → ReadsMessage pool rules names m j.0 j.1 (Ok v) → v ≡ body
       same_body j also v other =
-          ok_ok v body (message_one pool rules m (value_view w).0 (value_view w).1 (Ok v) (Ok body) (same_read j also (Ok v) other) reads)
+          ok_ok v body (message_one pool rules names m (value_view w).0 (value_view w).1 (Ok v) (Ok body) (same_read j also (Ok v) other) reads)
 
-      no_fault : (j : Placed) → IsJson j b → (e : JsonReadError) → ReadsMessage pool rules m j.0 j.1 (Err e) → ⊥
+      no_fault : (j : Placed) → IsJson j b → (e : JsonReadError) → ReadsMessage pool rules names m j.0 j.1 (Err e) → ⊥
       no_fault j also e other =
-          ok_err body e (message_one pool rules m (value_view w).0 (value_view w).1 (Ok body) (Err e) reads (same_read j also (Err e) other))
+          ok_err body e (message_one pool rules names m (value_view w).0 (value_view w).1 (Ok body) (Err e) reads (same_read j also (Err e) other))
 
-      pub done_read : IsWellFormed pool m body → IsReadAs pool rules m b body
+      pub done_read : IsWellFormed pool m body → IsReadBy pool rules names m b body
       done_read well = (value_view w, is, reads, well)
 
-      pub done_same : (v : Message) → IsReadAs pool rules m b v → body ≡ v
+      pub done_same : (v : Message) → IsReadBy pool rules names m b v → body ≡ v
       done_same v (j, also, other, well) = sym (same_body j also v other)
 
-      pub done_refused : IsWellFormed pool m body → (f : JsonReadError) → IsRefusedWith pool rules m b f → ⊥
+      pub done_refused : IsWellFormed pool m body → (f : JsonReadError) → IsRefusedBy pool rules names m b f → ⊥
       done_refused well f (inl (n, c, has, k)) = refuses n c has
       done_refused well f (inr (j, also, inl other)) = no_fault j also f other
       done_refused well f (inr (j, also, inr (v, other, ill, k))) = ill (subst (λ (x : Message). IsWellFormed pool m x) (sym (same_body j also v other)) well)
@@ -109,15 +110,15 @@ module _ (pool : Types) (rules : JsonRules) (m : ℕ) (b : List ℕ) where
       abbrev pub IsDeep : JsonReadError → Type 0
       IsDeep e = (e ≡ out_of_memory) ⊎ ((¬ IsWellFormed pool m body) × (e ≡ fault (value_view w).0 TooDeep))
 
-      pub deep_fault : (e : JsonReadError) → IsDeep e → (e ≡ out_of_memory) ⊎ IsRefusedWith pool rules m b e
+      pub deep_fault : (e : JsonReadError) → IsDeep e → (e ≡ out_of_memory) ⊎ IsRefusedBy pool rules names m b e
       deep_fault e (inl same) = inl same
       deep_fault e (inr (ill, k)) = inr (inr (value_view w, is, inr (body, reads, ill, k)))
 
-      pub deep_accepted : (e : JsonReadError) → IsDeep e → (v : Message) → IsReadAs pool rules m b v → e ≡ out_of_memory
+      pub deep_accepted : (e : JsonReadError) → IsDeep e → (v : Message) → IsReadBy pool rules names m b v → e ≡ out_of_memory
       deep_accepted e (inl same) v read = same
       deep_accepted e (inr (ill, k)) v (j, also, other, well) = absurd (ill (subst (λ (x : Message). IsWellFormed pool m x) (same_body j also v other) well))
 
-      pub deep_refused : (e : JsonReadError) → IsDeep e → (f : JsonReadError) → IsRefusedWith pool rules m b f → (e ≡ out_of_memory) ⊎ (e ≡ f)
+      pub deep_refused : (e : JsonReadError) → IsDeep e → (f : JsonReadError) → IsRefusedBy pool rules names m b f → (e ≡ out_of_memory) ⊎ (e ≡ f)
       deep_refused e (inl same) f has = inl same
       deep_refused e (inr deep) f (inl (n, c, has, k)) = absurd (refuses n c has)
       deep_refused e (inr deep) f (inr (j, also, inl other)) = absurd (no_fault j also f other)
@@ -125,15 +126,15 @@ module _ (pool : Types) (rules : JsonRules) (m : ℕ) (b : List ℕ) where
           inr (k ∙ ap (λ (p : Placed). fault p.0 TooDeep) (accepts j also) ∙ sym l)
 
 -- as the functions say where a value is
-pub at_value : {C : Type 0} (pool : Types) (rules : JsonRules) (m : ℕ) (w : JsonValue) (o : Result Message JsonReadError) → C ⊎ ReadsMessage pool rules m w.at (form_view w.form) o
-    → C ⊎ ReadsMessage pool rules m (value_view w).0 (value_view w).1 o
-at_value pool rules m w o (inl c) = inl c
-at_value pool rules m w o (inr h) = inr (subst (λ (p : Placed). ReadsMessage pool rules m p.0 p.1 o) (sym (value_view-parts w)) h)
+pub at_value : {C : Type 0} (pool : Types) (rules : JsonRules) (names : NamesGiven) (m : ℕ) (w : JsonValue) (o : Result Message JsonReadError) → C ⊎ ReadsMessage pool rules names m w.at (form_view w.form) o
+    → C ⊎ ReadsMessage pool rules names m (value_view w).0 (value_view w).1 o
+at_value pool rules names m w o (inl c) = inl c
+at_value pool rules names m w o (inr h) = inr (subst (λ (p : Placed). ReadsMessage pool rules names m p.0 p.1 o) (sym (value_view-parts w)) h)
 
-module _ (pool : Types) (rules : JsonRules) (m : ℕ) (b : List ℕ) (w : JsonValue) (accepts : Accepts b (Ok w)) (refuses : Refuses b (Ok w)) (is : IsJson (value_view w) b)
-    (body : Message) (reads : ReadsMessage pool rules m w.at (form_view w.form) (Ok body)) where
-  here : ReadsMessage pool rules m (value_view w).0 (value_view w).1 (Ok body)
-  here = subst (λ (p : Placed). ReadsMessage pool rules m p.0 p.1 (Ok body)) (sym (value_view-parts w)) reads
+module _ (pool : Types) (rules : JsonRules) (names : NamesGiven) (m : ℕ) (b : List ℕ) (w : JsonValue) (accepts : Accepts b (Ok w)) (refuses : Refuses b (Ok w)) (is : IsJson (value_view w) b)
+    (body : Message) (reads : ReadsMessage pool rules names m w.at (form_view w.form) (Ok body)) where
+  here : ReadsMessage pool rules names m (value_view w).0 (value_view w).1 (Ok body)
+  here = subst (λ (p : Placed). ReadsMessage pool rules names m p.0 p.1 (Ok body)) (sym (value_view-parts w)) reads
 
   abbrev Deep : JsonReadError → Type 0
   Deep e = (e ≡ out_of_memory) ⊎ ((¬ IsWellFormed pool m body) × (e ≡ fault w.at TooDeep))
@@ -148,21 +149,21 @@ module _ (pool : Types) (rules : JsonRules) (m : ℕ) (b : List ℕ) (w : JsonVa
   abbrev Well : Result Dynamic JsonReadError → Type 0
   Well r = IfOk r (λ d. IsWellFormed pool m body)
 
-  pub all_read : (r : Result Dynamic JsonReadError) → Made r → Well r → IfOk r (λ d. IsReadAs pool rules m b d.body)
+  pub all_read : (r : Result Dynamic JsonReadError) → Made r → Well r → IfOk r (λ d. IsReadBy pool rules names m b d.body)
   all_read (Ok d) made well =
-      subst (λ (x : Message). IsReadAs pool rules m b x) (sym (ap (λ (x : Dynamic). x.body) made)) (done_read pool rules m b w accepts refuses is body here well)
+      subst (λ (x : Message). IsReadBy pool rules names m b x) (sym (ap (λ (x : Dynamic). x.body) made)) (done_read pool rules names m b w accepts refuses is body here well)
   all_read (Err e) made well = tt
 
-  pub all_fault : (r : Result Dynamic JsonReadError) → IfErr r Deep → IfErr r (λ e. (e ≡ out_of_memory) ⊎ IsRefusedWith pool rules m b e)
+  pub all_fault : (r : Result Dynamic JsonReadError) → IfErr r Deep → IfErr r (λ e. (e ≡ out_of_memory) ⊎ IsRefusedBy pool rules names m b e)
   all_fault (Ok d) h = tt
-  all_fault (Err e) h = deep_fault pool rules m b w accepts refuses is body here e (deep e h)
+  all_fault (Err e) h = deep_fault pool rules names m b w accepts refuses is body here e (deep e h)
 
-  pub all_accepted : (r : Result Dynamic JsonReadError) → Made r → IfErr r Deep → (v : Message) → IsReadAs pool rules m b v
+  pub all_accepted : (r : Result Dynamic JsonReadError) → Made r → IfErr r Deep → (v : Message) → IsReadBy pool rules names m b v
       → MatchResult r (λ d. d.body ≡ v) (λ e. e ≡ out_of_memory)
-  all_accepted (Ok d) made h v read = ap (λ (x : Dynamic). x.body) made ∙ done_same pool rules m b w accepts refuses is body here v read
-  all_accepted (Err e) made h v read = deep_accepted pool rules m b w accepts refuses is body here e (deep e h) v read
+  all_accepted (Ok d) made h v read = ap (λ (x : Dynamic). x.body) made ∙ done_same pool rules names m b w accepts refuses is body here v read
+  all_accepted (Err e) made h v read = deep_accepted pool rules names m b w accepts refuses is body here e (deep e h) v read
 
-  pub all_refused : (r : Result Dynamic JsonReadError) → Well r → IfErr r Deep → (f : JsonReadError) → IsRefusedWith pool rules m b f
+  pub all_refused : (r : Result Dynamic JsonReadError) → Well r → IfErr r Deep → (f : JsonReadError) → IsRefusedBy pool rules names m b f
       → IsErrAnd r (λ e. (e ≡ out_of_memory) ⊎ (e ≡ f))
-  all_refused (Ok d) well h f has = absurd (done_refused pool rules m b w accepts refuses is body here well f has)
-  all_refused (Err e) well h f has = deep_refused pool rules m b w accepts refuses is body here e (deep e h) f has
+  all_refused (Ok d) well h f has = absurd (done_refused pool rules names m b w accepts refuses is body here well f has)
+  all_refused (Err e) well h f has = deep_refused pool rules names m b w accepts refuses is body here e (deep e h) f has

@@ -10,6 +10,7 @@ use Rattle.pb_schema.specs.Scalar.{Scalar}
 use Rattle.pb_value.specs.Data.{Datum, Datums, no_datums, Entries, no_entries, Holding, Message}
 use Rattle.pb_json.specs.declared.well_known.WellKnown.{WellKnown}
 use Rattle.pb_json.specs.declared.well_known.WellKnown.TheVariants as form
+use Rattle.pb_json.specs.Given.{NamesGiven}
 use Rattle.pb_json.specs.WellKnown.{well_known}
 use Rattle.pb_json_text.specs.Json.{Json, null, boolean, number, string, array, object, Elements, no_elements, element, Members, no_members, member, Placed}
 use Rattle.pb_json_read.specs.declared.rules.JsonRules.{JsonRules}
@@ -37,7 +38,7 @@ made_one First f first = then_one First (λ x r. r ≡ Ok (f x)) first (λ x o p
 none_one : {A : Type 0} (at : ℕ) → IsOne (λ (o : Read A). NoValue at o)
 none_one at o p a b = a ∙ sym b
 
-module _ (pool : Types) (rules : JsonRules) where
+module _ (pool : Types) (rules : JsonRules) (names : NamesGiven) where
   plain_one : (k : Kind) (at : ℕ) (j : Json) → IsOne (ReadsScalar pool rules k at j)
   plain_one k at j (Ok (Some c)) (Ok (Some d)) a b = ap (λ (x : Datum). Ok (Some x)) (scalar_one pool k j c d a b)
   plain_one k at j (Ok (Some c)) (Ok None) a b = absurd (b.0 c a)
@@ -157,34 +158,34 @@ module _ (pool : Types) (rules : JsonRules) where
   encodes_one t at b (Err e) (Err f) (inr p) (inr q) = ap Err (p.2 ∙ sym q.2)
 
   module _ (at : ℕ) (Beside : (List ℕ → Option FieldView) → Read Parts → Type 0) (beside : (meant : List ℕ → Option FieldView) → IsOne (Beside meant)) where
-    in_any_one : (t : ℕ) → IsOne (ReadsInAny pool at Beside t)
+    in_any_one : (t : ℕ) → IsOne (ReadsInAny pool names at Beside t)
     in_any_one t = then_one _ _ (beside _) (λ p. given_one _)
 
-    encoded_one : (t : ℕ) → IsOne (ReadsEncoded pool at Beside t)
+    encoded_one : (t : ℕ) → IsOne (ReadsEncoded pool names at Beside t)
     encoded_one t = then_one _ _ (in_any_one t) (λ b. encodes_one t at b)
 
-    named_one : (fs : FieldView × FieldView) (url_at : ℕ) (url : Option (List ℕ × ℕ)) → IsOne (ReadsNamed pool at Beside fs url_at url)
+    named_one : (fs : FieldView × FieldView) (url_at : ℕ) (url : Option (List ℕ × ℕ)) → IsOne (ReadsNamed pool names at Beside fs url_at url)
     named_one fs url_at None = none_one url_at
     named_one fs url_at (Some url) = made_one _ _ (encoded_one url.1)
 
-    tagged_one : (fs : FieldView × FieldView) (ms : Members) (v : Option Placed) → IsOne (ReadsTagged pool at Beside fs ms v)
+    tagged_one : (fs : FieldView × FieldView) (ms : Members) (v : Option Placed) → IsOne (ReadsTagged pool names at Beside fs ms v)
     tagged_one fs ms None = given_one _
     tagged_one fs ms (Some v) = named_one fs v.0 _
 
-    any_of_one : (fs : Option (FieldView × FieldView)) (ms : Members) → IsOne (ReadsAnyOf pool at Beside fs ms)
+    any_of_one : (fs : Option (FieldView × FieldView)) (ms : Members) → IsOne (ReadsAnyOf pool names at Beside fs ms)
     any_of_one None ms = none_one at
     any_of_one (Some fs) ms = after_one _ _ (λ v. tagged_one fs ms v)
 
-    any_one : (m : ℕ) (ms : Members) → IsOne (ReadsAny pool at Beside m ms)
+    any_one : (m : ℕ) (ms : Members) → IsOne (ReadsAny pool names at Beside m ms)
     any_one m ms = any_of_one (any_fields (message_fields pool m)) ms
 
-  object_one : (at : ℕ) (ms : Members) (Fields : List FieldView → Read Parts → Type 0) (Beside : (List ℕ → Option FieldView) → Read Parts → Type 0)
+  object_one : (at : ℕ) (ms : Members) (Fields : (List ℕ → Option FieldView) → Read Parts → Type 0) (Beside : (List ℕ → Option FieldView) → Read Parts → Type 0)
       (Mapped : Kind → Kind → Read Entries → Type 0)
-      → ((all : List FieldView) → IsOne (Fields all)) → ((meant : List ℕ → Option FieldView) → IsOne (Beside meant)) → ((key k : Kind) → IsOne (Mapped key k))
-      → (m : ℕ) → IsOne (OfObject pool rules at ms Fields Beside Mapped m)
+      → ((meant : List ℕ → Option FieldView) → IsOne (Fields meant)) → ((meant : List ℕ → Option FieldView) → IsOne (Beside meant)) → ((key k : Kind) → IsOne (Mapped key k))
+      → (m : ℕ) → IsOne (OfObject pool rules names at ms Fields Beside Mapped m)
   object_one at ms Fields Beside Mapped fields beside mapped m =
       form_one at (object ms) Mapped (λ e r. NoValue at r) mapped (λ e. none_one at) (well_known pool m) _ _ m
-      (made_one (Fields (message_fields pool m)) (λ p. p.message) (fields (message_fields pool m))) (any_one at Beside beside m ms)
+      (made_one (Fields (field_meant names pool m)) (λ p. p.message) (fields (field_meant names pool m))) (any_one at Beside beside m ms)
 
   array_one : (at : ℕ) (js : Elements) (Listed : Kind → Read Datums → Type 0) → ((k : Kind) → IsOne (Listed k)) → (m : ℕ) → IsOne (OfArray pool rules at js Listed m)
   array_one at js Listed listed m =
@@ -197,37 +198,37 @@ module _ (pool : Types) (rules : JsonRules) where
       (λ r. NoValue at r) m (none_one at) (none_one at)
 
   mutual
-    pub members_one : (all : List FieldView) (p : Parts) (ms : Members) → IsOne (ReadsMembers pool rules all p ms)
-    members_one all p no_members o q a b = a ∙ sym b
-    members_one all p (member at name value_at j ms) o q a b =
-        then_one _ _ (field_one (field_meant name all) at j _ p (λ s k. content_one s k value_at j)) (λ x. members_one all x ms) o q a b
+    pub members_one : (meant : List ℕ → Option FieldView) (p : Parts) (ms : Members) → IsOne (ReadsMembers pool rules names meant p ms)
+    members_one meant p no_members o q a b = a ∙ sym b
+    members_one meant p (member at name value_at j ms) o q a b =
+        then_one _ _ (field_one (meant name) at j _ p (λ s k. content_one s k value_at j)) (λ x. members_one meant x ms) o q a b
 
-    pub beside_one : (meant : List ℕ → Option FieldView) (p : Parts) (ms : Members) → IsOne (ReadsBeside pool rules meant p ms)
+    pub beside_one : (meant : List ℕ → Option FieldView) (p : Parts) (ms : Members) → IsOne (ReadsBeside pool rules names meant p ms)
     beside_one meant p no_members o q a b = a ∙ sym b
     beside_one meant p (member at name value_at j ms) o q a b =
         then_one _ _ (unless_one (is_tag name) p _ (field_one (meant name) at j _ p (λ s k. content_one s k value_at j))) (λ x. beside_one meant x ms) o q a b
 
-    pub entries_one : (key k : Kind) (es : Entries) (ms : Members) → IsOne (ReadsEntries pool rules key k es ms)
+    pub entries_one : (key k : Kind) (es : Entries) (ms : Members) → IsOne (ReadsEntries pool rules names key k es ms)
     entries_one key k es no_members o q a b = a ∙ sym b
     entries_one key k es (member at name value_at j ms) o q a b =
         then_one _ _ (entry_one key name at _ es (value_one k value_at j)) (λ x. entries_one key k x ms) o q a b
 
-    pub elements_one : (k : Kind) (ds : Datums) (js : Elements) → IsOne (ReadsElements pool rules k ds js)
+    pub elements_one : (k : Kind) (ds : Datums) (js : Elements) → IsOne (ReadsElements pool rules names k ds js)
     elements_one k ds no_elements o q a b = a ∙ sym b
     elements_one k ds (element at j js) o q a b = then_one _ _ (value_one k at j) (λ d. elements_one k (with_datum ds d) js) o q a b
 
-    pub value_one : (k : Kind) (at : ℕ) (j : Json) → IsOne (ReadsValue pool rules k at j)
+    pub value_one : (k : Kind) (at : ℕ) (j : Json) → IsOne (ReadsValue pool rules names k at j)
     value_one k at (object ms) o q a b =
-        single_one k at (object ms) _ (object_one at ms _ _ _ (λ all. members_one all nothing ms) (λ meant. beside_one meant nothing ms) (λ key e. entries_one key e no_entries ms)) o q a b
+        single_one k at (object ms) _ (object_one at ms _ _ _ (λ meant. members_one meant nothing ms) (λ meant. beside_one meant nothing ms) (λ key e. entries_one key e no_entries ms)) o q a b
     value_one k at (array js) o q a b = single_one k at (array js) _ (array_one at js _ (λ e. elements_one e no_datums js)) o q a b
     value_one k at null o q a b = single_one k at null _ (leaf_one at null) o q a b
     value_one k at (boolean c) o q a b = single_one k at (boolean c) _ (leaf_one at (boolean c)) o q a b
     value_one k at (number s) o q a b = single_one k at (number s) _ (leaf_one at (number s)) o q a b
     value_one k at (string s) o q a b = single_one k at (string s) _ (leaf_one at (string s)) o q a b
 
-    pub content_one : (s : Shape) (k : Kind) (at : ℕ) (j : Json) → IsOne (ReadsContent pool rules s k at j)
+    pub content_one : (s : Shape) (k : Kind) (at : ℕ) (j : Json) → IsOne (ReadsContent pool rules names s k at j)
     content_one s k at (object ms) o q a b =
-        shape_one s _ _ _ (single_one k at (object ms) _ (object_one at ms _ _ _ (λ all. members_one all nothing ms) (λ meant. beside_one meant nothing ms) (λ key e. entries_one key e no_entries ms)))
+        shape_one s _ _ _ (single_one k at (object ms) _ (object_one at ms _ _ _ (λ meant. members_one meant nothing ms) (λ meant. beside_one meant nothing ms) (λ key e. entries_one key e no_entries ms)))
         (none_one at) (λ key. entries_one key k no_entries ms) o q a b
     content_one s k at (array js) o q a b =
         shape_one s _ _ _ (single_one k at (array js) _ (array_one at js _ (λ e. elements_one e no_datums js))) (elements_one k no_datums js) (λ key. none_one at)
@@ -237,9 +238,9 @@ module _ (pool : Types) (rules : JsonRules) where
     content_one s k at (number t) o q a b = shape_one s _ _ _ (single_one k at (number t) _ (leaf_one at (number t))) (none_one at) (λ key. none_one at) o q a b
     content_one s k at (string t) o q a b = shape_one s _ _ _ (single_one k at (string t) _ (leaf_one at (string t))) (none_one at) (λ key. none_one at) o q a b
 
-  pub message_one : (m at : ℕ) (j : Json) → IsOne (ReadsMessage pool rules m at j)
+  pub message_one : (m at : ℕ) (j : Json) → IsOne (ReadsMessage pool rules names m at j)
   message_one m at (object ms) =
-      object_one at ms _ _ _ (λ all. members_one all nothing ms) (λ meant. beside_one meant nothing ms) (λ key e. entries_one key e no_entries ms) m
+      object_one at ms _ _ _ (λ meant. members_one meant nothing ms) (λ meant. beside_one meant nothing ms) (λ key e. entries_one key e no_entries ms) m
   message_one m at (array js) = array_one at js _ (λ e. elements_one e no_datums js) m
   message_one m at null = leaf_one at null m
   message_one m at (boolean b) = leaf_one at (boolean b) m

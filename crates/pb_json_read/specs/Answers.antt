@@ -4,6 +4,7 @@ use Rattle.pb_schema.specs.Types.{Types}
 use Rattle.pb_value.specs.Data.{Message}
 use Rattle.pb_value.specs.View.{body_view}
 use Rattle.pb_value.specs.WellFormed.{IsWellFormed}
+use Rattle.pb_json.specs.Given.{NamesGiven, none_given}
 use Rattle.pb_json_text.specs.Json.{Placed}
 use Rattle.pb_json_text.specs.View.{Named, form_view}
 use Rattle.pb_json_text.specs.declared.value.JsonMember.{JsonMember}
@@ -37,17 +38,25 @@ named m = (m.at, string_bytes m.name, (m.value.at, form_view m.value.form))
 
 -- THE WHOLE CALL
 
--- the bytes are a JSON text that is read as the message, and the message is well formed: it nests at most 100 levels
-abbrev pub IsReadAs : Types → JsonRules → ℕ → List ℕ → Message → Type 0
-IsReadAs pool rules m b v = (j : Placed) × IsJson j b × ReadsMessage pool rules m j.0 j.1 (Ok v) × IsWellFormed pool m v
+-- the bytes are a JSON text that is read as the message, by the names that fields are given, and the message is well formed: it nests at most
+-- 100 levels
+abbrev pub IsReadBy : Types → JsonRules → NamesGiven → ℕ → List ℕ → Message → Type 0
+IsReadBy pool rules names m b v = (j : Placed) × IsJson j b × ReadsMessage pool rules names m j.0 j.1 (Ok v) × IsWellFormed pool m v
 
 -- a JSON text in which this is the first fault, or which is read as a message that is not well formed: it nests too deep
-abbrev pub HasReadFault : Types → JsonRules → ℕ → Placed → JsonReadError → Type 0
-HasReadFault pool rules m j e =
-    ReadsMessage pool rules m j.0 j.1 (Err e)
-    ⊎ ((v : Message) × ReadsMessage pool rules m j.0 j.1 (Ok v) × (¬ IsWellFormed pool m v) × (e ≡ fault j.0 TooDeep))
+abbrev pub HasReadFault : Types → JsonRules → NamesGiven → ℕ → Placed → JsonReadError → Type 0
+HasReadFault pool rules names m j e =
+    ReadsMessage pool rules names m j.0 j.1 (Err e)
+    ⊎ ((v : Message) × ReadsMessage pool rules names m j.0 j.1 (Ok v) × (¬ IsWellFormed pool m v) × (e ≡ fault j.0 TooDeep))
 
 -- the bytes are refused with this: they are no JSON text, or one with a fault
+abbrev pub IsRefusedBy : Types → JsonRules → NamesGiven → ℕ → List ℕ → JsonReadError → Type 0
+IsRefusedBy pool rules names m b e =
+    ((n : ℕ) × (c : JsonCause) × HasFault c b n × (e ≡ fault n (cause_of c))) ⊎ ((j : Placed) × IsJson j b × HasReadFault pool rules names m j e)
+
+-- the same where no field is given a name
+abbrev pub IsReadAs : Types → JsonRules → ℕ → List ℕ → Message → Type 0
+IsReadAs pool rules m b v = IsReadBy pool rules none_given m b v
+
 abbrev pub IsRefusedWith : Types → JsonRules → ℕ → List ℕ → JsonReadError → Type 0
-IsRefusedWith pool rules m b e =
-    ((n : ℕ) × (c : JsonCause) × HasFault c b n × (e ≡ fault n (cause_of c))) ⊎ ((j : Placed) × IsJson j b × HasReadFault pool rules m j e)
+IsRefusedWith pool rules m b e = IsRefusedBy pool rules none_given m b e

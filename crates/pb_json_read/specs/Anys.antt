@@ -11,8 +11,9 @@ use Rattle.pb_value.specs.Canon.{canon_bytes}
 use Rattle.pb_value.specs.Data.{Datum, scalar, message, Holding, one, list, map, Message, empty, fields_of, get_field}
 use Rattle.pb_value.specs.WellFormed.{IsWellFormed}
 use Rattle.pb_json.specs.Anys.{type_meant}
+use Rattle.pb_json.specs.Given.{NamesGiven}
 use Rattle.pb_json.specs.WellKnown.{is_plain, well_known}
-use Rattle.pb_json_text.specs.Json.{Json, Members, no_members, member, Placed}
+use Rattle.pb_json_text.specs.Json.{Members, no_members, member, Placed}
 use Rattle.pb_json_read.specs.declared.error.JsonReadCause.TheVariants.{RepeatedName, BadValue, TooDeep}
 use Rattle.pb_json_read.specs.Faults.{fault}
 use Rattle.pb_json_read.specs.Names.{field_meant}
@@ -66,10 +67,10 @@ only_field false t = Some (value_field t)
 abbrev pub field_of : Types → ℕ → Option FieldView
 field_of pool t = only_field (is_plain (well_known pool t)) t
 
--- the field that a name means beside `@type`: the one, or one of the type's
-abbrev pub beside : Option FieldView → List FieldView → List ℕ → Option FieldView
-beside None all name = field_meant name all
-beside (Some f) all name = if bytes_eq f.name name then Some f else None
+-- the field that a name means beside `@type`: the one, or that which it means in the type
+abbrev pub beside : Option FieldView → (List ℕ → Option FieldView) → List ℕ → Option FieldView
+beside None meant name = meant name
+beside (Some f) meant name = if bytes_eq f.name name then Some f else None
 
 abbrev pub message_of : Datum → Option Message
 message_of (message b) = Some b
@@ -105,10 +106,10 @@ any_message fs url bs =
     (with_held fs.1.shape fs.1.number (Some (one (scalar (bytes bs)))) (with_held fs.0.shape fs.0.number (Some (one (scalar (text url)))) nothing)).message
 
 -- by what the members beside `@type` give; the object begins at this byte
-module _ (pool : Types) (at : ℕ) (Beside : (List ℕ → Option FieldView) → Read Parts → Type 0) where
+module _ (pool : Types) (names : NamesGiven) (at : ℕ) (Beside : (List ℕ → Option FieldView) → Read Parts → Type 0) where
   -- the message of a type
   abbrev pub ReadsInAny : ℕ → Read Message → Type 0
-  ReadsInAny t o = Then (Beside (beside (field_of pool t) (message_fields pool t))) (λ p r. r ≡ given at (message_beside (field_of pool t) p.message)) o
+  ReadsInAny t o = Then (Beside (beside (field_of pool t) (field_meant names pool t))) (λ p r. r ≡ given at (message_beside (field_of pool t) p.message)) o
 
   -- its bytes
   abbrev pub ReadsEncoded : ℕ → Read (List ℕ) → Type 0

@@ -2,9 +2,10 @@
 use Rattle.std.specs.Prelude.{◌≡◌, ℕ, List, false, Option, Ok}
 use Rattle.pb_schema.specs.declared.types.Kind.{Kind}
 use Rattle.pb_schema.specs.declared.types.Shape.{Shape}
-use Rattle.pb_schema.specs.Types.{FieldView, Types, message_fields}
+use Rattle.pb_schema.specs.Types.{FieldView, Types}
 use Rattle.pb_schema.specs.Scalar.{Scalar}
 use Rattle.pb_value.specs.Data.{Datum, Datums, no_datums, Entries, no_entries, Holding, Message}
+use Rattle.pb_json.specs.Given.{NamesGiven}
 use Rattle.pb_json.specs.WellKnown.{well_known}
 use Rattle.pb_json_text.specs.Json.{Json, null, boolean, number, string, array, object, Elements, no_elements, element, Members, no_members, member}
 use Rattle.pb_json_text.specs.View.{Named}
@@ -16,11 +17,11 @@ use Rattle.pb_json_read.specs.Steps.{ReadsSingle, ReadsShape, ReadsHeld, ReadsFi
 use Rattle.pb_json_read.specs.Forms.{ReadsForm, ReadsFlat, ReadsSole, ReadsNested, ReadsDeep, ReadsDynamic}
 
 -- an object, an array and another value as a message of a type, by how their parts are read
-abbrev pub OfObject : Types → JsonRules → ℕ → Members → (List FieldView → Read Parts → Type 0) → ((List ℕ → Option FieldView) → Read Parts → Type 0)
-    → (Kind → Kind → Read Entries → Type 0) → ℕ → Read Message → Type 0
-OfObject pool rules at ms Fields Beside Mapped m o =
-    ReadsForm pool rules at (object ms) Mapped (λ e r. NoValue at r) (well_known pool m) (λ r. Made (Fields (message_fields pool m)) (λ p. p.message) r)
-    (λ r. ReadsAny pool at Beside m ms r) m o
+abbrev pub OfObject : Types → JsonRules → NamesGiven → ℕ → Members → ((List ℕ → Option FieldView) → Read Parts → Type 0)
+    → ((List ℕ → Option FieldView) → Read Parts → Type 0) → (Kind → Kind → Read Entries → Type 0) → ℕ → Read Message → Type 0
+OfObject pool rules names at ms Fields Beside Mapped m o =
+    ReadsForm pool rules at (object ms) Mapped (λ e r. NoValue at r) (well_known pool m) (λ r. Made (Fields (field_meant names pool m)) (λ p. p.message) r)
+    (λ r. ReadsAny pool names at Beside m ms r) m o
 
 abbrev pub OfArray : Types → JsonRules → ℕ → Elements → (Kind → Read Datums → Type 0) → ℕ → Read Message → Type 0
 OfArray pool rules at js Listed m o =
@@ -32,15 +33,15 @@ OfLeaf pool rules at j m o =
 
 -- VALUES
 
-module _ (pool : Types) (rules : JsonRules) where
+module _ (pool : Types) (rules : JsonRules) (names : NamesGiven) where
   abbrev mutual
-    -- the members of an object, after those before
-    pub ReadsMembers : List FieldView → Parts → Members → Read Parts → Type 0
-    ReadsMembers all p no_members o = o ≡ Ok p
-    ReadsMembers all p (member at name value_at j ms) o =
-        Then (ReadsField pool rules (field_meant name all) at j (λ s k r. ReadsContent s k value_at j r) p) (λ q r. ReadsMembers all q ms r) o
+    -- the members of an object, after those before, by which fields their names mean
+    pub ReadsMembers : (List ℕ → Option FieldView) → Parts → Members → Read Parts → Type 0
+    ReadsMembers meant p no_members o = o ≡ Ok p
+    ReadsMembers meant p (member at name value_at j ms) o =
+        Then (ReadsField pool rules (meant name) at j (λ s k r. ReadsContent s k value_at j r) p) (λ q r. ReadsMembers meant q ms r) o
 
-    -- the members beside `@type`, by which fields their names mean
+    -- the members beside `@type`, in the same way
     pub ReadsBeside : (List ℕ → Option FieldView) → Parts → Members → Read Parts → Type 0
     ReadsBeside meant p no_members o = o ≡ Ok p
     ReadsBeside meant p (member at name value_at j ms) o =
@@ -62,7 +63,7 @@ module _ (pool : Types) (rules : JsonRules) where
     pub ReadsValue : Kind → ℕ → Json → Read (Option Datum) → Type 0
     ReadsValue k at (object ms) o =
         ReadsSingle pool rules k at (object ms)
-        (OfObject pool rules at ms (λ all r. ReadsMembers all nothing ms r) (λ meant r. ReadsBeside meant nothing ms r)
+        (OfObject pool rules names at ms (λ meant r. ReadsMembers meant nothing ms r) (λ meant r. ReadsBeside meant nothing ms r)
         (λ key e r. ReadsEntries key e no_entries ms r)) o
     ReadsValue k at (array js) o = ReadsSingle pool rules k at (array js) (OfArray pool rules at js (λ e r. ReadsElements e no_datums js r)) o
     ReadsValue k at null o = ReadsSingle pool rules k at null (OfLeaf pool rules at null) o
@@ -74,7 +75,7 @@ module _ (pool : Types) (rules : JsonRules) where
     pub ReadsContent : Shape → Kind → ℕ → Json → Read (Option Holding) → Type 0
     ReadsContent s k at (object ms) o =
         ReadsShape s (ReadsSingle pool rules k at (object ms)
-        (OfObject pool rules at ms (λ all r. ReadsMembers all nothing ms r) (λ meant r. ReadsBeside meant nothing ms r)
+        (OfObject pool rules names at ms (λ meant r. ReadsMembers meant nothing ms r) (λ meant r. ReadsBeside meant nothing ms r)
         (λ key e r. ReadsEntries key e no_entries ms r)))
         (NoValue at) (λ key r. ReadsEntries key k no_entries ms r) o
     ReadsContent s k at (array js) o =
@@ -107,7 +108,7 @@ module _ (pool : Types) (rules : JsonRules) where
 
   -- a message of a type that has no form of its own
   abbrev pub ReadsObject : ℕ → ℕ → Json → Read Message → Type 0
-  ReadsObject m at (object ms) o = Made (ReadsMembers (message_fields pool m) nothing ms) (λ p. p.message) o
+  ReadsObject m at (object ms) o = Made (ReadsMembers (field_meant names pool m) nothing ms) (λ p. p.message) o
   ReadsObject m at null o = NoValue at o
   ReadsObject m at (boolean b) o = NoValue at o
   ReadsObject m at (number s) o = NoValue at o
@@ -116,13 +117,13 @@ module _ (pool : Types) (rules : JsonRules) where
 
   -- what these members of an object, which begins at the byte, are as the message in an Any of a type, as its bytes, and as an Any
   abbrev pub InAnyOf : ℕ → Members → ℕ → Read Message → Type 0
-  InAnyOf at ms = ReadsInAny pool at (λ meant r. ReadsBeside meant nothing ms r)
+  InAnyOf at ms = ReadsInAny pool names at (λ meant r. ReadsBeside meant nothing ms r)
 
   abbrev pub BytesOf : ℕ → Members → ℕ → Read (List ℕ) → Type 0
-  BytesOf at ms = ReadsEncoded pool at (λ meant r. ReadsBeside meant nothing ms r)
+  BytesOf at ms = ReadsEncoded pool names at (λ meant r. ReadsBeside meant nothing ms r)
 
   abbrev pub AnyOf : ℕ → Members → ℕ → Read Message → Type 0
-  AnyOf at ms m o = ReadsAny pool at (λ meant r. ReadsBeside meant nothing ms r) m ms o
+  AnyOf at ms m o = ReadsAny pool names at (λ meant r. ReadsBeside meant nothing ms r) m ms o
 
   -- a message of type `google.protobuf.Any`
   abbrev pub ReadsAnyObject : ℕ → ℕ → Json → Read Message → Type 0

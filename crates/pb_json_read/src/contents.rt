@@ -27,7 +27,7 @@ impl Context<'_> {
     ) -> Result<Option<Content>, JsonReadError>
         requires { NamesType (length self.now.pool.now.messages) (length self.now.pool.now.enums) kind }
         ensures { Answers (option_map content_view)
-            (ReadsContent self.now.pool.now self.now.rules shape kind value.now.at (form_view value.now.form)) result }
+            (ReadsContent self.now.pool.now self.now.rules self.now.names.now shape kind value.now.at (form_view value.now.form)) result }
     {
         match shape {
             Shape::Implicit => self.read_one(kind, value),
@@ -42,7 +42,8 @@ impl Context<'_> {
     #[cycle(read)]
     fn read_one(&self, kind: Kind, value: &JsonValue) -> Result<Option<Content>, JsonReadError>
         requires { NamesType (length self.now.pool.now.messages) (length self.now.pool.now.enums) kind }
-        ensures { Answers (option_map content_view) (Made (ReadsValue self.now.pool.now self.now.rules kind value.now.at (form_view value.now.form))
+        ensures { Answers (option_map content_view) (Made (ReadsValue self.now.pool.now self.now.rules self.now.names.now
+            kind value.now.at (form_view value.now.form))
             (option_map one)) result }
     {
         match self.read_single(kind, value)? {
@@ -59,7 +60,8 @@ impl Context<'_> {
         value: &JsonValue,
     ) -> Result<Option<Content>, JsonReadError>
         requires { NamesType (length self.now.pool.now.messages) (length self.now.pool.now.enums) kind }
-        ensures { Answers (option_map content_view) (Made (ReadsList self.now.pool.now self.now.rules kind value.now.at (form_view value.now.form))
+        ensures { Answers (option_map content_view) (Made (ReadsList self.now.pool.now self.now.rules self.now.names.now
+            kind value.now.at (form_view value.now.form))
             (λ ds. Some (list ds))) result }
     {
         let values = self.read_list(kind, value)?;
@@ -75,7 +77,8 @@ impl Context<'_> {
         value: &JsonValue,
     ) -> Result<Option<Content>, JsonReadError>
         requires { NamesType (length self.now.pool.now.messages) (length self.now.pool.now.enums) kind }
-        ensures { Answers (option_map content_view) (Made (ReadsMap self.now.pool.now self.now.rules key kind value.now.at (form_view value.now.form))
+        ensures { Answers (option_map content_view) (Made (ReadsMap self.now.pool.now self.now.rules self.now.names.now
+            key kind value.now.at (form_view value.now.form))
             (λ es. Some (map es))) result }
     {
         let entries = self.read_map(key, kind, value)?;
@@ -91,7 +94,7 @@ impl Context<'_> {
     ) -> Result<Option<Value>, JsonReadError>
         requires { NamesType (length self.now.pool.now.messages) (length self.now.pool.now.enums) kind }
         ensures { Answers (option_map value_view)
-            (ReadsValue self.now.pool.now self.now.rules kind value.now.at (form_view value.now.form)) result }
+            (ReadsValue self.now.pool.now self.now.rules self.now.names.now kind value.now.at (form_view value.now.form)) result }
     {
         match kind.message() {
             Some(id) => self.read_inside(id, value),
@@ -103,7 +106,8 @@ impl Context<'_> {
     #[cycle(read)]
     fn read_inside(&self, id: MessageId, value: &JsonValue) -> Result<Option<Value>, JsonReadError>
         requires { id.0 < length self.now.pool.now.messages }
-        ensures { Answers (option_map value_view) (Made (ReadsMessage self.now.pool.now self.now.rules id.0 value.now.at (form_view value.now.form))
+        ensures { Answers (option_map value_view) (Made (ReadsMessage self.now.pool.now self.now.rules self.now.names.now
+            id.0 value.now.at (form_view value.now.form))
             (λ b. Some (message b))) result }
     {
         let body = self.read_message(id, value)?;

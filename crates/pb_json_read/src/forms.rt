@@ -1,7 +1,6 @@
 //! Types with a form of their own that is a string: times and field masks.
 
 ghost use Rattle.std.specs.Prelude.{◌≡◌, ◌<◌, ◌&&◌, [], length, map, option_map, pos, string_bytes, Some, IfErr, IfOk, OnOk};
-ghost use Rattle.pb_json.specs.WellKnown.{is_plain};
 ghost use Rattle.pb_json_scalars.specs.Clock.{duration, timestamp};
 ghost use Rattle.pb_json_scalars.specs.Paths.{mask_paths};
 ghost use Rattle.pb_json_text.specs.View.{form_view};
@@ -26,13 +25,6 @@ use pb_json_text::{JsonForm, JsonValue};
 use pb_schema::{Field, Kind, MessageId, Pool, Shape};
 use pb_value::{Body, Content, Value};
 use std::alloc::{AllocError, Global};
-
-/// Whether a type has no form of its own.
-pub(crate) fn is_plain(form: WellKnown) -> bool
-    ensures { result ≡ is_plain form }
-{
-    matches!(form, WellKnown::Other)
-}
 
 /// Whether a form is that of `google.protobuf.Value`.
 pub(crate) fn is_dynamic(form: WellKnown) -> bool

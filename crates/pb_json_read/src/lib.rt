@@ -27,4 +27,4 @@ mod values;
 
 pub use error::{JsonReadCause, JsonReadError};
 pub use rules::JsonRules;
-pub use text::read_json;
+pub use text::{read_json, read_json_by};

@@ -40,7 +40,7 @@ impl Context<'_> {
     ) -> Result<Vec<Value>, JsonReadError>
         requires { NamesType (length self.now.pool.now.messages) (length self.now.pool.now.enums) kind }
         ensures { Answers (λ v. values_view v.items)
-            (ReadsList self.now.pool.now self.now.rules kind value.now.at (form_view value.now.form)) result }
+            (ReadsList self.now.pool.now self.now.rules self.now.names.now kind value.now.at (form_view value.now.form)) result }
     {
         match &value.form {
             JsonForm::Array(items) => self.read_elements(kind, items),
@@ -53,7 +53,7 @@ impl Context<'_> {
     fn read_elements(&self, kind: Kind, items: &Vec<JsonValue>) -> Result<Vec<Value>, JsonReadError>
         requires { NamesType (length self.now.pool.now.messages) (length self.now.pool.now.enums) kind }
         ensures { Answers (λ v. values_view v.items)
-            (ReadsElements self.now.pool.now self.now.rules kind no_datums (elements_view items.now.items)) result }
+            (ReadsElements self.now.pool.now self.now.rules self.now.names.now kind no_datums (elements_view items.now.items)) result }
     {
         let mut values = Vec::new(self.alloc);
         for item in items {

@@ -53,7 +53,7 @@ impl Context<'_> {
     ) -> Result<BTreeMap<MapKey, Value>, JsonReadError>
         requires { NamesType (length self.now.pool.now.messages) (length self.now.pool.now.enums) kind }
         ensures { Answers (λ m. entries_view m.entries)
-            (ReadsMap self.now.pool.now self.now.rules key kind value.now.at (form_view value.now.form)) result }
+            (ReadsMap self.now.pool.now self.now.rules self.now.names.now key kind value.now.at (form_view value.now.form)) result }
     {
         match &value.form {
             JsonForm::Object(members) => self.read_entries(key, kind, members),
@@ -71,7 +71,7 @@ impl Context<'_> {
     ) -> Result<BTreeMap<MapKey, Value>, JsonReadError>
         requires { NamesType (length self.now.pool.now.messages) (length self.now.pool.now.enums) kind }
         ensures { Answers (λ m. entries_view m.entries)
-            (ReadsEntries self.now.pool.now self.now.rules key kind no_entries (members_view members.now.items)) result }
+            (ReadsEntries self.now.pool.now self.now.rules self.now.names.now key kind no_entries (members_view members.now.items)) result }
     {
         let mut entries = Entries::new(self.alloc);
         for member in members {
@@ -91,7 +91,7 @@ impl Context<'_> {
     ) -> Result<(), JsonReadError>
         requires { NamesType (length self.now.pool.now.messages) (length self.now.pool.now.enums) kind }
         ensures read { AreKeys key (entries_view entries.old.map.entries) → Changes (entries_view entries.new.map.entries)
-            (ReadsMemberEntry self.now.pool.now self.now.rules key kind (named member.now) (entries_view entries.old.map.entries)) result }
+            (ReadsMemberEntry self.now.pool.now self.now.rules self.now.names.now key kind (named member.now) (entries_view entries.old.map.entries)) result }
         ensures keys { AreKeys key (entries_view entries.old.map.entries) → OnOk result (AreKeys key (entries_view entries.new.map.entries)) }
     {
         match read_key(self.alloc, key, member.name.as_str())? {
@@ -111,7 +111,8 @@ impl Context<'_> {
     ) -> Result<(), JsonReadError>
         requires { NamesType (length self.now.pool.now.messages) (length self.now.pool.now.enums) kind }
         ensures { FitsKeys (key_view key) (entries_view entries.old.map.entries) → Changes (entries_view entries.new.map.entries)
-            (ReadsMemberUnder self.now.pool.now self.now.rules (key_view key) kind (named member.now) (entries_view entries.old.map.entries)) result }
+            (ReadsMemberUnder self.now.pool.now self.now.rules self.now.names.now (key_view key) kind (named member.now)
+            (entries_view entries.old.map.entries)) result }
     {
         if has_key(entries, &key) {
             return Err(refused(member.at, JsonReadCause::RepeatedName));

@@ -3,7 +3,6 @@
 ghost use Rattle.std.specs.Prelude.{◌<◌, length, Some};
 ghost use Rattle.pb_json_text.specs.View.{form_view, members_view};
 ghost use Rattle.pb_schema.specs.Rules.{NamesType};
-ghost use Rattle.pb_schema.specs.Types.{message_fields};
 ghost use Rattle.pb_schema.specs.View.{field_view};
 ghost use Rattle.pb_value.specs.View.{body_view};
 ghost use Rattle.pb_json_read.specs.Answers.{Answers, Changes, named, parts_view};
@@ -32,7 +31,7 @@ impl Context<'_> {
         value: &JsonValue,
     ) -> Result<Body, JsonReadError>
         requires { id.0 < length self.now.pool.now.messages }
-        ensures { Answers body_view (ReadsMessage self.now.pool.now self.now.rules id.0 value.now.at (form_view value.now.form)) result }
+        ensures { Answers body_view (ReadsMessage self.now.pool.now self.now.rules self.now.names.now id.0 value.now.at (form_view value.now.form)) result }
     {
         match well_known(self.pool, id) {
             WellKnown::Other => self.read_object(id, value),
@@ -51,7 +50,7 @@ impl Context<'_> {
     #[cycle(read)]
     fn read_object(&self, id: MessageId, value: &JsonValue) -> Result<Body, JsonReadError>
         requires { id.0 < length self.now.pool.now.messages }
-        ensures { Answers body_view (ReadsObject self.now.pool.now self.now.rules id.0 value.now.at (form_view value.now.form)) result }
+        ensures { Answers body_view (ReadsObject self.now.pool.now self.now.rules self.now.names.now id.0 value.now.at (form_view value.now.form)) result }
     {
         match &value.form {
             JsonForm::Object(members) => self.read_members(id, members),
@@ -63,8 +62,8 @@ impl Context<'_> {
     #[cycle(read)]
     fn read_members(&self, id: MessageId, members: &Vec<JsonMember>) -> Result<Body, JsonReadError>
         requires { id.0 < length self.now.pool.now.messages }
-        ensures { Answers body_view (Made (ReadsMembers self.now.pool.now self.now.rules (message_fields self.now.pool.now id.0) nothing
-            (members_view members.now.items)) (λ p. p.message)) result }
+        ensures { Answers body_view (Made (ReadsMembers self.now.pool.now self.now.rules self.now.names.now
+            (meant self.now.names.now self.now.pool.now id.0) nothing (members_view members.now.items)) (λ p. p.message)) result }
     {
         let mut parts = Parts::new(self.alloc);
         for member in members {
@@ -82,11 +81,11 @@ impl Context<'_> {
         member: &JsonMember,
     ) -> Result<(), JsonReadError>
         requires { id.0 < length self.now.pool.now.messages }
-        ensures { Changes (parts_view parts.new) (ReadsMember self.now.pool.now self.now.rules
-            (meant (named member.now).1 (message_fields self.now.pool.now id.0))
+        ensures { Changes (parts_view parts.new) (ReadsMember self.now.pool.now self.now.rules self.now.names.now
+            (meant self.now.names.now self.now.pool.now id.0 (named member.now).1)
             (named member.now) (parts_view parts.old)) result }
     {
-        match field_meant(self.pool, id, member.name.as_str()) {
+        match field_meant(self.names, self.pool, id, member.name.as_str()) {
             Some(field) => self.read_field(field, parts, member),
             None => unknown_name(self.rules, member.at),
         }
@@ -101,7 +100,7 @@ impl Context<'_> {
         member: &JsonMember,
     ) -> Result<(), JsonReadError>
         requires { NamesType (length self.now.pool.now.messages) (length self.now.pool.now.enums) field.now.kind }
-        ensures { Changes (parts_view parts.new) (ReadsMember self.now.pool.now self.now.rules (Some (field_view field.now))
+        ensures { Changes (parts_view parts.new) (ReadsMember self.now.pool.now self.now.rules self.now.names.now (Some (field_view field.now))
             (named member.now) (parts_view parts.old)) result }
     {
         parts.note_number(field.number, member.at)?;
@@ -120,7 +119,7 @@ impl Context<'_> {
         member: &JsonMember,
     ) -> Result<(), JsonReadError>
         requires { NamesType (length self.now.pool.now.messages) (length self.now.pool.now.enums) field.now.kind }
-        ensures { Changes (parts_view parts.new) (ReadsMemberHeld self.now.pool.now self.now.rules (field_view field.now)
+        ensures { Changes (parts_view parts.new) (ReadsMemberHeld self.now.pool.now self.now.rules self.now.names.now (field_view field.now)
             (named member.now) (parts_view parts.old)) result }
     {
         parts.note_shape(field.shape, member.at)?;

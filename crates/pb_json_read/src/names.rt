@@ -1,66 +1,119 @@
 //! Which field the name of a member means.
 
-ghost use Rattle.std.specs.Prelude.{◌≡◌, ◌<◌, find, length, map, option_map, IfSome};
+ghost use Rattle.std.specs.Prelude.{◌≡◌, ◌<◌, length, map, option_map, IfSome};
 ghost use Rattle.std.specs.Str.{bytes_eq};
 ghost use Rattle.pb_schema.specs.Rules.{IsFieldOf};
 ghost use Rattle.pb_schema.specs.Types.{message_fields};
 ghost use Rattle.pb_schema.specs.View.{field_view};
-ghost use Rattle.pb_json.specs.JsonNames.{cased, lower_camel};
-ghost use Rattle.pb_json_read.specs.Names.{field_meant};
+ghost use Rattle.pb_json.specs.Given.{name_given};
+ghost use Rattle.pb_json.specs.JsonNames.{json_name};
+ghost use Rattle.pb_json_read.specs.Names.{field_given, field_in_json, field_meant, is_given};
 
+use pb_json::JsonNames;
+use pb_json::names::is_camel;
 use pb_schema::{Field, MessageId, Pool};
 
-/// The field that a name means: the one that is declared by it, or else the first whose name in lowerCamelCase it is.
-pub(crate) fn field_meant<'a>(pool: &'a Pool, message: MessageId, name: &str) -> Option<&'a Field>
+/// The field that a name means: the one that is given it, or that is declared by it, or else the first whose name in lowerCamelCase it is.
+pub(crate) fn field_meant<'a>(
+    names: &JsonNames,
+    pool: &'a Pool,
+    message: MessageId,
+    name: &str,
+) -> Option<&'a Field>
     requires { message.0 < length pool.now.messages }
-    ensures found { option_map (λ f. field_view f.now) result ≡ field_meant name.now (message_fields pool.now message.0) }
+    ensures found { option_map (λ f. field_view f.now) result ≡ field_meant names.now pool.now message.0 name.now }
     ensures rules { IfSome result (λ f. IsFieldOf pool.now message.0 (field_view f.now)) }
 {
+    if let Some(field) = given_in(names, pool, message, name) {
+        return Some(field);
+    }
     match pool.field_by_name(message, name) {
         Some(field) => Some(field),
-        None => find_camel(&pool.messages()[message.0].fields, name.as_bytes()),
+        None => in_json(names, pool, message, name),
     }
 }
 
-/// The first field whose name in lowerCamelCase this is.
-fn find_camel<'a>(fields: &'a [Field], name: &[u8]) -> Option<&'a Field>
-    ensures { option_map (λ f. field_view f.now) result ≡ find (λ f. bytes_eq (lower_camel f.name) name.now) (map field_view fields.now) }
+/// The first field of a message type that is given a name.
+fn given_in<'a>(
+    names: &JsonNames,
+    pool: &'a Pool,
+    message: MessageId,
+    name: &str,
+) -> Option<&'a Field>
+    requires { message.0 < length pool.now.messages }
+    ensures found { option_map (λ f. field_view f.now) result ≡ field_given names.now message.0 (message_fields pool.now message.0) name.now }
+    ensures rules { IfSome result (λ f. IsFieldOf pool.now message.0 (field_view f.now)) }
+{
+    if names.is_empty() {
+        return None;
+    }
+    find_given(names, message, &pool.messages()[message.0].fields, name)
+}
+
+/// The first field of a message type whose name in JSON this is.
+fn in_json<'a>(
+    names: &JsonNames,
+    pool: &'a Pool,
+    message: MessageId,
+    name: &str,
+) -> Option<&'a Field>
+    requires { message.0 < length pool.now.messages }
+    ensures found { option_map (λ f. field_view f.now) result ≡ field_in_json names.now message.0 (message_fields pool.now message.0) name.now }
+    ensures rules { IfSome result (λ f. IsFieldOf pool.now message.0 (field_view f.now)) }
+{
+    find_in_json(names, message, &pool.messages()[message.0].fields, name)
+}
+
+/// The first of some fields that is given a name.
+fn find_given<'a>(
+    names: &JsonNames,
+    message: MessageId,
+    fields: &'a [Field],
+    name: &str,
+) -> Option<&'a Field>
+    ensures { option_map (λ f. field_view f.now) result ≡ field_given names.now message.0 (map field_view fields.now) name.now }
 {
     for field in fields {
-        if is_camel(field.name.as_bytes(), name) {
+        if is_given(names.given(message, field.number), name) {
             return Some(field);
         }
     }
     None
 }
 
-/// Whether a declared name in lowerCamelCase is the other name.
-fn is_camel(declared: &[u8], name: &[u8]) -> bool
-    ensures { result ≡ bytes_eq (lower_camel declared.now) name.now }
+/// Whether this is the name that a field is given.
+fn is_given(given: Option<&str>, name: &str) -> bool
+    ensures { result ≡ is_given (option_map (λ s. s.now) given.entry) name.now }
 {
-    let mut raised = false;
-    let mut at = 0;
-    for byte in declared {
-        if *byte == b'_' {
-            raised = true;
-        } else {
-            if at == name.len() || name[at] != cased(raised, *byte) {
-                return false;
-            }
-            at += 1;
-            raised = false;
-        }
+    match given {
+        Some(given) => given == name,
+        None => false,
     }
-    at == name.len()
 }
 
-/// A letter, in upper case where it is raised.
-fn cased(raised: bool, byte: u8) -> u8
-    ensures { result ≡ cased raised byte }
+/// The first of some fields whose name in JSON this is.
+fn find_in_json<'a>(
+    names: &JsonNames,
+    message: MessageId,
+    fields: &'a [Field],
+    name: &str,
+) -> Option<&'a Field>
+    ensures { option_map (λ f. field_view f.now) result ≡ field_in_json names.now message.0 (map field_view fields.now) name.now }
 {
-    if raised {
-        byte.to_ascii_uppercase()
-    } else {
-        byte
+    for field in fields {
+        if is_json_name(names, message, field, name) {
+            return Some(field);
+        }
+    }
+    None
+}
+
+/// Whether this is the name of a field in JSON.
+fn is_json_name(names: &JsonNames, message: MessageId, field: &Field, name: &str) -> bool
+    ensures { result ≡ bytes_eq (json_name names.now message.0 (field_view field.now)) name.now }
+{
+    match names.given(message, field.number) {
+        Some(given) => given == name,
+        None => is_camel(field.name.as_bytes(), name.as_bytes()),
     }
 }

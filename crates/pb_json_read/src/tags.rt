@@ -1,7 +1,6 @@
 //! The type of a `google.protobuf.Any`: the member `@type`.
 
 ghost use Rattle.std.specs.Prelude.{◌≡◌, ◌<◌, length, option_map, IfSome};
-ghost use Rattle.pb_json.specs.Anys.{type_meant};
 ghost use Rattle.pb_json_text.specs.View.{form_view, members_view};
 ghost use Rattle.pb_value.specs.View.{body_view};
 ghost use Rattle.pb_json_read.specs.Answers.{Answers};
@@ -10,6 +9,7 @@ ghost use Rattle.pb_json_read.specs.Steps.{given};
 ghost use Rattle.pb_json_read.specs.WellKnown.{string_meant};
 
 use crate::error::{JsonReadCause, JsonReadError, refused};
+use pb_json::anys::type_meant;
 use pb_json_text::{JsonForm, JsonMember, JsonValue};
 use pb_schema::{MessageId, Pool};
 use pb_value::Body;
@@ -37,17 +37,6 @@ pub(crate) fn find_tag(members: &Vec<JsonMember>) -> Result<Option<&JsonValue>, 
         }
     }
     Ok(found)
-}
-
-/// The type that a URL names: that of the pool whose full name comes after the last slash.
-fn type_meant(pool: &Pool, url: &str) -> Option<MessageId>
-    ensures found { option_map (λ m. m.0) result ≡ type_meant pool.now url.now }
-    ensures within { IfSome result (λ m. m.0 < length pool.now.messages) }
-{
-    match url.rsplit_once('/') {
-        Some((_host, name)) => pool.message_by_name(name),
-        None => None,
-    }
 }
 
 /// The URL that a value is, and the type of the pool that it names.

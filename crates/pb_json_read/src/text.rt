@@ -1,7 +1,7 @@
 //! A JSON text as a message.
 
 ghost use Rattle.std.specs.Prelude.{◌≡◌, ◌≢◌, ◌⊎◌, ◌<◌, length, IfOk, IfErr, IsErrAnd, MatchResult};
-ghost use Rattle.pb_json_read.specs.Answers.{IsReadAs, IsRefusedWith};
+ghost use Rattle.pb_json_read.specs.Answers.{IsReadAs, IsReadBy, IsRefusedBy, IsRefusedWith};
 ghost use Rattle.pb_json_read.specs.declared.error.JsonReadCause.TheVariants.{TooDeep};
 ghost use Rattle.pb_json_read.specs.declared.error.JsonReadError.{JsonReadError as ReadError};
 ghost use Rattle.pb_json_read.specs.Faults.{fault, out_of_memory};
@@ -14,6 +14,7 @@ use crate::context::Context;
 use crate::depth::within_depth;
 use crate::error::JsonReadError;
 use crate::rules::JsonRules;
+use pb_json::JsonNames;
 use pb_json_text::read_value;
 use pb_schema::{MessageId, Pool};
 use pb_value::DynamicMessage;
@@ -42,8 +43,45 @@ pub fn read_json<'p>(
     ensures refused { (f : ReadError) → IsRefusedWith pool.now rules message_type.0 bytes.now f
         → IsErrAnd result (λ e. (e ≡ out_of_memory) ⊎ (e ≡ f)) }
 {
+    read_json_by(
+        alloc,
+        pool,
+        message_type,
+        bytes,
+        rules,
+        &JsonNames::none(alloc),
+    )
+}
+
+/// Reads a message as `read_json` does. A field that is given a name is read under that name in place of its name in lowerCamelCase.
+///
+/// The name of a member means the field that is given it, or that is declared by it, or else the first whose name in lowerCamelCase it is.
+pub fn read_json_by<'p>(
+    alloc: Global,
+    pool: &'p Pool,
+    message_type: MessageId,
+    bytes: &[u8],
+    rules: JsonRules,
+    names: &JsonNames,
+) -> Result<DynamicMessage<'p>, JsonReadError>
+    requires { message_type.0 < length pool.now.messages }
+    ensures of_type { IfOk result (λ m. (m.pool ≡ pool.now) × (m.kind ≡ message_type.0)) }
+    ensures read { IfOk result (λ m. IsReadBy pool.now rules names.now message_type.0 bytes.now m.body) }
+    ensures fault { IfErr result (λ e. (e ≡ out_of_memory) ⊎ IsRefusedBy pool.now rules names.now message_type.0 bytes.now e) }
+
+    // Each message is answered and each fault is reported, unless memory runs out.
+    ensures accepted { (v : Message) → IsReadBy pool.now rules names.now message_type.0 bytes.now v
+        → MatchResult result (λ m. m.body ≡ v) (λ e. e ≡ out_of_memory) }
+    ensures refused { (f : ReadError) → IsRefusedBy pool.now rules names.now message_type.0 bytes.now f
+        → IsErrAnd result (λ e. (e ≡ out_of_memory) ⊎ (e ≡ f)) }
+{
     let value = read_value(alloc, bytes)?;
-    let context = Context { alloc, pool, rules };
+    let context = Context {
+        alloc,
+        pool,
+        names,
+        rules,
+    };
     let body = context.read_message(message_type, &value)?;
     within_depth(alloc, pool, message_type, body, value.at)
 }

@@ -7,7 +7,7 @@ use pb_wire::{FailurePlan, MemOutput};
 use std::alloc::{AllocError, Global};
 use std::test::Fail;
 
-const FORM: JsonForm = JsonForm {
+const FORM: JsonForm<'static> = JsonForm {
     names: Names::Declared,
     layout: Layout::Compact,
 };

@@ -8,12 +8,12 @@ use pb_schema::Pool;
 use std::alloc::Global;
 use std::test::Fail;
 
-const COMPACT: JsonForm = JsonForm {
+const COMPACT: JsonForm<'static> = JsonForm {
     names: Names::LowerCamel,
     layout: Layout::Compact,
 };
 
-const INDENTED: JsonForm = JsonForm {
+const INDENTED: JsonForm<'static> = JsonForm {
     names: Names::Declared,
     layout: Layout::Indented,
 };

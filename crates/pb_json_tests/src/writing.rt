@@ -9,7 +9,7 @@ use std::alloc::{AllocError, Global};
 pub(crate) fn is_written(
     alloc: Global,
     message: &DynamicMessage<'_>,
-    form: JsonForm,
+    form: JsonForm<'_>,
     json: &[u8],
 ) -> Result<bool, AllocError> {
     let mut output = MemOutput::new(alloc, 1_000_000, FailurePlan::NEVER);
@@ -24,7 +24,7 @@ pub(crate) fn is_written(
 pub(crate) fn is_cut(
     alloc: Global,
     message: &DynamicMessage<'_>,
-    form: JsonForm,
+    form: JsonForm<'_>,
     json: &[u8],
 ) -> bool {
     for calls in 0..json.len().min(100) as u64 {

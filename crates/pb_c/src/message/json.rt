@@ -30,7 +30,7 @@ const JSON_BAD_PATH: u32 = 94;
 const JSON_UNSUPPORTED: u32 = 95;
 
 /// The form that two flags name.
-fn form_of(declared_names: bool, indented: bool) -> JsonForm
+fn form_of(declared_names: bool, indented: bool) -> JsonForm<'static>
     ensures { result ≡ json_form declared_names indented }
 {
     JsonForm {
@@ -73,13 +73,13 @@ fn tell_refusal(refusal: &Refusal, path: &mut [u32], steps: &mut usize) -> u32
 /// Writes the JSON of a message. It is made in memory first, so nothing is written where that runs out.
 fn write_as_json(
     message: &DynamicMessage<'_>,
-    form: JsonForm,
+    form: JsonForm<'_>,
     out: &mut [u8],
     size: &mut usize,
     path: &mut [u32],
     steps: &mut usize,
 ) -> u32
-    ensures written { result ≡ DONE → IsJsonLaid form message.now out.old out.new size.new }
+    ensures written { result ≡ DONE → IsJsonLaid form.entry message.now out.old out.new size.new }
     ensures unwritten { result ≢ DONE → (out.new ≡ out.old) × (size.new ≡ size.old) }
     ensures formless { result ≢ DONE → result ≢ MEMORY
         → (r : Refused) × (refused message.now ≡ Some r) × RefusesAs r result path.old path.new steps.new }
@@ -103,13 +103,13 @@ fn write_as_json(
 fn json_own(
     alloc: Global,
     own: &mut OwnMessage,
-    form: JsonForm,
+    form: JsonForm<'_>,
     out: &mut [u8],
     size: &mut usize,
     path: &mut [u32],
     steps: &mut usize,
 ) -> u32
-    ensures written { result ≡ DONE → IsJsonLaid form own.old out.old out.new size.new }
+    ensures written { result ≡ DONE → IsJsonLaid form.entry own.old out.old out.new size.new }
     ensures unwritten { result ≢ DONE → (out.new ≡ out.old) × (size.new ≡ size.old) }
     ensures formless { result ≢ DONE → result ≢ MEMORY
         → (r : Refused) × (refused own.old ≡ Some r) × RefusesAs r result path.old path.new steps.new }

@@ -74,7 +74,7 @@ put_members-loop-number-init g t c =
     let form = c.args.context.now.form in
     left_all
     (λ (fs : List (ℕ × Content)). AreMembers form.layout c.args.at.indent c.args.is_first
-    (fields_json c.args.context.now.pool.now form.names (message_json c.args.context.now.pool.now form.names c.args.at.levels) (message_fields c.args.context.now.pool.now c.args.id.0) (fields_view fs)))
+    (fields_json c.args.context.now.pool.now form.names (message_json c.args.context.now.pool.now form.names c.args.at.levels) c.args.id.0 (fields_view fs)))
     c.into_iter-number-iterator.result c.args.fields.now.entries (search rules)
 
 pub put_members-loop-number-preserved-in-Some-field_by_number : goal.put_members-loop-number-preserved-in-Some-field_by_number
@@ -83,17 +83,17 @@ put_members-loop-number-preserved-in-Some-field_by_number g t c =
     let split : c.loop-number.number-iterator ≡ (c.in-Some.number.now, c.in-Some.content.now) ∷ c.next.new.self = search rules in
     left_more _ _ c.loop-number.invariant
     (member_joins form.layout c.args.at.indent c.loop-number.is_first _ _ _ _
-    (fields_next c.args.context.now.pool.now form.names (message_json c.args.context.now.pool.now form.names c.args.at.levels) (message_fields c.args.context.now.pool.now c.args.id.0) _ _ _ _
+    (fields_next c.args.context.now.pool.now form.names (message_json c.args.context.now.pool.now form.names c.args.at.levels) c.args.id.0 _ _ _ _
     (field_view c.in-Some-field_by_number.field.now) split (sym c.in-Some-field_by_number.ensures.found)))
     (prints_after (IsJsonText form.layout (c.args.at.indent + 1)
     (holding_json c.args.context.now.pool.now form.names (message_json c.args.context.now.pool.now form.names c.args.at.levels) c.in-Some-field_by_number.field.now.kind (content_view c.in-Some.content.now)))
-    (rw c.as_str.ensures.value at c.put_field_start.ensures) c.in_ok-put_content.ensures.put)
+    c.put_field_start.ensures c.in_ok-put_content.ensures.put)
 
 pub put_members-loop-number-preserved : goal.put_members-loop-number-preserved
 put_members-loop-number-preserved g t c =
     let form = c.args.context.now.form in
     let split : c.loop-number.number-iterator ≡ (c.in-Some.number.now, c.in-Some.content.now) ∷ c.next.new.self = search rules in
-    let same = fields_skip c.args.context.now.pool.now form.names (message_json c.args.context.now.pool.now form.names c.args.at.levels) (message_fields c.args.context.now.pool.now c.args.id.0) _ _ _ _ split
+    let same = fields_skip c.args.context.now.pool.now form.names (message_json c.args.context.now.pool.now form.names c.args.at.levels) c.args.id.0 _ _ _ _ split
     (sym c.field_by_number.ensures.found ∙ ap (option_map (λ f. field_view f.now)) c.in_default.is) in
     left_same _ c.loop-number.invariant
     (λ after is. subst (λ x. AreMembers form.layout c.args.at.indent c.loop-number.is_first x after) (sym same) is)
@@ -104,7 +104,7 @@ put_members-returns-clause-put g t c =
     let end : c.loop-number.number-iterator ≡ [] = search rules in
     left_done c.loop-number.invariant
     (subst (λ (fs : List (ℕ × Content)). AreMembers form.layout c.args.at.indent c.loop-number.is_first
-    (fields_json c.args.context.now.pool.now form.names (message_json c.args.context.now.pool.now form.names c.args.at.levels) (message_fields c.args.context.now.pool.now c.args.id.0) (fields_view fs)) (closing_line form.layout c.args.at.indent c.loop-number.is_first ++ codes "}")) (sym end) refl)
+    (fields_json c.args.context.now.pool.now form.names (message_json c.args.context.now.pool.now form.names c.args.at.levels) c.args.id.0 (fields_view fs)) (closing_line form.layout c.args.at.indent c.loop-number.is_first ++ codes "}")) (sym end) refl)
     c.put_closing.ensures
 
 pub put_only-loop-number-init : goal.put_only-loop-number-init
@@ -177,7 +177,7 @@ put_object-returns-clause-put g t c =
     let form = c.args.context.now.form in
     on_ok_weaker c.put_members.result
     (λ p. prints_after (AreMembers form.layout c.args.at.indent true (fields_json c.args.context.now.pool.now form.names (message_json c.args.context.now.pool.now form.names c.args.at.levels)
-    (message_fields c.args.context.now.pool.now c.args.id.0) (fields_view c.args.fields.now.entries))) c.put.ensures p) c.put_members.ensures.put
+    c.args.id.0 (fields_view c.args.fields.now.entries))) c.put.ensures p) c.put_members.ensures.put
 
 pub put_opened-returns-in-Some : goal.put_opened-returns-in-Some
 put_opened-returns-in-Some g t c =
@@ -185,7 +185,7 @@ put_opened-returns-in-Some g t c =
     let named = c.message_type-id.ensures.named in
     let deep : c.args.at.levels ≡ suc c.in-Some.levels = omega (arith, c.in-Some.ensures.some.0) in
     let plain = rw named at c.in-Some.ensures.some.1 in
-    let ms = fields_json pool form.names (message_json pool form.names c.in-Some.levels) (message_fields pool m.kind) (fields_view c.body-body.result.now.fields.entries) in
+    let ms = fields_json pool form.names (message_json pool form.names c.in-Some.levels) m.kind (fields_view c.body-body.result.now.fields.entries) in
     let same = plain_members pool form.names c.args.at.levels c.in-Some.levels m.kind c.body-body.result.now m.body deep plain c.body-body.ensures.held in
     on_ok_weaker c.put_members.result
     (λ p. prints_same form.layout c.args.at.indent _ _ (ap (λ (x : Members). tagged c.args.url.now x) same)

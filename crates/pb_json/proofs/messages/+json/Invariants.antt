@@ -1,5 +1,4 @@
 use Rattle.std.proofs.Common.{◌≡◌, ◌+◌, ◌*◌, [], drop}
-use Rattle.pb_schema.specs.Types.{message_fields}
 use Rattle.pb_value.specs.View.{values_view, entries_view, fields_view}
 use Rattle.pb_json.specs.Json.{array, object}
 use Rattle.pb_json.specs.JsonText.{IsJsonText, AreElements, AreMembers}
@@ -48,9 +47,9 @@ abbrev pub invariant-put_members-loop-number : goal.invariant-put_members-loop-n
 invariant-put_members-loop-number g l =
     IsLeft g.O.Output.written g.O.Output.failures l.fn.out l.out l.fn.sink l.sink
     (AreMembers l.form.layout l.at.indent l.is_first (fields_json l.context.pool.now l.form.names
-    (message_json l.context.pool.now l.form.names l.at.levels) (message_fields l.context.pool.now l.id.0) (fields_view l.number-iterator)))
+    (message_json l.context.pool.now l.form.names l.at.levels) l.id.0 (fields_view l.number-iterator)))
     (AreMembers l.form.layout l.at.indent l.fn.is_first (fields_json l.context.pool.now l.form.names
-    (message_json l.context.pool.now l.form.names l.at.levels) (message_fields l.context.pool.now l.id.0) (fields_view l.fields.entries)))
+    (message_json l.context.pool.now l.form.names l.at.levels) l.id.0 (fields_view l.fields.entries)))
 
 abbrev pub invariant-put_values-loop-value : goal.invariant-put_values-loop-value
 invariant-put_values-loop-value g l =

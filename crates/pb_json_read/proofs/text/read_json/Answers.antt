@@ -1,58 +1,28 @@
-use Rattle.std.proofs.Common.{Err}
-use Rattle.std.proofs.lemmas.Result.{err_from_is_err_and}
-use Rattle.pb_json_read.proofs.TextLemmas.{no_text_fault, no_text_accepted, no_text_refused, read_fault, fault_accepted, fault_refused}
-use Rattle.pb_json_read.proofs.TextLemmas.{at_value, all_read, all_fault, all_accepted, all_refused}
+use Rattle.std.proofs.Common.{◌≡◌, ◌⊎◌, IfOk, IfErr, IsErrAnd, subst}
+use Rattle.std.specs.Prelude.{MatchResult}
+use Rattle.pb_value.specs.Data.{Message}
+use Rattle.pb_json.specs.Given.{NamesGiven}
+use Rattle.pb_json_read.specs.Answers.{IsReadBy, IsRefusedBy}
+use Rattle.pb_json_read.specs.declared.error.JsonReadError.{JsonReadError}
+use Rattle.pb_json_read.specs.Faults.{out_of_memory}
 use Rattle.pb_json_read.proofs.text.read_json.Goals as goal
-
-pub returns-in_err-value-clause-fault : goal.returns-in_err-value-clause-fault
-returns-in_err-value-clause-fault c =
-    let p = err_from_is_err_and c.from_residual.result c.from_residual.ensures.1 in
-    rw (p.1, p.2) (no_text_fault c.args.pool.now c.args.rules c.args.message_type.0 c.args.bytes.now _ c.in_err-value.ensures.fault)
-
-pub returns-in_err-value-clause-accepted : goal.returns-in_err-value-clause-accepted
-returns-in_err-value-clause-accepted c =
-    let p = err_from_is_err_and c.from_residual.result c.from_residual.ensures.1 in
-    rw (p.1, p.2) (no_text_accepted c.args.pool.now c.args.rules c.args.message_type.0 c.args.bytes.now _ c.in_err-value.ensures.accepted)
-
-pub returns-in_err-value-clause-refused : goal.returns-in_err-value-clause-refused
-returns-in_err-value-clause-refused c =
-    let p = err_from_is_err_and c.from_residual.result c.from_residual.ensures.1 in
-    rw (p.1, p.2) (no_text_refused c.args.pool.now c.args.rules c.args.message_type.0 c.args.bytes.now _ c.in_err-value.ensures.accepted c.in_err-value.ensures.refused)
-
-pub returns-in_err-body-clause-fault : goal.returns-in_err-body-clause-fault
-returns-in_err-body-clause-fault c =
-    let p = err_from_is_err_and c.from_residual-in_err-body.result c.from_residual-in_err-body.ensures.1 in
-    let v = c.in_ok-value.ensures in
-    rw (p.1, p.2) (read_fault c.args.pool.now c.args.rules c.args.message_type.0 c.args.bytes.now c.in_ok-value.value v.accepted v.refused v.value _ (at_value c.args.pool.now c.args.rules c.args.message_type.0 c.in_ok-value.value (Err _) c.in_err-body.ensures))
-
-pub returns-in_err-body-clause-accepted : goal.returns-in_err-body-clause-accepted
-returns-in_err-body-clause-accepted c =
-    let p = err_from_is_err_and c.from_residual-in_err-body.result c.from_residual-in_err-body.ensures.1 in
-    let v = c.in_ok-value.ensures in
-    rw (p.1, p.2) (fault_accepted c.args.pool.now c.args.rules c.args.message_type.0 c.args.bytes.now c.in_ok-value.value v.accepted v.refused v.value _ (at_value c.args.pool.now c.args.rules c.args.message_type.0 c.in_ok-value.value (Err _) c.in_err-body.ensures))
-
-pub returns-in_err-body-clause-refused : goal.returns-in_err-body-clause-refused
-returns-in_err-body-clause-refused c =
-    let p = err_from_is_err_and c.from_residual-in_err-body.result c.from_residual-in_err-body.ensures.1 in
-    let v = c.in_ok-value.ensures in
-    rw (p.1, p.2) (fault_refused c.args.pool.now c.args.rules c.args.message_type.0 c.args.bytes.now c.in_ok-value.value v.accepted v.refused v.value _ (at_value c.args.pool.now c.args.rules c.args.message_type.0 c.in_ok-value.value (Err _) c.in_err-body.ensures))
 
 pub returns-clause-read : goal.returns-clause-read
 returns-clause-read c =
-    let v = c.in_ok-value.ensures in
-    all_read c.args.pool.now c.args.rules c.args.message_type.0 c.args.bytes.now c.in_ok-value.value v.accepted v.refused v.value _ c.in_ok-body.ensures c.within_depth.result c.within_depth.ensures.made c.within_depth.ensures.well_formed
+    subst (λ (n : NamesGiven). IfOk c.read_json_by-2.result (λ m. IsReadBy c.args.pool.now c.args.rules n c.args.message_type.0 c.args.bytes.now m.body))
+    c.none.ensures c.read_json_by-2.ensures.read
 
 pub returns-clause-fault : goal.returns-clause-fault
 returns-clause-fault c =
-    let v = c.in_ok-value.ensures in
-    all_fault c.args.pool.now c.args.rules c.args.message_type.0 c.args.bytes.now c.in_ok-value.value v.accepted v.refused v.value _ c.in_ok-body.ensures c.within_depth.result c.within_depth.ensures.refused
+    subst (λ (n : NamesGiven). IfErr c.read_json_by-2.result (λ e. (e ≡ out_of_memory) ⊎ IsRefusedBy c.args.pool.now c.args.rules n c.args.message_type.0 c.args.bytes.now e))
+    c.none.ensures c.read_json_by-2.ensures.fault
 
 pub returns-clause-accepted : goal.returns-clause-accepted
 returns-clause-accepted c =
-    let v = c.in_ok-value.ensures in
-    all_accepted c.args.pool.now c.args.rules c.args.message_type.0 c.args.bytes.now c.in_ok-value.value v.accepted v.refused v.value _ c.in_ok-body.ensures c.within_depth.result c.within_depth.ensures.made c.within_depth.ensures.refused
+    subst (λ (n : NamesGiven). (v : Message) → IsReadBy c.args.pool.now c.args.rules n c.args.message_type.0 c.args.bytes.now v
+    → MatchResult c.read_json_by-2.result (λ m. m.body ≡ v) (λ e. e ≡ out_of_memory)) c.none.ensures c.read_json_by-2.ensures.accepted
 
 pub returns-clause-refused : goal.returns-clause-refused
 returns-clause-refused c =
-    let v = c.in_ok-value.ensures in
-    all_refused c.args.pool.now c.args.rules c.args.message_type.0 c.args.bytes.now c.in_ok-value.value v.accepted v.refused v.value _ c.in_ok-body.ensures c.within_depth.result c.within_depth.ensures.well_formed c.within_depth.ensures.refused
+    subst (λ (n : NamesGiven). (f : JsonReadError) → IsRefusedBy c.args.pool.now c.args.rules n c.args.message_type.0 c.args.bytes.now f
+    → IsErrAnd c.read_json_by-2.result (λ e. (e ≡ out_of_memory) ⊎ (e ≡ f))) c.none.ensures c.read_json_by-2.ensures.refused

@@ -1,7 +1,6 @@
 use Rattle.std.proofs.Common.{drop, option_map}
 use Rattle.pb_schema.specs.View.{field_view}
 use Rattle.pb_json_text.specs.View.{elements_view, members_view}
-use Rattle.pb_schema.specs.Types.{message_fields}
 use Rattle.pb_value.specs.Change.{AreKeys}
 use Rattle.pb_value.specs.Data.{no_datums, no_entries, Datums, Entries}
 use Rattle.pb_value.specs.View.{entries_view, values_view}
@@ -9,30 +8,31 @@ use Rattle.pb_json_read.specs.Answers.{parts_view}
 use Rattle.pb_json_read.specs.Steps.{Read, Parts, nothing}
 use Rattle.pb_json_read.specs.Reads.{ReadsBeside, ReadsElements, ReadsEntries, ReadsMembers}
 use Rattle.pb_json_read.specs.Anys.{beside}
+use Rattle.pb_json_read.specs.Names.{field_meant}
 use Rattle.pb_json_read.proofs.context.Context.+read.Given as goal
 
 abbrev pub invariant-read_members-loop-member : goal.invariant-read_members-loop-member
 invariant-read_members-loop-member l =
     (o : Read Parts)
-    → ReadsMembers l.self.pool.now l.self.rules (message_fields l.self.pool.now l.id.0) (parts_view l.parts) (members_view (drop l.member-index l.members.items)) o
-    → ReadsMembers l.self.pool.now l.self.rules (message_fields l.self.pool.now l.id.0) nothing (members_view l.members.items) o
+    → ReadsMembers l.self.pool.now l.self.rules l.self.names.now (field_meant l.self.names.now l.self.pool.now l.id.0) (parts_view l.parts) (members_view (drop l.member-index l.members.items)) o
+    → ReadsMembers l.self.pool.now l.self.rules l.self.names.now (field_meant l.self.names.now l.self.pool.now l.id.0) nothing (members_view l.members.items) o
 
 abbrev pub invariant-read_beside-loop-member : goal.invariant-read_beside-loop-member
 invariant-read_beside-loop-member l =
     (o : Read Parts)
-    → ReadsBeside l.self.pool.now l.self.rules (beside (option_map (λ f. field_view f.now) l.only) (message_fields l.self.pool.now l.inner.0)) (parts_view l.parts) (members_view (drop l.member-index l.members.items)) o
-    → ReadsBeside l.self.pool.now l.self.rules (beside (option_map (λ f. field_view f.now) l.only) (message_fields l.self.pool.now l.inner.0)) nothing (members_view l.members.items) o
+    → ReadsBeside l.self.pool.now l.self.rules l.self.names.now (beside (option_map (λ f. field_view f.now) l.only) (field_meant l.self.names.now l.self.pool.now l.inner.0)) (parts_view l.parts) (members_view (drop l.member-index l.members.items)) o
+    → ReadsBeside l.self.pool.now l.self.rules l.self.names.now (beside (option_map (λ f. field_view f.now) l.only) (field_meant l.self.names.now l.self.pool.now l.inner.0)) nothing (members_view l.members.items) o
 
 abbrev pub invariant-read_elements-loop-item : goal.invariant-read_elements-loop-item
 invariant-read_elements-loop-item l =
     (o : Read Datums)
-    → ReadsElements l.self.pool.now l.self.rules l.kind (values_view l.values.items) (elements_view (drop l.item-index l.items.items)) o
-    → ReadsElements l.self.pool.now l.self.rules l.kind no_datums (elements_view l.items.items) o
+    → ReadsElements l.self.pool.now l.self.rules l.self.names.now l.kind (values_view l.values.items) (elements_view (drop l.item-index l.items.items)) o
+    → ReadsElements l.self.pool.now l.self.rules l.self.names.now l.kind no_datums (elements_view l.items.items) o
 
 abbrev pub invariant-read_entries-loop-member : goal.invariant-read_entries-loop-member
 invariant-read_entries-loop-member l = record {
   keys : AreKeys l.key (entries_view l.entries.map.entries);
   left : (o : Read Entries)
-      → ReadsEntries l.self.pool.now l.self.rules l.key l.kind (entries_view l.entries.map.entries) (members_view (drop l.member-index l.members.items)) o
-      → ReadsEntries l.self.pool.now l.self.rules l.key l.kind no_entries (members_view l.members.items) o;
+      → ReadsEntries l.self.pool.now l.self.rules l.self.names.now l.key l.kind (entries_view l.entries.map.entries) (members_view (drop l.member-index l.members.items)) o
+      → ReadsEntries l.self.pool.now l.self.rules l.self.names.now l.key l.kind no_entries (members_view l.members.items) o;
 }

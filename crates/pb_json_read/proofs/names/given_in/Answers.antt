@@ -1,16 +1,21 @@
 use Rattle.std.proofs.Common.{◌≡◌, ◌<◌, List, map, length, sym, ap, ◌∙◌, arith}
 use Rattle.std.specs.Prelude.{find, slice_get}
-use Rattle.std.specs.Str.{bytes_eq}
 use Rattle.std.proofs.lemmas.List.{length-map}
 use Rattle.pb_schema.specs.declared.types.MessageType.{MessageType}
 use Rattle.pb_schema.specs.Types.{FieldView, MessageView, fields_of_message, message_fields}
 use Rattle.pb_schema.specs.View.{field_view, message_view}
 use Rattle.pb_schema.proofs.LookupLemmas.{get_viewed, found_rules}
-use Rattle.pb_json.specs.JsonNames.{lower_camel}
-use Rattle.pb_json_read.proofs.names.field_meant.Goals as goal
+use Rattle.pb_json.specs.Given.{name_given}
+use Rattle.pb_json_read.specs.Names.{is_given}
+use Rattle.pb_json_read.proofs.NameLemmas.{none_found}
+use Rattle.pb_json_read.proofs.names.given_in.Goals as goal
 
-pub returns-in-None-clause-rules : goal.returns-in-None-clause-rules
-returns-in-None-clause-rules c =
+pub returns-then-is_empty-clause-found : goal.returns-then-is_empty-clause-found
+returns-then-is_empty-clause-found c =
+    none_found c.args.names.now c.args.message.0 (message_fields c.args.pool.now c.args.message.0) c.args.name.now (c.is_empty.ensures.0 c.if-is_empty.true)
+
+pub returns-clause-rules : goal.returns-clause-rules
+returns-clause-rules c =
     let ms = c.messages.result.now in
     let m = c.args.message.0 in
     let within : m < length ms = omega (arith, c.requires, ap (λ (vs : List MessageView). length vs) c.messages.ensures.listed, length-map ms message_view) in
@@ -18,6 +23,6 @@ returns-in-None-clause-rules c =
     ap (map field_view) (c.deref.ensures.value ∙ ap (λ (t : MessageType). t.fields.items) (sym c.index-messages-message.is))
     ∙ ap fields_of_message (sym (get_viewed message_view ms m c.index-messages-message.result within c.index-messages-message.is))
     ∙ ap (λ (vs : List MessageView). fields_of_message (slice_get vs m)) c.messages.ensures.listed in
-    let test = λ (f : FieldView). bytes_eq (lower_camel f.name) c.args.name.now in
-    found_rules c.args.pool.now m test c.find_camel.result c.messages.ensures.rules
-    ((rw c.as_bytes.ensures.value at c.find_camel.ensures) ∙ ap (find test) fields)
+    let test = λ (f : FieldView). is_given (name_given c.args.names.now c.args.message.0 f.number) c.args.name.now in
+    found_rules c.args.pool.now m test c.find_given.result c.messages.ensures.rules
+    (c.find_given.ensures ∙ ap (find test) fields)

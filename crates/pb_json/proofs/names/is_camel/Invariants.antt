@@ -1,8 +1,8 @@
 use Rattle.std.proofs.Common.{◌≡◌, ◌≤◌, length}
 use Rattle.std.specs.Str.{bytes_eq}
 use Rattle.pb_json.specs.JsonNames.{lower_camel}
-use Rattle.pb_json_read.proofs.NameLemmas.{is_rest}
-use Rattle.pb_json_read.proofs.names.is_camel.Given as goal
+use Rattle.pb_json.proofs.NameLemmas.{is_rest}
+use Rattle.pb_json.proofs.names.is_camel.Given as goal
 
 abbrev pub invariant-loop-byte : goal.invariant-loop-byte
 invariant-loop-byte l = record {
