@@ -119,14 +119,16 @@ pub fn written_names()
 /// A message that is covered, as its JSON value; each NaN is read as one NaN.
 pub fn read_messages()
     ensures { (pool : Types) (names : AnyNames) (given : NamesGiven) (rules : AnyRules) → IsPool pool → AreMemberNames names
-        → NamesAreRead names given pool → (levels m : ℕ) (b : Message) → IsBody pool m b → IsCoveredWithin pool levels m b → (at : ℕ) (j : Json) → Means (message_json pool names levels m b) j
+        → NamesAreRead names given pool → (levels m : ℕ) (b : Message) → IsBody pool m b → IsCoveredWithin pool levels m b → (at : ℕ) (j : Json)
+        → Means (message_json pool names levels m b) j
         → ReadsMessage pool rules given m at j (Ok (message_with_one_nan b)) }
 {}
 
 /// A message that is covered, as its text in each form. It nests at most 100 arrays and objects, and each NaN is read as one NaN.
 pub fn written_messages()
     ensures { (pool : Types) (form : AnyForm) (given : NamesGiven) (rules : AnyRules) → IsPool pool → AreMemberNames form.names
-        → NamesAreRead form.names given pool → (m : ℕ) (b : Message) → IsWellFormed pool m b → IsCovered pool m b → json_depth (message_json pool form.names 101 m b) ≤ 100
+        → NamesAreRead form.names given pool → (m : ℕ) (b : Message) → IsWellFormed pool m b → IsCovered pool m b
+        → json_depth (message_json pool form.names 101 m b) ≤ 100
         → (text : List ℕ) → IsJsonText form.layout 0 (message_json pool form.names 101 m b) text
         → IsReadBy pool rules given m text (message_with_one_nan b) }
 {}

@@ -70,7 +70,9 @@ fn add<'a>(
 ) -> Result<(), AllocError>
     requires named { name.now ≡ simple_name (item_view item) }
     requires marked { marks ≡ marks_of (item_view item) }
-    ensures { OnOk result (Adds row.old.items row.new.items (record { file = parent.entry.file; parent = parent.entry.index; scope = parent.entry.scope.now; item = item_view item.entry } ∷ [])) }
+    ensures { OnOk result
+        (Adds row.old.items row.new.items
+        (record { file = parent.entry.file; parent = parent.entry.index; scope = parent.entry.scope.now; item = item_view item.entry } ∷ [])) }
 {
     row.push(Declaration {
         file: parent.file,
@@ -93,7 +95,8 @@ fn add_fields<'a>(
 ) -> Result<(), AllocError>
     requires { marks.now ≡ map (λ e. marks_of (a_field (head_of (message_view message.now)) e.0 e.1)) (enumerate_from 0 (map field_view fields.now)) }
     ensures { OnOk result
-        (Adds row.old.items row.new.items (fields_of parent.entry.file parent.entry.index parent.entry.scope.now (head_of (message_view message.now)) (map field_view fields.now))) }
+        (Adds row.old.items row.new.items
+        (fields_of parent.entry.file parent.entry.index parent.entry.scope.now (head_of (message_view message.now)) (map field_view fields.now))) }
 {
     for (index, field) in fields.iter().enumerate() {
         let name = field.name.as_str();
@@ -113,7 +116,8 @@ fn add_oneofs<'a>(
 ) -> Result<(), AllocError>
     requires { marks.now ≡ map (λ e. marks_of (a_oneof (head_of (message_view message.now)) e.0 e.1)) (enumerate_from 0 (map string_bytes oneofs.now)) }
     ensures { OnOk result
-        (Adds row.old.items row.new.items (oneofs_of parent.entry.file parent.entry.index parent.entry.scope.now (head_of (message_view message.now)) (map string_bytes oneofs.now))) }
+        (Adds row.old.items row.new.items
+        (oneofs_of parent.entry.file parent.entry.index parent.entry.scope.now (head_of (message_view message.now)) (map string_bytes oneofs.now))) }
 {
     for (index, oneof) in oneofs.iter().enumerate() {
         let name = oneof.as_str();
@@ -132,7 +136,9 @@ fn add_values<'a>(
     row: &mut Vec<Declaration<'a>>,
 ) -> Result<(), AllocError>
     requires { marks.now ≡ map (λ e. marks_of (a_value (enum_view entry.now) e.0 e.1)) (enumerate_from 0 (map numbered_view values.now)) }
-    ensures { OnOk result (Adds row.old.items row.new.items (values_of parent.entry.file parent.entry.index parent.entry.scope.now (enum_view entry.now) (map numbered_view values.now))) }
+    ensures { OnOk result
+        (Adds row.old.items row.new.items
+        (values_of parent.entry.file parent.entry.index parent.entry.scope.now (enum_view entry.now) (map numbered_view values.now))) }
 {
     for (index, value) in values.iter().enumerate() {
         let name = value.0.as_str();
@@ -148,7 +154,9 @@ fn add_enum<'a>(
     entry: &'a EnumDecl,
     row: &mut Vec<Declaration<'a>>,
 ) -> Result<(), AllocError>
-    ensures { OnOk result (Adds row.old.items row.new.items (enum_declared parent.entry.file parent.entry.index parent.entry.scope.now (length row.old.items) (enum_view entry.now))) }
+    ensures { OnOk result
+        (Adds row.old.items row.new.items
+        (enum_declared parent.entry.file parent.entry.index parent.entry.scope.now (length row.old.items) (enum_view entry.now))) }
 {
     let inside = parent.inside(row.len(), parent.scope);
     let reserved = Reserved::of_enum(alloc, entry)?;
@@ -165,7 +173,9 @@ fn add_enums<'a>(
     enums: &'a [EnumDecl],
     row: &mut Vec<Declaration<'a>>,
 ) -> Result<(), AllocError>
-    ensures { OnOk result (Adds row.old.items row.new.items (enums_declared parent.entry.file parent.entry.index parent.entry.scope.now (length row.old.items) (map enum_view enums.now))) }
+    ensures { OnOk result
+        (Adds row.old.items row.new.items
+        (enums_declared parent.entry.file parent.entry.index parent.entry.scope.now (length row.old.items) (map enum_view enums.now))) }
 {
     for entry in enums {
         add_enum(alloc, parent, entry, row)?;
@@ -181,7 +191,9 @@ fn add_head<'a>(
     message: &'a MessageDecl,
     row: &mut Vec<Declaration<'a>>,
 ) -> Result<(), AllocError>
-    ensures { OnOk result (Adds row.old.items row.new.items (head_row parent.entry.file parent.entry.index parent.entry.scope.now full_name.now (length row.old.items) (message_view message.now))) }
+    ensures { OnOk result
+        (Adds row.old.items row.new.items
+        (head_row parent.entry.file parent.entry.index parent.entry.scope.now full_name.now (length row.old.items) (message_view message.now))) }
 {
     let inside = parent.inside(row.len(), full_name);
     let reserved = Reserved::of_message(alloc, message)?;
@@ -201,7 +213,9 @@ fn add_message<'a>(
     message: &'a MessageDecl,
     row: &mut Vec<Declaration<'a>>,
 ) -> Result<(), AllocError>
-    ensures { OnOk result (Adds row.old.items row.new.items (message_declared parent.entry.file parent.entry.index parent.entry.scope.now (length row.old.items) (message_view message.now))) }
+    ensures { OnOk result
+        (Adds row.old.items row.new.items
+        (message_declared parent.entry.file parent.entry.index parent.entry.scope.now (length row.old.items) (message_view message.now))) }
 {
     let full_name = scoped(alloc, parent.scope, message.name.as_str())?;
     let inside = parent.inside(row.len(), full_name.as_str());
@@ -219,7 +233,8 @@ fn add_messages<'a>(
     row: &mut Vec<Declaration<'a>>,
 ) -> Result<(), AllocError>
     ensures { OnOk result
-        (Adds row.old.items row.new.items (messages_declared parent.entry.file parent.entry.index parent.entry.scope.now (length row.old.items) (messages_of (map message_view messages.now)))) }
+        (Adds row.old.items row.new.items
+        (messages_declared parent.entry.file parent.entry.index parent.entry.scope.now (length row.old.items) (messages_of (map message_view messages.now)))) }
 {
     for message in messages {
         add_message(alloc, parent, message, row)?;
@@ -233,7 +248,8 @@ fn add_methods<'a>(
     methods: &'a [MethodDecl],
     row: &mut Vec<Declaration<'a>>,
 ) -> Result<(), AllocError>
-    ensures { OnOk result (Adds row.old.items row.new.items (methods_of parent.entry.file parent.entry.index parent.entry.scope.now (map method_view methods.now))) }
+    ensures { OnOk result
+        (Adds row.old.items row.new.items (methods_of parent.entry.file parent.entry.index parent.entry.scope.now (map method_view methods.now))) }
 {
     for method in methods {
         let name = method.name.as_str();
@@ -248,7 +264,9 @@ fn add_service<'a>(
     service: &'a ServiceDecl,
     row: &mut Vec<Declaration<'a>>,
 ) -> Result<(), AllocError>
-    ensures { OnOk result (Adds row.old.items row.new.items (service_declared parent.entry.file parent.entry.index parent.entry.scope.now (length row.old.items) (service_view service.now))) }
+    ensures { OnOk result
+        (Adds row.old.items row.new.items
+        (service_declared parent.entry.file parent.entry.index parent.entry.scope.now (length row.old.items) (service_view service.now))) }
 {
     let name = service.name.as_str();
     let full_name = scoped(alloc, parent.scope, name)?;
@@ -270,7 +288,9 @@ fn add_services<'a>(
     services: &'a [ServiceDecl],
     row: &mut Vec<Declaration<'a>>,
 ) -> Result<(), AllocError>
-    ensures { OnOk result (Adds row.old.items row.new.items (services_declared parent.entry.file parent.entry.index parent.entry.scope.now (length row.old.items) (map service_view services.now))) }
+    ensures { OnOk result
+        (Adds row.old.items row.new.items
+        (services_declared parent.entry.file parent.entry.index parent.entry.scope.now (length row.old.items) (map service_view services.now))) }
 {
     for service in services {
         add_service(alloc, parent, service, row)?;
