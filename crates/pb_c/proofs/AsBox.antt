@@ -8,7 +8,7 @@ use Rattle.std_heap.specs.contracts.GlobalAllocator.TheImpl.{ghosts, dict}
 use Rattle.std_heap.proofs.Global.TheLaws as heap
 use Rattle.pb_c.specs.contracts.handle.shared.Shared as Shared
 use Rattle.pb_c.proofs.handle.shared.Shared.TheLaws as shared
-use Rattle.pb_c.specs.contracts.handle.parts.Parts as Parts
+use Rattle.pb_c_boxes.specs.contracts.parts.Parts as Parts
 use Rattle.pb_c.specs.contracts.handle.seal.Seal as Seal
 
 -- a box of what stands behind a handle, from the heap

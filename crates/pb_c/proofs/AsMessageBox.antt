@@ -8,7 +8,7 @@ use Rattle.std_heap.specs.contracts.GlobalAllocator.TheImpl.{ghosts, dict}
 use Rattle.std_heap.proofs.Global.TheLaws as heap
 use Rattle.pb_c.specs.contracts.message.own.OwnMessage as Own
 use Rattle.pb_c.proofs.message.own.OwnMessage.TheLaws as own
-use Rattle.pb_c.specs.contracts.handle.parts.Parts as Parts
+use Rattle.pb_c_boxes.specs.contracts.parts.Parts as Parts
 use Rattle.pb_c.specs.contracts.message.seal.MessageSeal as Seal
 
 -- a box of a message, from the heap

@@ -17,7 +17,7 @@ use Rattle.pb_canonical.specs.Canonical.{IsCanonical}
 use Rattle.pb_decode.specs.Push.{IsFaultOf}
 use Rattle.pb_decode.proofs.DecodeLemmas.{exactly_value}
 use Rattle.pb_c_held.proofs.Canonical.{full_text, text_value}
-use Rattle.pb_c.specs.Typed.{message_of}
+use Rattle.pb_c_reports.specs.Typed.{message_of}
 
 -- bytes have one value, whatever the limits
 one_text : (pool : Types) (m : ℕ) (limits other : Bounds) (b : List ℕ) (v w : Message) → Text pool m limits b v → Text pool m other b w → v ≡ w

@@ -1,11 +1,5 @@
--- buffers whose front is laid
-pub mod Laid
 -- what is told of an error
 pub mod Telling
--- what is told of an error of decoding
-pub mod Refusals
--- what is made of a message
-pub mod Making
 -- the length before a text
 pub mod Lengths
 -- what begins with a frame is nothing else
@@ -44,8 +38,6 @@ pub mod FoundTelling
 pub mod Copied
 -- canonical bytes of copies, and of messages that are compared
 pub mod Copies
--- what is answered of a JSON text that is read
-pub mod JsonReading
 -- what is answered of a change
 pub mod ChangeAnswers
 -- for `mb_compat_witness`: what a comparison and its witness ensure

@@ -1,5 +1,5 @@
 -- From what a comparison and its witness ensure to what a call answers of them.
-use Rattle.std.proofs.Common.{◌≡◌, ◌⊎◌, ℕ, List, Option, Some, None, inr, refl, sym, ap, subst, ◌∙◌}
+use Rattle.std.proofs.Common.{◌≡◌, ℕ, List, Option, Some, None, inr, refl, sym, ap, subst, ◌∙◌}
 use Rattle.std.specs.Prelude.{Bool, true, false, ◌&&◌, nat_lt, slice_get, IsSomeAnd}
 use Rattle.pb_schema.specs.Types.{Types}
 use Rattle.pb_compat.specs.Agrees.{break_among}

@@ -18,26 +18,17 @@ use Rattle.pb_decode.specs.Push.{IsFaultOf}
 use Rattle.pb_stream.specs.Frame.{FrameFault}
 use Rattle.pb_c.specs.PoolFault.{PoolFault, TellsBytes, answer_of}
 use Rattle.pb_c.specs.SetPool.{FilesFail}
-use Rattle.pb_c.specs.Reporting.{Tells}
-use Rattle.pb_c.specs.declared.reporting.FaultReport.{FaultReport}
-use Rattle.pb_c.specs.declared.reporting.Step.{Step}
+use Rattle.pb_c_reports.specs.Reporting.{Tells}
+use Rattle.pb_c_reports.proofs.StepBounds.{of_path, of_message}
+use Rattle.pb_c_reports.specs.declared.reporting.FaultReport.{FaultReport}
+use Rattle.pb_c_reports.specs.declared.reporting.Step.{Step}
 use Rattle.pb_c.proofs.AnswerNumbers.{decl_from, link_from}
-
--- the steps that are reported are those of the fault's path
-of_path : {f : Fault} {report : FaultReport} {old new : List Step} {most : ℕ} → length f.path ≤ most → Tells f report old new → report.steps ≤ most
-of_path few tells = let is = ap (λ (r : FaultReport). r.steps) tells.told in omega (arith, is, few)
 
 -- of records
 pub of_records :
     {limits : Bounds} {b : List ℕ} {f : Fault} {report : FaultReport} {old new : List Step}
     → HasFault blank tt limits b f → Tells f report old new → report.steps ≤ limits.depth + 1
 of_records is tells = of_path (text_path _ (λ p g inner. leveled (λ c k d same. cc) inner) is) tells
-
--- of a message of a pool
-pub of_message :
-    {limits : Bounds} {b : List ℕ} {f : Fault} {report : FaultReport} {old new : List Step} (pool : Types) (m : ℕ)
-    → IsFaultOf pool m limits b f → Tells f report old new → report.steps ≤ 2 * limits.depth + 1
-of_message pool m is tells = of_path (text_path _ (λ p g inner. (bounded (nests_once pool) inner).plainly (message_uses_levels pool m)) is) tells
 
 no_steps : {f : Fault} {byte : ℕ} {c : Cause} {most : ℕ} → f ≡ fault byte [] c → length f.path ≤ most
 no_steps is = let none = ap (λ (g : Fault). length g.path) is in omega (arith, none)

@@ -13,30 +13,9 @@ use Rattle.pb_rules.specs.CauseName.{cause_number as link_number, cause_name as 
 use Rattle.pb_rules.specs.declared.cause.LinkCause.{LinkCause}
 use Rattle.pb_json.specs.CauseName.{name_of as json_name}
 use Rattle.pb_json.specs.declared.error.JsonCause.{JsonCause}
-use Rattle.pb_json.specs.declared.error.JsonCause.TheVariants.{NoKind, NotFinite, OutOfRange, BadPath, Unsupported}
 use Rattle.pb_json_read.specs.Faults.{name_of as read_name}
 use Rattle.pb_json_read.specs.declared.error.JsonReadCause.{JsonReadCause}
-use Rattle.pb_json_read.specs.declared.error.JsonReadCause.TheVariants as read
-
-abbrev pub json_number : JsonCause → ℕ
-json_number NoKind = 91
-json_number NotFinite = 92
-json_number OutOfRange = 93
-json_number BadPath = 94
-json_number Unsupported = 95
-
--- why a JSON text is not read as a message
-abbrev pub read_number : JsonReadCause → ℕ
-read_number read.UnexpectedByte = 101
-read_number read.UnexpectedEnd = 102
-read_number read.BadUtf8 = 103
-read_number read.TooDeep = 104
-read_number read.UnknownName = 105
-read_number read.RepeatedName = 106
-read_number read.SecondMember = 107
-read_number read.BadKey = 108
-read_number read.BadValue = 109
-read_number read.OutOfMemory = 110
+use Rattle.pb_c_json.specs.Numbers.{json_number, read_number}
 
 -- A cause that has this number has this name.
 pub data Names (n : ℕ) (s : List ℕ) : Type 0 where

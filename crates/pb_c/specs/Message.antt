@@ -4,5 +4,3 @@ pub mod Places
 pub mod Changes
 pub mod Pairs
 pub mod Listed
-pub mod JsonAnswers
-pub mod JsonRead

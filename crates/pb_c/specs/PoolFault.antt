@@ -12,9 +12,9 @@ use Rattle.pb_rules.specs.declared.error.LinkError.TheVariants as link
 use Rattle.pb_tokens.specs.CauseName.{number_of as source_number}
 use Rattle.pb_tokens.specs.declared.fault.SourceCause.{SourceCause}
 use Rattle.pb_c.specs.declared.pool.refusal.Refusal.{Refusal}
-use Rattle.pb_c.specs.declared.reporting.FaultReport.{FaultReport}
-use Rattle.pb_c.specs.declared.reporting.Step.{Step}
-use Rattle.pb_c.specs.Reporting.{Tells, laid_over}
+use Rattle.pb_c_reports.specs.declared.reporting.FaultReport.{FaultReport}
+use Rattle.pb_c_reports.specs.declared.reporting.Step.{Step}
+use Rattle.pb_c_reports.specs.Reporting.{Tells, laid_over}
 
 -- The bytes of a set are no set; a file of it, by its index, is not read; a source, by its index, is none, at a byte; or the files do not link:
 -- the name of the file, the full name of the declaration, and the cause.

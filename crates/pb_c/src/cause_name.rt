@@ -13,11 +13,11 @@ ghost use Rattle.pb_descr.specs.declared.cause.DeclCause.{DeclCause};
 ghost use Rattle.pb_rules.specs.declared.cause.LinkCause.{LinkCause};
 ghost use Rattle.pb_json.specs.declared.error.JsonCause.{JsonCause};
 ghost use Rattle.pb_json_read.specs.declared.error.JsonReadCause.{JsonReadCause};
-ghost use Rattle.pb_c.specs.CauseNames.{Names, json_number, read_number};
-ghost use Rattle.pb_c.specs.Reporting.{IsLaid};
+ghost use Rattle.pb_c_json.specs.Numbers.{json_number, read_number};
+ghost use Rattle.pb_c.specs.CauseNames.{Names};
+ghost use Rattle.pb_c_reports.specs.Reporting.{IsLaid};
 
-use crate::reporting::{ABSENT, DONE};
-use crate::typed::{TOO_LARGE, write_out};
+use pb_c_reports::{ABSENT, DONE, TOO_LARGE, write_out};
 use pb_descr::DeclCause;
 use pb_json::JsonCause;
 use pb_json_read::JsonReadCause;

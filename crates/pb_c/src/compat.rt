@@ -6,14 +6,13 @@ ghost use Rattle.pb_compat.specs.Pairs.{IsComparison};
 ghost use Rattle.pb_compat.specs.declared.difference.ComparedTypes.{ComparedTypes as Compared};
 ghost use Rattle.pb_c.specs.Compared.{IsReported, difference_row, rows_of, severity_number};
 ghost use Rattle.pb_c.specs.Held.{types_held};
-ghost use Rattle.pb_c.specs.Reporting.{laid_over};
-ghost use Rattle.pb_c.specs.Typed.{HasType, LacksType};
+ghost use Rattle.pb_c_reports.specs.Reporting.{laid_over};
+ghost use Rattle.pb_c_reports.specs.Typed.{HasType, LacksType};
 
 pub(crate) mod witness;
 
 use crate::handle::{PoolHandle, put, take};
-use crate::reporting::{DONE, EMPTY, MEMORY, NO_TYPE};
-use crate::typed::type_numbered;
+use pb_c_reports::{DONE, EMPTY, MEMORY, NO_TYPE, type_numbered};
 use pb_compat::{ComparedTypes, Difference, Severity, compare};
 use pb_schema::Pool;
 use std::alloc::{AllocError, Global};

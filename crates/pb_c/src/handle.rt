@@ -2,13 +2,12 @@
 
 ghost use Rattle.std.specs.Prelude.{◌≡◌, is_some, Option, option_map};
 
-pub(crate) mod parts;
 pub(crate) mod seal;
 pub(crate) mod shared;
 
-use self::parts::Parts;
 use self::seal::Seal;
 use self::shared::Shared;
+use pb_c_boxes::Parts;
 use std::alloc::Global;
 use std::mem;
 use std::ptr::null_mut;

@@ -3,20 +3,27 @@
 
 mod cause_name;
 mod compat;
+mod decoder;
 mod handle;
+mod interface;
 mod message;
 mod pool;
 mod raw;
-mod reporting;
 mod schema;
 mod typed;
 
 pub use cause_name::mb_cause_name;
 pub use compat::witness::mb_compat_witness;
 pub use compat::{DifferenceReport, mb_compat};
+pub use decoder::feed::mb_decoder_feed;
+pub use decoder::finish::mb_decoder_finish;
+pub use decoder::free::mb_decoder_free;
+pub use decoder::make::mb_decoder_new;
+pub use decoder::pending::mb_decoder_pending;
 pub use handle::PoolHandle;
 pub use handle::seal::Seal;
 pub use handle::shared::Shared;
+pub use interface::mb_interface;
 pub use message::change::{
     mb_message_clear, mb_message_drop_unknown, mb_message_insert, mb_message_push,
     mb_message_remove, mb_message_set,
@@ -53,7 +60,6 @@ pub use pool::share::mb_pool_share;
 pub use pool::type_number::mb_pool_type;
 pub use raw::check::mb_raw_check;
 pub use raw::short::mb_raw_short;
-pub use reporting::{FaultReport, Step, mb_interface};
 pub use schema::counts::{PoolCounts, mb_pool_counts};
 pub use schema::enum_type::{EnumReport, mb_pool_enum, mb_pool_enum_value};
 pub use schema::file::{FileReport, mb_pool_file};
@@ -62,5 +68,6 @@ pub use typed::canon::mb_canon;
 pub use typed::check::mb_check;
 pub use typed::find::mb_find;
 pub use typed::frames::{FrameReport, mb_frames};
+pub use typed::from_json::mb_from_json;
 pub use typed::show::mb_show;
 pub use typed::show_decimal::mb_show_decimal;

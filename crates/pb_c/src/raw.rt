@@ -2,12 +2,12 @@
 
 ghost use Rattle.std.specs.Prelude.{◌≡◌};
 ghost use Rattle.pb_wire.specs.Reading.{IfRawFault};
-ghost use Rattle.pb_c.specs.Reporting.{Tells};
+ghost use Rattle.pb_c_reports.specs.Reporting.{Tells};
 
 pub(crate) mod check;
 pub(crate) mod short;
 
-use crate::reporting::{FAULT, FaultReport, MEMORY, Step, tell_fault};
+use pb_c_reports::{FAULT, FaultReport, MEMORY, Step, tell_fault};
 use pb_wire::RawError;
 
 /// Reports why bytes are no records, and answers the error's number.

@@ -3,7 +3,7 @@ use Rattle.std.specs.Prelude.{◌≡◌, ℕ, List, Option, Some}
 use Rattle.pb_value.specs.Dynamic.{Dynamic}
 use Rattle.pb_listing.specs.ListingAs.{IsListing}
 use Rattle.pb_listing.specs.declared.form.FloatForm.TheVariants.{Decimal}
-use Rattle.pb_c.specs.Reporting.{IsLaid}
+use Rattle.pb_c_reports.specs.Reporting.{IsLaid}
 
 -- a listing of the message is laid over the buffer
 abbrev pub IsListedDecimal : Dynamic → List ℕ → List ℕ → ℕ → Type 0

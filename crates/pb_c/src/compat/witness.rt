@@ -5,14 +5,13 @@ ghost use Rattle.pb_schema.specs.Types.{Types};
 ghost use Rattle.pb_value.specs.Dynamic.{Dynamic};
 ghost use Rattle.pb_c.specs.Held.{types_held};
 ghost use Rattle.pb_c.specs.Shown.{IsPairAt, IsShown, IsUnshown};
-ghost use Rattle.pb_c.specs.Typed.{HasType, LacksType};
+ghost use Rattle.pb_c_reports.specs.Typed.{HasType, LacksType};
 
 use super::DifferenceReport;
 use crate::handle::{PoolHandle, put, take};
 use crate::message::handle::{MessageHandle, hold};
 use crate::message::own::{OwnMessage, boxed};
-use crate::reporting::{ABSENT, DONE, EMPTY, MEMORY, NO_TYPE};
-use crate::typed::type_numbered;
+use pb_c_reports::{ABSENT, DONE, EMPTY, MEMORY, NO_TYPE, type_numbered};
 use pb_compat::{ComparedTypes, compare, nested_witness};
 use pb_schema::Pool;
 use std::alloc::Global;

@@ -4,8 +4,8 @@ ghost use Rattle.std.specs.Prelude.{◌≡◌, Option};
 ghost use Rattle.pb_c.specs.declared.handle.shared.Shared.{Shared};
 ghost use Rattle.pb_c.specs.Seal.{pool_coded, seal_owns};
 
-use super::parts::Parts;
 use super::shared::Shared;
+use pb_c_boxes::Parts;
 use std::alloc::Global;
 use std::marker::Model;
 

@@ -8,9 +8,9 @@ ghost use Rattle.pb_c.specs.Message.Changes.{IsChangeAnswer, IsChanged, cause_an
 
 use super::handle::{MessageHandle, put, take};
 use super::own::OwnMessage;
-use crate::reporting::{ABSENT, BAD_PLACE, BAD_VALUE, DONE, EMPTY, MEMORY};
 use pb_c_changes::{PlainChange, Put, Unchanged, change};
 use pb_c_held::{Held, take_body};
+use pb_c_reports::{ABSENT, BAD_PLACE, BAD_VALUE, DONE, EMPTY, MEMORY};
 use pb_c_values::PlainValue;
 use pb_place::ChangeError;
 use pb_value::parts::from_well_formed;

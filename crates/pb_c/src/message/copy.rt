@@ -6,34 +6,19 @@ ghost use Rattle.pb_value.specs.Dynamic.{Dynamic};
 ghost use Rattle.pb_value.specs.Value.{value};
 ghost use Rattle.pb_canonical.specs.Canonical.{IsCanonical};
 ghost use Rattle.pb_encode.specs.Encoding.{bytes_of};
-ghost use Rattle.pb_c.specs.Typed.{message_of};
+ghost use Rattle.pb_c_reports.specs.Typed.{message_of};
 
 use super::handle::{MessageHandle, hold, put, take};
 use super::own::{OwnMessage, boxed, bytes_boxed};
-use crate::reporting::{DONE, EMPTY, MEMORY};
-use crate::typed::TOO_LARGE;
 use pb_c_held::{Held, canonical_bytes, take_body};
+use pb_c_reports::{DONE, EMPTY, MEMORY, TOO_LARGE, canonical_of};
 use pb_decode::decode;
-use pb_encode::{EncodeError, encode};
 use pb_schema::{MessageId, Pool};
 use pb_value::DynamicMessage;
 use pb_value::parts::from_well_formed;
 use pb_wire::Limits;
 use std::alloc::Global;
 use std::sync::Arc;
-
-/// The canonical bytes of a message, or what a call answers.
-pub(super) fn canonical_of(message: &DynamicMessage<'_>) -> Result<Vec<u8>, u32>
-    ensures canonical { IfOk result (λ b. (b.items ≡ bytes_of message.now) × (length (bytes_of message.now) < 2 ^ 31)) }
-    ensures too_large { result ≡ Err TOO_LARGE → 2 ^ 31 ≤ length (bytes_of message.now) }
-    ensures answers { IfErr result (λ a. (a ≡ TOO_LARGE) ⊎ (a ≡ MEMORY)) }
-{
-    match encode(message) {
-        Ok(bytes) => Ok(bytes),
-        Err(EncodeError::TooLarge) => Err(TOO_LARGE),
-        Err(EncodeError::Memory | EncodeError::Device { written: _ }) => Err(MEMORY),
-    }
-}
 
 /// What the canonical bytes of a message decode to.
 fn decoded<'p>(message: &DynamicMessage<'p>, bytes: &[u8]) -> Result<DynamicMessage<'p>, u32>

@@ -7,16 +7,17 @@ ghost use Rattle.pb_value.specs.Data.{Message};
 ghost use Rattle.pb_value.specs.Derives.{Text};
 ghost use Rattle.pb_decode.specs.Push.{IsFaultOf};
 ghost use Rattle.pb_c.specs.Held.{types_held};
-ghost use Rattle.pb_c.specs.Reporting.{AreLimits, Tells, bounds};
-ghost use Rattle.pb_c.specs.Typed.{HasType, LacksType, message_of};
+ghost use Rattle.pb_c_reports.specs.Reporting.{AreLimits, Tells, bounds};
+ghost use Rattle.pb_c_reports.specs.Typed.{HasType, LacksType, message_of};
 
 use super::copy::bytes_copied;
 use super::handle::{MessageHandle, hold};
 use super::own::{OwnMessage, boxed};
 use crate::handle::{PoolHandle, put, take};
-use crate::reporting::{BAD_LIMITS, DONE, EMPTY, FAULT, FaultReport, MEMORY, NO_TYPE, Step};
 use crate::typed::canonical::is_known_canonical;
-use crate::typed::read_message;
+use pb_c_reports::{
+    BAD_LIMITS, DONE, EMPTY, FAULT, FaultReport, MEMORY, NO_TYPE, Step, read_message,
+};
 use pb_schema::{MessageId, Pool};
 use pb_wire::Limits;
 use std::alloc::Global;

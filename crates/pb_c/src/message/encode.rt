@@ -4,14 +4,13 @@ ghost use Rattle.std.specs.Prelude.{◌≡◌, ◌≢◌, ◌<◌, ◌≤◌, �
 ghost use Rattle.pb_value.specs.Dynamic.{Dynamic};
 ghost use Rattle.pb_encode.specs.Encoding.{bytes_of};
 ghost use Rattle.pb_encode.specs.Sizes.{capped};
-ghost use Rattle.pb_c.specs.Reporting.{IsLaid};
+ghost use Rattle.pb_c_reports.specs.Reporting.{IsLaid};
 
 use super::handle::{MessageHandle, put, take};
 use super::own::OwnMessage;
-use crate::reporting::{DONE, EMPTY, MEMORY};
 use crate::typed::canon::write_canonical;
-use crate::typed::{TOO_LARGE, write_out};
 use pb_c_held::{Held, canonical_bytes, take_body};
+use pb_c_reports::{DONE, EMPTY, MEMORY, TOO_LARGE, write_out};
 use pb_encode::encoded_len;
 use pb_value::parts::{empty_body, from_well_formed};
 use pb_wire::MAX_BYTES;

@@ -6,12 +6,10 @@ ghost use Rattle.pb_encode.specs.Encoding.{bytes_of};
 ghost use Rattle.pb_c_values.specs.Plain.{bit};
 ghost use Rattle.pb_c.specs.Message.Pairs.{IsTooLargeIn, Marks};
 
-use super::copy::canonical_of;
 use super::handle::{MessageHandle, put, take};
 use super::own::OwnMessage;
-use crate::reporting::{DONE, EMPTY, MEMORY};
-use crate::typed::TOO_LARGE;
 use pb_c_held::{Held, take_body};
+use pb_c_reports::{DONE, EMPTY, MEMORY, TOO_LARGE, canonical_of};
 use pb_encode::encoded_len;
 use pb_value::DynamicMessage;
 use pb_value::parts::from_well_formed;

@@ -4,14 +4,12 @@ ghost use Rattle.std.specs.Prelude.{◌≡◌, ◌≢◌, ◌<◌, ◌≤◌, �
 ghost use Rattle.pb_value.specs.Dynamic.{Dynamic};
 ghost use Rattle.pb_encode.specs.Encoding.{bytes_of};
 ghost use Rattle.pb_stream.specs.Writing.{frame_of};
-ghost use Rattle.pb_c.specs.Reporting.{IsLaid};
+ghost use Rattle.pb_c_reports.specs.Reporting.{IsLaid};
 
-use super::copy::canonical_of;
 use super::handle::{MessageHandle, put, take};
 use super::own::OwnMessage;
-use crate::reporting::{DONE, EMPTY, MEMORY};
-use crate::typed::{TOO_LARGE, write_out};
 use pb_c_held::{Held, canonical_bytes, take_body};
+use pb_c_reports::{DONE, EMPTY, MEMORY, TOO_LARGE, canonical_of, write_out};
 use pb_value::DynamicMessage;
 use pb_value::parts::from_well_formed;
 use pb_wire::put_varint;

@@ -4,7 +4,7 @@ ghost use Rattle.std.specs.Prelude.{◌≡◌, is_some, Option, option_map};
 
 use super::own::OwnMessage;
 use super::seal::MessageSeal;
-use crate::handle::parts::Parts;
+use pb_c_boxes::Parts;
 use std::alloc::Global;
 use std::mem;
 use std::ptr::null_mut;

@@ -4,13 +4,12 @@ ghost use Rattle.std.specs.Prelude.{◌≡◌, ◌≢◌, ◌≤◌, ◌↔◌, 
 ghost use Rattle.pb_schema.specs.Types.{Types};
 ghost use Rattle.pb_value.specs.Data.{empty};
 ghost use Rattle.pb_c.specs.Held.{types_held};
-ghost use Rattle.pb_c.specs.Typed.{HasType, LacksType, message_of};
+ghost use Rattle.pb_c_reports.specs.Typed.{HasType, LacksType, message_of};
 
 use super::handle::{MessageHandle, hold};
 use super::own::{OwnMessage, boxed};
 use crate::handle::{PoolHandle, put, take};
-use crate::reporting::{DONE, EMPTY, MEMORY, NO_TYPE};
-use crate::typed::type_numbered;
+use pb_c_reports::{DONE, EMPTY, MEMORY, NO_TYPE, type_numbered};
 use pb_schema::Pool;
 use pb_value::DynamicMessage;
 use std::alloc::Global;

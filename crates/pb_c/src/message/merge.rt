@@ -7,14 +7,15 @@ ghost use Rattle.pb_value.specs.Dynamic.{Dynamic};
 ghost use Rattle.pb_decode.specs.Onto.{TextOnto};
 ghost use Rattle.pb_encode.specs.Encoding.{bytes_of};
 ghost use Rattle.pb_c.specs.Message.Pairs.{IsFaultOn, IsOnto, IsTooLargeIn};
-ghost use Rattle.pb_c.specs.Reporting.{AreLimits, Tells, bounds};
+ghost use Rattle.pb_c_reports.specs.Reporting.{AreLimits, Tells, bounds};
 
 use super::copy::copy_of;
 use super::handle::{MessageHandle, put, take};
 use super::own::OwnMessage;
-use crate::reporting::{BAD_LIMITS, DONE, EMPTY, FAULT, FaultReport, MEMORY, Step};
-use crate::typed::{TOO_LARGE, tell_error};
 use pb_c_held::{Held, take_body};
+use pb_c_reports::{
+    BAD_LIMITS, DONE, EMPTY, FAULT, FaultReport, MEMORY, Step, TOO_LARGE, tell_error,
+};
 use pb_decode::decode_onto;
 use pb_value::DynamicMessage;
 use pb_value::parts::from_well_formed;

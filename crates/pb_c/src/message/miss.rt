@@ -3,7 +3,7 @@
 ghost use Rattle.std.specs.Prelude.{◌≡◌};
 ghost use Rattle.pb_c.specs.Message.Places.{miss_number};
 
-use crate::reporting::{ABSENT, BAD_PLACE, MEMORY};
+use pb_c_reports::{ABSENT, BAD_PLACE, MEMORY};
 use pb_c_values::Miss;
 
 /// The number of a miss.

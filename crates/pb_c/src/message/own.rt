@@ -4,7 +4,7 @@ ghost use Rattle.std.specs.Prelude.{◌≡◌, ◌<◌, length, IfOk};
 ghost use Rattle.pb_wire.specs.Inside.{records_spelled};
 ghost use Rattle.pb_value.specs.Value.{value};
 ghost use Rattle.pb_canonical.specs.Canonical.{IsCanonical};
-ghost use Rattle.pb_c.specs.Typed.{message_of};
+ghost use Rattle.pb_c_reports.specs.Typed.{message_of};
 
 use pb_c_held::{Held, bytes_to_hold};
 use pb_schema::{MessageId, Pool};

@@ -3,15 +3,14 @@
 ghost use Rattle.std.specs.Prelude.{◌≡◌, ◌≢◌, ◌↔◌, ◌⊎◌, ℕ, List, None, Some, true, false};
 ghost use Rattle.pb_c_values.specs.Answers.{Answers, bytes_in};
 ghost use Rattle.pb_c_values.specs.Places.{Bytes};
-ghost use Rattle.pb_c.specs.Reporting.{IsLaid};
+ghost use Rattle.pb_c_reports.specs.Reporting.{IsLaid};
 ghost use Rattle.pb_c.specs.Message.Places.{IsAnswered};
 
 use super::handle::{MessageHandle, put, take};
 use super::miss::miss_number;
 use super::own::{OwnMessage, may_look};
-use crate::reporting::{ABSENT, BAD_PLACE, DONE, EMPTY, MEMORY};
-use crate::typed::write_out;
 use pb_c_held::{Held, bytes_held, take_body};
+use pb_c_reports::{ABSENT, BAD_PLACE, DONE, EMPTY, MEMORY, write_out};
 use pb_c_values::{PlainValue, bytes_at};
 use pb_value::DynamicMessage;
 use pb_value::parts::from_well_formed;

@@ -5,7 +5,7 @@ ghost use Rattle.pb_value.specs.Dynamic.{Dynamic};
 ghost use Rattle.pb_c.specs.Message.Seal.{message_coded, seal_owns};
 
 use super::own::OwnMessage;
-use crate::handle::parts::Parts;
+use pb_c_boxes::Parts;
 use std::alloc::Global;
 use std::marker::Model;
 

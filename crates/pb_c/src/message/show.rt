@@ -3,13 +3,13 @@
 ghost use Rattle.std.specs.Prelude.{◌≡◌, ◌≢◌, ◌↔◌, ◌⊎◌, None, Some};
 ghost use Rattle.pb_value.specs.Dynamic.{Dynamic};
 ghost use Rattle.pb_listing.specs.Listing.{listing};
-ghost use Rattle.pb_c.specs.Reporting.{IsLaid};
+ghost use Rattle.pb_c_reports.specs.Reporting.{IsLaid};
 
 use super::handle::{MessageHandle, put, take};
 use super::own::OwnMessage;
-use crate::reporting::{DONE, EMPTY, MEMORY};
 use crate::typed::show::write_listing;
 use pb_c_held::{Held, take_body};
+use pb_c_reports::{DONE, EMPTY, MEMORY};
 use pb_value::parts::from_well_formed;
 use std::alloc::Global;
 

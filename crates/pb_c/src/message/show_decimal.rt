@@ -5,9 +5,8 @@ ghost use Rattle.pb_c.specs.Message.Listed.{IsListed, IsListedDecimal};
 
 use super::handle::{MessageHandle, put, take};
 use super::own::OwnMessage;
-use crate::reporting::{DONE, EMPTY, MEMORY};
-use crate::typed::write_out;
 use pb_c_held::{Held, take_body};
+use pb_c_reports::{DONE, EMPTY, MEMORY, write_out};
 use pb_listing::{FloatForm, write_message_as};
 use pb_value::DynamicMessage;
 use pb_value::parts::from_well_formed;

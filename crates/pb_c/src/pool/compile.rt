@@ -14,7 +14,7 @@ ghost use Rattle.pb_c.specs.SourcePool.{AreNames, AreNamed, AreRead, AreSources,
 use super::linking::link_files;
 use super::refusal::Refusal;
 use crate::handle::{PoolHandle, take};
-use crate::reporting::{BAD_NAME, DONE, MEMORY};
+use pb_c_reports::{BAD_NAME, DONE, MEMORY};
 use pb_decl::FileDecl;
 use pb_link::without_enum_maps;
 use pb_source::reading::Reading;

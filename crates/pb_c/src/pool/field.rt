@@ -6,11 +6,10 @@ ghost use Rattle.pb_schema.specs.Types.{FieldView, Types, message_fields};
 ghost use Rattle.pb_schema.specs.View.{field_view};
 ghost use Rattle.pb_c.specs.Field.{field_report, key_number, kind_number, shape_number, type_number};
 ghost use Rattle.pb_c.specs.Held.{types_held};
-ghost use Rattle.pb_c.specs.Typed.{HasType, LacksType};
+ghost use Rattle.pb_c_reports.specs.Typed.{HasType, LacksType};
 
 use crate::handle::{PoolHandle, put, take};
-use crate::reporting::{ABSENT, DONE, EMPTY, NO_TYPE};
-use crate::typed::type_numbered;
+use pb_c_reports::{ABSENT, DONE, EMPTY, NO_TYPE, type_numbered};
 use pb_schema::{Field, Kind, Pool, Shape};
 use std::alloc::Global;
 

@@ -9,7 +9,7 @@ ghost use Rattle.pb_c.specs.SetPool.{LeavesOut, LenientSetFails, LenientSetMakes
 use super::linking::link_files;
 use super::refusal::{Refusal, tell_set};
 use crate::handle::{PoolHandle, take};
-use crate::reporting::{DONE, FAULT, FaultReport, MEMORY, Step};
+use pb_c_reports::{DONE, FAULT, FaultReport, MEMORY, Step};
 use pb_descr::read_set_lenient;
 use std::alloc::Global;
 

@@ -12,7 +12,7 @@ ghost use Rattle.pb_c.specs.PoolFault.{PoolFault, TellsRefusal};
 use super::refusal::{Refusal, tell_link};
 use crate::handle::shared::Shared;
 use crate::handle::{PoolHandle, put};
-use crate::reporting::{DONE, MEMORY};
+use pb_c_reports::{DONE, MEMORY};
 use pb_decl::FileDecl;
 use pb_link::link;
 use pb_schema::Pool;

@@ -2,9 +2,9 @@
 
 ghost use Rattle.std.specs.Prelude.{◌≡◌, ◌++◌, ℕ, List, IfSome};
 ghost use Rattle.pb_c.specs.PoolFault.{TellsBytes, TellsRefusal, link_fault, set_fault};
-ghost use Rattle.pb_c.specs.Reporting.{laid_over};
+ghost use Rattle.pb_c_reports.specs.Reporting.{laid_over};
 
-use crate::reporting::{FaultReport, MEMORY, Step, lay_over, tell_fault};
+use pb_c_reports::{FaultReport, MEMORY, Step, lay_over, tell_fault};
 use pb_descr::DescrError;
 use pb_link::LinkError;
 

@@ -8,11 +8,10 @@ ghost use Rattle.pb_descr.specs.Writing.{set_body};
 ghost use Rattle.pb_link.specs.ToDecls.{decls_of};
 ghost use Rattle.pb_c.specs.Held.{types_held};
 ghost use Rattle.pb_c.specs.SetPool.{IsSetOfPool};
-ghost use Rattle.pb_c.specs.Reporting.{IsLaid};
+ghost use Rattle.pb_c_reports.specs.Reporting.{IsLaid};
 
 use crate::handle::{PoolHandle, put, take};
-use crate::reporting::{DONE, EMPTY, MEMORY, TOO_DEEP};
-use crate::typed::{TOO_LARGE, write_out};
+use pb_c_reports::{DONE, EMPTY, MEMORY, TOO_DEEP, TOO_LARGE, write_out};
 use pb_descr::{WriteSetError, write_set};
 use pb_link::to_decls;
 use pb_schema::Pool;

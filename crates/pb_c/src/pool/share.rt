@@ -5,7 +5,7 @@ ghost use Rattle.pb_c.specs.Held.{types_held};
 
 use crate::handle::shared::Shared;
 use crate::handle::{PoolHandle, put, take};
-use crate::reporting::{DONE, EMPTY, MEMORY};
+use pb_c_reports::{DONE, EMPTY, MEMORY};
 use std::alloc::{AllocError, Global};
 use std::sync::Arc;
 

@@ -5,7 +5,7 @@ ghost use Rattle.pb_schema.specs.Types.{Types};
 ghost use Rattle.pb_c.specs.Held.{HasNumber, types_held};
 
 use crate::handle::{PoolHandle, put, take};
-use crate::reporting::{DONE, EMPTY, NO_TYPE};
+use pb_c_reports::{DONE, EMPTY, NO_TYPE};
 use pb_schema::Pool;
 use std::alloc::Global;
 

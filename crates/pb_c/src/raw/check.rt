@@ -5,10 +5,10 @@ ghost use Rattle.pb_wire.specs.Exact.{IsSomeText};
 ghost use Rattle.pb_wire.specs.Fault.{Fault};
 ghost use Rattle.pb_wire.specs.Grammar.{HasFault};
 ghost use Rattle.pb_wire.specs.Schema.{blank};
-ghost use Rattle.pb_c.specs.Reporting.{AreLimits, Tells, bounds};
+ghost use Rattle.pb_c_reports.specs.Reporting.{AreLimits, Tells, bounds};
 
 use super::tell_raw;
-use crate::reporting::{BAD_LIMITS, DONE, FAULT, FaultReport, MEMORY, Step};
+use pb_c_reports::{BAD_LIMITS, DONE, FAULT, FaultReport, MEMORY, Step};
 use pb_wire::{Limits, judge_raw};
 use std::alloc::Global;
 

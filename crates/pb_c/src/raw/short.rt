@@ -6,10 +6,10 @@ ghost use Rattle.pb_wire.specs.Grammar.{IsText, HasFault};
 ghost use Rattle.pb_wire.specs.Record.{Record};
 ghost use Rattle.pb_wire.specs.Schema.{blank};
 ghost use Rattle.pb_wire.specs.Spell.{shortest_records};
-ghost use Rattle.pb_c.specs.Reporting.{AreLimits, IsLaid, Tells, bounds};
+ghost use Rattle.pb_c_reports.specs.Reporting.{AreLimits, IsLaid, Tells, bounds};
 
 use super::tell_raw;
-use crate::reporting::{BAD_LIMITS, DONE, FAULT, FaultReport, MEMORY, Step, lay_over};
+use pb_c_reports::{BAD_LIMITS, DONE, FAULT, FaultReport, MEMORY, Step, lay_over};
 use pb_wire::{Limits, read_raw, write_raw};
 use std::alloc::Global;
 

@@ -6,7 +6,7 @@ ghost use Rattle.pb_c.specs.Held.{types_held};
 ghost use Rattle.pb_c.specs.PoolParts.{pool_counts};
 
 use crate::handle::{PoolHandle, put, take};
-use crate::reporting::{DONE, EMPTY};
+use pb_c_reports::{DONE, EMPTY};
 use pb_schema::Pool;
 use std::alloc::Global;
 

@@ -7,8 +7,7 @@ ghost use Rattle.pb_c.specs.Held.{types_held};
 ghost use Rattle.pb_c.specs.PoolParts.{IsEnumAt, IsValueAt, enum_report, value_at};
 
 use crate::handle::{PoolHandle, put, take};
-use crate::reporting::{ABSENT, DONE, EMPTY, NO_TYPE};
-use crate::typed::write_out;
+use pb_c_reports::{ABSENT, DONE, EMPTY, NO_TYPE, write_out};
 use pb_schema::{EnumId, EnumType, Pool};
 use std::alloc::Global;
 

@@ -8,7 +8,7 @@ ghost use Rattle.pb_c.specs.PoolParts.{IsFileAt, file_report};
 
 use crate::handle::{PoolHandle, put, take};
 use crate::pool::refusal::lay_both;
-use crate::reporting::{ABSENT, DONE, EMPTY};
+use pb_c_reports::{ABSENT, DONE, EMPTY};
 use pb_schema::{FileInfo, Pool};
 use std::alloc::Global;
 

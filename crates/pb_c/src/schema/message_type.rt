@@ -5,12 +5,11 @@ ghost use Rattle.pb_schema.specs.Types.{Types};
 ghost use Rattle.pb_schema.specs.View.{field_view, message_view};
 ghost use Rattle.pb_c.specs.Held.{types_held};
 ghost use Rattle.pb_c.specs.PoolParts.{IsFieldAt, IsOneofAt, IsTypeAt, field_at, oneof_at, shape_detail, type_report};
-ghost use Rattle.pb_c.specs.Typed.{HasType, LacksType};
+ghost use Rattle.pb_c_reports.specs.Typed.{HasType, LacksType};
 
 use crate::handle::{PoolHandle, put, take};
 use crate::pool::field::{FieldReport, report_field};
-use crate::reporting::{ABSENT, DONE, EMPTY, NO_TYPE};
-use crate::typed::{type_numbered, write_out};
+use pb_c_reports::{ABSENT, DONE, EMPTY, NO_TYPE, type_numbered, write_out};
 use pb_schema::{Field, MessageType, Pool, Shape};
 use std::alloc::Global;
 

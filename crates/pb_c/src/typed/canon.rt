@@ -10,13 +10,15 @@ ghost use Rattle.pb_canonical.specs.Canonical.{IsCanonical};
 ghost use Rattle.pb_encode.specs.Encoding.{bytes_of};
 ghost use Rattle.pb_decode.specs.Push.{IsFaultOf};
 ghost use Rattle.pb_c.specs.Held.{types_held};
-ghost use Rattle.pb_c.specs.Reporting.{AreLimits, IsLaid, Tells, bounds};
-ghost use Rattle.pb_c.specs.Typed.{HasType, LacksType};
+ghost use Rattle.pb_c_reports.specs.Reporting.{AreLimits, IsLaid, Tells, bounds};
+ghost use Rattle.pb_c_reports.specs.Typed.{HasType, LacksType};
 
 use crate::handle::{PoolHandle, put, take};
-use crate::reporting::{BAD_LIMITS, DONE, EMPTY, FAULT, FaultReport, MEMORY, NO_TYPE, Step};
 use crate::typed::canonical::is_known_canonical;
-use crate::typed::{TOO_LARGE, read_message, write_out};
+use pb_c_reports::{
+    BAD_LIMITS, DONE, EMPTY, FAULT, FaultReport, MEMORY, NO_TYPE, Step, TOO_LARGE, read_message,
+    write_out,
+};
 use pb_encode::{EncodeError, encode};
 use pb_schema::Pool;
 use pb_value::DynamicMessage;

@@ -9,7 +9,7 @@ ghost use Rattle.pb_value.specs.Derives.{Text};
 ghost use Rattle.pb_canonical.specs.Canonical.{IsCanonical};
 ghost use Rattle.pb_decode.specs.Push.{IsFaultOf};
 
-use crate::typed::type_numbered;
+use pb_c_reports::type_numbered;
 use pb_canonical::is_canonical;
 use pb_decode::validate;
 use pb_schema::{MessageId, Pool};

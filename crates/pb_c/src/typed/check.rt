@@ -7,12 +7,13 @@ ghost use Rattle.pb_value.specs.Data.{Message};
 ghost use Rattle.pb_value.specs.Derives.{Text};
 ghost use Rattle.pb_decode.specs.Push.{IsFaultOf};
 ghost use Rattle.pb_c.specs.Held.{types_held};
-ghost use Rattle.pb_c.specs.Reporting.{AreLimits, Tells, bounds};
-ghost use Rattle.pb_c.specs.Typed.{HasType, LacksType};
+ghost use Rattle.pb_c_reports.specs.Reporting.{AreLimits, Tells, bounds};
+ghost use Rattle.pb_c_reports.specs.Typed.{HasType, LacksType};
 
 use crate::handle::{PoolHandle, put, take};
-use crate::reporting::{BAD_LIMITS, DONE, EMPTY, FAULT, FaultReport, MEMORY, NO_TYPE, Step};
-use crate::typed::{tell_error, type_numbered};
+use pb_c_reports::{
+    BAD_LIMITS, DONE, EMPTY, FAULT, FaultReport, MEMORY, NO_TYPE, Step, tell_error, type_numbered,
+};
 use pb_decode::validate;
 use pb_schema::Pool;
 use pb_wire::Limits;

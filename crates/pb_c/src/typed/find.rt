@@ -10,16 +10,16 @@ ghost use Rattle.pb_decode.specs.Push.{IsFaultOf};
 ghost use Rattle.pb_find.specs.ScalarAt.{IsFound, scalar_at};
 ghost use Rattle.pb_find.specs.View.{scalar_view};
 ghost use Rattle.pb_c.specs.Held.{types_held};
-ghost use Rattle.pb_c.specs.Reporting.{AreLimits, Tells, bounds};
-ghost use Rattle.pb_c.specs.Typed.{HasType, LacksType, message_of};
+ghost use Rattle.pb_c_reports.specs.Reporting.{AreLimits, Tells, bounds};
+ghost use Rattle.pb_c_reports.specs.Typed.{HasType, LacksType, message_of};
 ghost use Rattle.pb_c.specs.Typed.Found.{Reports, TellsFound};
 
 use crate::handle::{PoolHandle, put, take};
-use crate::reporting::{
-    ABSENT, BAD_LIMITS, DONE, EMPTY, FAULT, FaultReport, MEMORY, NO_TYPE, Step, lay_over,
-};
-use crate::typed::{tell_error, type_numbered};
 use pb_c_held::{scalar_bytes, scalar_value};
+use pb_c_reports::{
+    ABSENT, BAD_LIMITS, DONE, EMPTY, FAULT, FaultReport, MEMORY, NO_TYPE, Step, lay_over,
+    tell_error, type_numbered,
+};
 use pb_c_values::PlainValue;
 use pb_decode::DecodeError;
 use pb_find::{ScalarRef, find};

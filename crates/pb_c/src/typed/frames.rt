@@ -4,13 +4,15 @@ ghost use Rattle.std.specs.Prelude.{◌≡◌, ◌≢◌, ◌+◌, ◌*◌, ◌<
 ghost use Rattle.pb_wire.specs.Fault.{Fault};
 ghost use Rattle.pb_schema.specs.Types.{Types};
 ghost use Rattle.pb_c.specs.Held.{types_held};
-ghost use Rattle.pb_c.specs.Reporting.{AreLimits, Tells, bounds};
-ghost use Rattle.pb_c.specs.Typed.{ByFault, HasType, LacksType};
+ghost use Rattle.pb_c_reports.specs.Reporting.{AreLimits, Tells, bounds};
+ghost use Rattle.pb_c_reports.specs.Typed.{ByFault, HasType, LacksType};
 ghost use Rattle.pb_c.specs.Typed.Frames.{AnswersFault, IsFramed, IsNoFrame, IsPart, IsSpan};
 
 use crate::handle::{PoolHandle, put, take};
-use crate::reporting::{BAD_LIMITS, DONE, EMPTY, FAULT, FaultReport, MEMORY, NO_TYPE, Step};
-use crate::typed::{PART, tell_error, type_numbered};
+use pb_c_reports::{
+    BAD_LIMITS, DONE, EMPTY, FAULT, FaultReport, MEMORY, NO_TYPE, PART, Step, tell_error,
+    type_numbered,
+};
 use pb_decode::{DecodeError, validate};
 use pb_schema::{MessageId, Pool};
 use pb_stream::read_delimited;

@@ -8,12 +8,13 @@ ghost use Rattle.pb_value.specs.Derives.{Text};
 ghost use Rattle.pb_decode.specs.Push.{IsFaultOf};
 ghost use Rattle.pb_listing.specs.Listing.{listing};
 ghost use Rattle.pb_c.specs.Held.{types_held};
-ghost use Rattle.pb_c.specs.Reporting.{AreLimits, IsLaid, Tells, bounds};
-ghost use Rattle.pb_c.specs.Typed.{HasType, LacksType, message_of};
+ghost use Rattle.pb_c_reports.specs.Reporting.{AreLimits, IsLaid, Tells, bounds};
+ghost use Rattle.pb_c_reports.specs.Typed.{HasType, LacksType, message_of};
 
 use crate::handle::{PoolHandle, put, take};
-use crate::reporting::{BAD_LIMITS, DONE, EMPTY, FAULT, FaultReport, MEMORY, NO_TYPE, Step};
-use crate::typed::{read_message, write_out};
+use pb_c_reports::{
+    BAD_LIMITS, DONE, EMPTY, FAULT, FaultReport, MEMORY, NO_TYPE, Step, read_message, write_out,
+};
 use pb_listing::write_message;
 use pb_schema::Pool;
 use pb_value::DynamicMessage;

@@ -1,6 +1,6 @@
 -- What went out whole is what was listed.
 use Rattle.std.proofs.Common.{◌≡◌, List, ℕ, subst}
-use Rattle.pb_c.specs.Reporting.{IsLaid}
+use Rattle.pb_c_reports.specs.Reporting.{IsLaid}
 use Rattle.pb_c.proofs.message.show_decimal.write_decimal.Goals as goal
 
 pub returns-in-Ok-clause-written : goal.returns-in-Ok-clause-written

@@ -1,7 +1,7 @@
 -- What is reported is what was found.
 use Rattle.std.proofs.Common.{refl}
 use Rattle.pb_c_values.specs.Answers.{unknown_in}
-use Rattle.pb_c.specs.Reporting.{IsLaid}
+use Rattle.pb_c_reports.specs.Reporting.{IsLaid}
 use Rattle.pb_c.proofs.PlaceAnswers.{done, missed}
 use Rattle.pb_c.proofs.message.unknown.write_unknown.Goals as goal
 

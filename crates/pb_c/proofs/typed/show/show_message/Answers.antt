@@ -1,7 +1,7 @@
 use Rattle.std.proofs.Common.{inl, inr, subst}
 use Rattle.pb_listing.specs.Listing.{listing}
-use Rattle.pb_c.specs.Reporting.{IsLaid}
-use Rattle.pb_c.proofs.Making.{the_message}
+use Rattle.pb_c_reports.specs.Reporting.{IsLaid}
+use Rattle.pb_c_reports.proofs.Making.{the_message}
 use Rattle.pb_c.proofs.typed.show.show_message.Goals as goal
 
 pub returns-in-Ok-clause-accepted : goal.returns-in-Ok-clause-accepted

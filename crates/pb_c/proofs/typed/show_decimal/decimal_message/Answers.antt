@@ -1,6 +1,6 @@
 use Rattle.std.proofs.Common.{inl, inr, subst}
 use Rattle.pb_c.specs.Message.Listed.{IsListedDecimal}
-use Rattle.pb_c.proofs.Making.{the_message}
+use Rattle.pb_c_reports.proofs.Making.{the_message}
 use Rattle.pb_c.proofs.typed.show_decimal.decimal_message.Goals as goal
 
 pub returns-in-Ok-clause-accepted : goal.returns-in-Ok-clause-accepted
