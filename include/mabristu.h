@@ -31,7 +31,7 @@ extern "C" {
 #endif
 
 /* What this header says. A library that answers another number has other calls. */
-#define MB_INTERFACE 6
+#define MB_INTERFACE 7
 uint32_t mb_interface(void);
 
 /* What a call answers. Numbers from 50 on are the causes why a set, a source or declarations are refused, as docs/ERRORS.md lists them. */
@@ -46,8 +46,9 @@ enum {
     MB_BAD_PLACE = 7,   /* the steps say no place */
     MB_BAD_VALUE = 8,   /* the value is none: of no kind, too large for its kind, or its string is not given or not UTF-8 */
     MB_FAULT = 13,      /* the bytes have a fault, which is reported */
-    MB_MEMORY = 14,     /* memory ran out: the same call may be made again */
-    MB_TOO_LARGE = 31   /* what would be written has more than MB_MAX_BYTES bytes */
+    MB_MEMORY = 14,     /* memory ran out: the same call may be made again, but not mb_decoder_feed and mb_decoder_finish */
+    MB_TOO_LARGE = 31,  /* what would be written has more than MB_MAX_BYTES bytes */
+    MB_FINISHED = 43    /* the decoder has given its message or its fault, or lost what it had received where memory ran out */
 };
 
 /* Why bytes are refused. */
@@ -56,8 +57,8 @@ enum {
     MB_STRAY_END = 7, MB_WRONG_END = 8, MB_LENGTH_TOO_LARGE = 9, MB_BAD_TEXT = 10, MB_TOO_DEEP = 11, MB_INPUT_TOO_LARGE = 12
 };
 
-/* Writes the name of a cause by its number, as docs/ERRORS.md lists it: a cause of struct mb_fault, or an answer from 21 on. As much is written as the
- * buffer holds, and the whole length is reported. MB_ABSENT: no cause has this number. */
+/* Writes the name of a cause by its number, as docs/ERRORS.md lists it: a cause of struct mb_fault, or an answer from 21 on that is one. As much is
+ * written as the buffer holds, and the whole length is reported. MB_ABSENT: no cause has this number. */
 uint32_t mb_cause_name(uint32_t cause, uint8_t *name, size_t name_len, size_t *size);
 
 /* The greatest limits. Each call on bytes is given its own: how many bytes it takes, and how deep messages and groups may nest. */
@@ -397,6 +398,11 @@ enum {
 uint32_t mb_message_from_json(struct mb_pool *pool, uint32_t type, const uint8_t *json, size_t json_len, bool lenient, struct mb_message *message,
                               size_t *byte);
 
+/* Reads a message from JSON, as mb_message_from_json does, and writes its canonical bytes, as mb_message_encode writes them: no message stays with the
+ * library. For MB_JSON_UNEXPECTED_BYTE and the numbers after it, the byte is reported. */
+uint32_t mb_from_json(struct mb_pool *pool, uint32_t type, const uint8_t *json, size_t json_len, bool lenient,
+                      uint8_t *out, size_t out_len, size_t *size, size_t *byte);
+
 /* Reports what the message has at a place: a scalar, or the kind and the size of what else is there. A place is a list of steps from the message, which
  * is itself at the place of no steps. MB_ABSENT: a field is not set, a list is shorter, a map has no such key, or a step does not fit. A list or map
  * that is empty is not set, nor is a field without presence that has its default value. MB_BAD_PLACE: a step is of no kind above, its number is too
@@ -465,6 +471,38 @@ uint32_t mb_message_drop_unknown(struct mb_message *message, const struct mb_val
 
 /* Frees what a handle holds. One that holds nothing stays as it is. */
 void mb_message_free(struct mb_message *message);
+
+/* ---- A message that arrives in pieces ---- */
+
+/* A decoder of a message that arrives in pieces, or nothing: all zeros hold nothing. It stays on the thread that made it. */
+struct mb_decoder {
+    void *at;
+    bool full;
+};
+
+/* Makes a decoder of a message of the type, which has received no byte, in place of what its handle held. The limits are those of the whole message. It
+ * holds the pool too: the pool is freed with the last handle that holds it. Where the answer is another than MB_DONE the handle of the decoder is as it
+ * was. */
+uint32_t mb_decoder_new(struct mb_pool *pool, uint32_t type, uint32_t max_bytes, uint8_t max_depth, struct mb_decoder *decoder);
+
+/* Gives the decoder the next piece, of any length; it keeps no pointer to it. MB_DONE: all bytes received are a message, or have the fault MB_TRUNCATED.
+ * For MB_FAULT they have another one, which no further bytes change: it is reported as mb_check does, and its byte counts from the first piece on. After
+ * MB_FAULT and MB_MEMORY the decoder holds nothing of the message any more: this call and mb_decoder_finish then answer MB_FINISHED. */
+uint32_t mb_decoder_feed(struct mb_decoder *decoder, const uint8_t *piece, size_t piece_len, struct mb_fault *fault, struct mb_step *path,
+                         size_t path_len);
+
+/* Puts the message of all bytes received, as mb_message_decode decodes them, into the handle of the message, in place of what that held. For MB_FAULT the
+ * fault of these bytes is reported. Where the answer is another than MB_DONE the handle of the message is as it was. Whatever the answer, the decoder
+ * holds nothing of the message any more: this call and mb_decoder_feed then answer MB_FINISHED. */
+uint32_t mb_decoder_finish(struct mb_decoder *decoder, struct mb_message *message, struct mb_fault *fault, struct mb_step *path, size_t path_len);
+
+/* Reports how many bytes of the pieces the decoder holds as they came: those of a tag, a length or a number that is not complete, at most ten, or those of
+ * the payload of a string, of bytes or of an unknown record, at most as many as its length says. The rest is in the message under construction. 0 of a
+ * decoder that answers MB_FINISHED. */
+uint32_t mb_decoder_pending(struct mb_decoder *decoder, size_t *pending);
+
+/* Frees what a handle holds. One that holds nothing stays as it is. */
+void mb_decoder_free(struct mb_decoder *decoder);
 
 #ifdef __cplusplus
 }

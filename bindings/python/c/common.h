@@ -59,7 +59,7 @@ extern PyObject *make_fault, *make_link, *frames_class, *schema_class, *differen
 PyObject *as_bytes(const uint8_t *at, size_t len);
 PyObject *as_str(const uint8_t *at, size_t len);
 
-/* ---- Types (pool.c, schema.c, type.c, message.c) ---- */
+/* ---- Types (pool.c, schema.c, type.c, message.c, decoder.c) ---- */
 
 typedef struct {
     PyObject_HEAD
@@ -106,11 +106,12 @@ typedef struct node {
     PyObject *key_objects; /* a tuple of bytes, which the keys point to */
 } Node;
 
-extern PyObject *pool_type, *message_type_type, *field_type, *message_type, *list_type, *map_type;
+extern PyObject *pool_type, *message_type_type, *field_type, *message_type, *list_type, *map_type, *decoder_type;
 PyObject *make_pool_type(void);
 PyObject *make_message_type_type(void);
 PyObject *make_field_type(void);
 bool make_message_types(void);
+PyObject *make_decoder_type(void);
 
 /* The type of a number. Without a name, NULL, the library is asked for it. */
 MessageType *type_by_number(Pool *pool, uint32_t number, PyObject *name);
@@ -122,6 +123,13 @@ PyObject *default_of(const struct mb_field *field);
 
 /* A message of a type that holds nothing yet. */
 Node *new_message(MessageType *type);
+
+/* The number of the thread that calls; a message and a decoder stay on theirs (thread.c). */
+unsigned long long this_thread(void);
+/* Frees what this thread made and others dropped. */
+void free_dropped(void);
+/* Frees what the handles hold, or has it freed later by the thread that made it. */
+void drop_handles(unsigned long long thread, struct mb_message message, struct mb_decoder decoder);
 
 /* What a part of a pool is, and its name; NULL with an exception where there is none. */
 PyObject *read_message(Pool *pool, uint32_t number, struct mb_type *is);
@@ -141,6 +149,10 @@ PyObject *pool_enum_value(PyObject *self, PyObject *args);
 PyObject *type_compat(PyObject *self, PyObject *other);
 PyObject *type_witness(PyObject *self, PyObject *args);
 extern const char compat_doc[], witness_doc[];
+
+/* A decoder of messages of a type, for type.c (decoder.c). */
+PyObject *type_decoder(PyObject *self, PyObject *args, PyObject *kwargs);
+extern const char decoder_doc[];
 
 /* What makes an object of a type that only the library's calls make: TypeError. */
 PyObject *no_new(PyTypeObject *type, PyObject *args, PyObject *kwargs);

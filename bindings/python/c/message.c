@@ -1,55 +1,7 @@
-/* Messages that the library holds, and their parts. A message stays on the thread that made it: another one may not use it, and where another one
- * drops it, its memory is kept until the first thread makes its next message. */
+/* Messages that the library holds, and their parts. A message stays on the thread that made it (thread.c). */
 #include "node.h"
 
 PyObject *message_type, *list_type, *map_type;
-
-/* ---- Threads ---- */
-
-/* Numbers of threads are given under the global lock, and never a second time. */
-static _Thread_local unsigned long long number_of_this;
-static unsigned long long last_number;
-
-static unsigned long long this_thread(void)
-{
-    if (number_of_this == 0)
-        number_of_this = ++last_number;
-    return number_of_this;
-}
-
-/* What other threads dropped. */
-struct dropped {
-    struct mb_message handle;
-    unsigned long long thread;
-    struct dropped *next;
-};
-static struct dropped *dropped;
-
-static void free_dropped(unsigned long long thread)
-{
-    for (struct dropped **at = &dropped; *at != NULL;) {
-        struct dropped *it = *at;
-        if (it->thread == thread) {
-            *at = it->next;
-            mb_message_free(&it->handle);
-            PyMem_Free(it);
-        } else {
-            at = &it->next;
-        }
-    }
-}
-
-static void drop_handle(Node *node)
-{
-    struct dropped *it;
-
-    if (node->thread == this_thread()) {
-        mb_message_free(&node->handle);
-    } else if ((it = PyMem_Malloc(sizeof *it)) != NULL) {
-        *it = (struct dropped){node->handle, node->thread, dropped};
-        dropped = it;
-    }
-}
 
 /* ---- Nodes ---- */
 
@@ -69,8 +21,7 @@ Node *new_message(MessageType *type)
     if (node == NULL)
         return NULL;
     node->thread = this_thread();
-    if (dropped != NULL)
-        free_dropped(node->thread);
+    free_dropped();
     Py_INCREF(type);
     node->type = type;
     return node;
@@ -82,7 +33,7 @@ static void node_dealloc(PyObject *self)
     Node *node = (Node *)self;
 
     if (node->handle.full)
-        drop_handle(node);
+        drop_handles(node->thread, node->handle, (struct mb_decoder){NULL, false});
     PyMem_Free(node->place);
     PyMem_Free(node->keys);
     Py_CLEAR(node->key_objects);

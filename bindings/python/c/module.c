@@ -120,11 +120,12 @@ PyMODINIT_FUNC PyInit__mabristu(void)
     pool_type = make_pool_type();
     message_type_type = make_message_type_type();
     field_type = make_field_type();
+    decoder_type = make_decoder_type();
     if (make_fault == NULL || make_link == NULL || frames_class == NULL || schema_class == NULL || difference_class == NULL || change_functions == NULL ||
         !name_causes() || !make_message_types() || (module = PyModule_Create(&definition)) == NULL)
         return NULL;
     if (!add(module, "Pool", pool_type) || !add(module, "MessageType", message_type_type) || !add(module, "Field", field_type) ||
-        !add(module, "Message", message_type) || !add(module, "List", list_type) || !add(module, "Map", map_type) ||
+        !add(module, "Message", message_type) || !add(module, "List", list_type) || !add(module, "Map", map_type) || !add(module, "Decoder", decoder_type) ||
         PyModule_AddIntConstant(module, "MAX_BYTES", MB_MAX_BYTES) < 0 || PyModule_AddIntConstant(module, "MAX_DEPTH", MB_MAX_DEPTH) < 0 ||
         PyModule_AddIntConstant(module, "INTERFACE", MB_INTERFACE) < 0) {
         Py_DECREF(module);

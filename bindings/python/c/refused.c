@@ -57,6 +57,9 @@ PyObject *refuse(uint32_t answer, const struct report *report)
         return PyErr_NoMemory();
     case MB_TOO_LARGE:
         return raise_made(PyObject_CallFunction(make_link, "sI", "output", answer));
+    case MB_FINISHED:
+        PyErr_SetString(PyExc_ValueError, "the decoder is finished");
+        return NULL;
     case MB_BAD_NAME:
         PyErr_SetString(PyExc_ValueError, "the name of a source is not UTF-8");
         return NULL;

@@ -15,6 +15,9 @@ struct call {
     struct limits limits;
     struct report report;
     uint32_t answer;
+    /* Of JSON: whether it is read leniently, and the byte where what is refused begins. */
+    bool is_lenient;
+    size_t byte;
 };
 
 static bool begin(struct call *call, PyObject *self, PyObject *args, PyObject *kwargs)
@@ -80,38 +83,51 @@ static PyObject *type_check(PyObject *self, PyObject *args, PyObject *kwargs)
 typedef uint32_t writer(struct mb_pool *, uint32_t, const uint8_t *, size_t, uint32_t, uint8_t, uint8_t *, size_t, size_t *, struct mb_fault *,
                         struct mb_step *, size_t);
 
+/* Makes a call: of JSON, or of the bytes of a message, by one that writes. */
+static void write_once(struct call *call, writer *write, uint8_t *out, size_t out_len, size_t *size)
+{
+    if (write != NULL)
+        RUN(call, is_long(call), CALL(call, write, out, out_len, size));
+    else
+        RUN(call, is_long(call),
+            call->answer = mb_from_json(handle, call->type->number, call->in.at, call->in.len, call->is_lenient, out, out_len, size, &call->byte));
+}
+
 /* What a call writes: to the stack where it should be little, else to memory of the length that it should have, and once more where it is longer. */
-static PyObject *written(PyObject *self, PyObject *args, PyObject *kwargs, writer *write, size_t times, PyObject *(*made)(const uint8_t *, size_t))
+static PyObject *write_all(struct call *call, writer *write, size_t expected, PyObject *(*made)(const uint8_t *, size_t))
 {
     uint8_t small[SMALL_OUTPUT], *out = small;
-    size_t out_len = sizeof small, size = 0;
-    struct call call;
+    size_t out_len = sizeof small, size = expected <= sizeof small ? 0 : expected;
     PyObject *answer = NULL;
 
-    if (!begin(&call, self, args, kwargs))
-        return NULL;
-    size = times * (call.in.len + call.in.len / 4);
-    if (size <= out_len)
-        size = 0;
     for (;;) {
         if (size > out_len) {
             uint8_t *more = PyMem_Realloc(out == small ? NULL : out, size);
             if (more == NULL) {
-                call.answer = MB_MEMORY;
+                call->answer = MB_MEMORY;
                 break;
             }
             out = more;
             out_len = size;
         }
-        RUN(&call, is_long(&call), CALL(&call, write, out, out_len, &size));
-        if (call.answer != MB_DONE || size <= out_len)
+        write_once(call, write, out, out_len, &size);
+        if (call->answer != MB_DONE || size <= out_len)
             break;
     }
-    if (call.answer == MB_DONE)
+    if (call->answer == MB_DONE)
         answer = made(out, size);
     if (out != small)
         PyMem_Free(out);
-    return end(&call, answer);
+    return answer;
+}
+
+static PyObject *written(PyObject *self, PyObject *args, PyObject *kwargs, writer *write, size_t times, PyObject *(*made)(const uint8_t *, size_t))
+{
+    struct call call;
+
+    if (!begin(&call, self, args, kwargs))
+        return NULL;
+    return end(&call, write_all(&call, write, times * (call.in.len + call.in.len / 4), made));
 }
 
 PyDoc_STRVAR(canonical_doc,
@@ -173,38 +189,59 @@ PyDoc_STRVAR(from_json_doc,
 "from_json(text, *, lenient=False)\n--\n\nThe message that a JSON text is (ProtoJSON), a str or bytes in UTF-8. With lenient=True members that no field has"
 "\nare passed over, and strings that an enum does not declare. It stays on the thread that made it.");
 
-/* The message of a JSON text, or NULL with an exception. */
-static PyObject *read_json(MessageType *type, const struct input *in, bool is_lenient)
+/* Reads the arguments (text, *, lenient) of a method. A str is taken as its bytes in UTF-8. */
+static bool begin_json(struct call *call, PyObject *self, PyObject *args, PyObject *kwargs, const char *format)
 {
-    Node *message = new_message(type);
-    size_t byte = 0;
+    static char *names[] = {"text", "lenient", NULL};
+    PyObject *text;
+    int is_lenient = 0;
 
-    if (message == NULL)
-        return NULL;
-    message->hint = in->len;
-    uint32_t answer = mb_message_from_json(&type->pool->handle, type->number, in->at, in->len, is_lenient, &message->handle, &byte);
-    if (answer == MB_DONE)
-        return (PyObject *)message;
-    Py_DECREF(message);
-    return answer >= MB_JSON_UNEXPECTED_BYTE && answer <= MB_JSON_BAD_VALUE ? refuse_text(answer, byte) : refuse(answer, NULL);
+    if (!PyArg_ParseTupleAndKeywords(args, kwargs, format, names, &text, &is_lenient))
+        return false;
+    call->type = (MessageType *)self;
+    call->is_lenient = is_lenient;
+    if (!PyUnicode_Check(text))
+        return take_input(text, &call->in);
+    PyObject *bytes = PyUnicode_AsUTF8String(text);
+    bool is_taken = bytes != NULL && take_input(bytes, &call->in);
+    Py_XDECREF(bytes);
+    return is_taken;
+}
+
+static PyObject *end_json(struct call *call, PyObject *answer)
+{
+    if (call->answer >= MB_JSON_UNEXPECTED_BYTE && call->answer <= MB_JSON_BAD_VALUE)
+        refuse_text(call->answer, call->byte);
+    return end(call, answer);
 }
 
 static PyObject *type_from_json(PyObject *self, PyObject *args, PyObject *kwargs)
 {
-    static char *names[] = {"text", "lenient", NULL};
-    PyObject *text, *message = NULL;
-    int is_lenient = 0;
-    struct input in;
+    struct call call;
 
-    if (!PyArg_ParseTupleAndKeywords(args, kwargs, "O|$p:from_json", names, &text, &is_lenient))
+    if (!begin_json(&call, self, args, kwargs, "O|$p:from_json"))
         return NULL;
-    PyObject *bytes = PyUnicode_Check(text) ? PyUnicode_AsUTF8String(text) : NULL;
-    if (PyErr_Occurred() == NULL && take_input(bytes == NULL ? text : bytes, &in)) {
-        message = read_json((MessageType *)self, &in, is_lenient);
-        drop_input(&in);
+    Node *message = new_message(call.type);
+    if (message == NULL) {
+        drop_input(&call.in);
+        return NULL;
     }
-    Py_XDECREF(bytes);
-    return message;
+    message->hint = call.in.len;
+    RUN(&call, is_long(&call),
+        call.answer = mb_message_from_json(handle, call.type->number, call.in.at, call.in.len, call.is_lenient, &message->handle, &call.byte));
+    return end_json(&call, (PyObject *)message);
+}
+
+PyDoc_STRVAR(canonical_from_json_doc,
+"canonical_from_json(text, *, lenient=False)\n--\n\nThe canonical bytes of the message that a JSON text is, which is read as from_json reads it.");
+
+static PyObject *type_canonical_from_json(PyObject *self, PyObject *args, PyObject *kwargs)
+{
+    struct call call;
+
+    if (!begin_json(&call, self, args, kwargs, "O|$p:canonical_from_json"))
+        return NULL;
+    return end_json(&call, write_all(&call, NULL, call.in.len, as_bytes));
 }
 
 PyDoc_STRVAR(new_doc, "new()\n--\n\nAn empty message. Order() is the same.");
@@ -837,6 +874,8 @@ PyObject *make_message_type_type(void)
         {"listing", KEYWORDS(type_listing), METH_VARARGS | METH_KEYWORDS, listing_doc},
         {"decode", KEYWORDS(type_decode), METH_VARARGS | METH_KEYWORDS, decode_doc},
         {"from_json", KEYWORDS(type_from_json), METH_VARARGS | METH_KEYWORDS, from_json_doc},
+        {"canonical_from_json", KEYWORDS(type_canonical_from_json), METH_VARARGS | METH_KEYWORDS, canonical_from_json_doc},
+        {"decoder", KEYWORDS(type_decoder), METH_VARARGS | METH_KEYWORDS, decoder_doc},
         {"find", KEYWORDS(type_find), METH_VARARGS | METH_KEYWORDS, find_doc},
         {"_find", KEYWORDS(type_find_reported), METH_VARARGS | METH_KEYWORDS, find_reported_doc},
         {"new", type_empty, METH_NOARGS, new_doc},

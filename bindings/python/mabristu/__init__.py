@@ -10,10 +10,10 @@
 What is refused raises Refused, with the byte, the path and the cause; an unknown name KeyError; and when memory runs out MemoryError.
 """
 from ._frames import Frame, Frames
-from ._mabristu import INTERFACE, MAX_BYTES, MAX_DEPTH, Field, List, Map, Message, MessageType, Pool, raw_check, raw_short
+from ._mabristu import INTERFACE, MAX_BYTES, MAX_DEPTH, Decoder, Field, List, Map, Message, MessageType, Pool, raw_check, raw_short
 from ._refused import CAUSES, Refused
 from ._schema import DeclaredEnum, DeclaredFile, DeclaredType, Difference, Schema
 
 __version__ = "0.1.0"
-__all__ = ["CAUSES", "DeclaredEnum", "DeclaredFile", "DeclaredType", "Difference", "Field", "Frame", "Frames", "INTERFACE", "List", "MAX_BYTES",
-           "MAX_DEPTH", "Map", "Message", "MessageType", "Pool", "Refused", "Schema", "raw_check", "raw_short"]
+__all__ = ["CAUSES", "DeclaredEnum", "DeclaredFile", "DeclaredType", "Decoder", "Difference", "Field", "Frame", "Frames", "INTERFACE", "List",
+           "MAX_BYTES", "MAX_DEPTH", "Map", "Message", "MessageType", "Pool", "Refused", "Schema", "raw_check", "raw_short"]

@@ -3,6 +3,7 @@ from ._mabristu import (
     INTERFACE as INTERFACE,
     MAX_BYTES as MAX_BYTES,
     MAX_DEPTH as MAX_DEPTH,
+    Decoder as Decoder,
     Field as Field,
     List as List,
     Map as Map,

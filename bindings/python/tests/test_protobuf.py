@@ -34,6 +34,13 @@ class Protobuf(unittest.TestCase):
             data = bytes.fromhex(row["bytes"])
             self.assertEqual([self.order.canonical(data).hex(), self.order.decode(data).encode().hex()], [row["bytes"]] * 2)
 
+    def test_pieces(self):
+        for index, row in enumerate(self.rows):
+            data, decoder = bytes.fromhex(row["bytes"]), self.order.decoder()
+            for at in range(0, len(data), index % 9 + 1):
+                decoder.feed(data[at : at + index % 9 + 1])
+            self.assertEqual(decoder.finish().encode(), data)
+
     def test_fields(self):
         bits = lambda number: struct.unpack("<Q", struct.pack("<d", number))[0]
         for row in self.rows:

@@ -204,7 +204,7 @@ class Stubs(unittest.TestCase):
             self.assertLessEqual({it for it in names if not it.startswith("_")}, found)
 
     def test_docs(self):
-        for it in (mabristu.Pool, mabristu.MessageType, mabristu.Message, mabristu.Field, mabristu.List, mabristu.Map):
+        for it in (mabristu.Pool, mabristu.MessageType, mabristu.Message, mabristu.Field, mabristu.List, mabristu.Map, mabristu.Decoder):
             self.assertTrue(it.__doc__)
             for name, member in vars(it).items():
                 self.assertTrue(name.startswith("__") or member.__doc__, f"{it.__name__}.{name} has no docstring")

@@ -1,7 +1,9 @@
 //! The numbers and calls of mabristu.h.
-use crate::structs::{Bytes, Counts, Difference, Enum, Fault, Field, File, Frame, Handle, MessageHandle, Refusal, Step, Type, Value};
+use crate::structs::{
+    Bytes, Counts, DecoderHandle, Difference, Enum, Fault, Field, File, Frame, Handle, MessageHandle, Refusal, Step, Type, Value,
+};
 
-pub const INTERFACE: u32 = 6;
+pub const INTERFACE: u32 = 7;
 // What a call answers. Numbers from 50 on are the causes why declarations are refused.
 pub const DONE: u32 = 0;
 pub const BAD_LIMITS: u32 = 1;
@@ -12,6 +14,7 @@ pub const BAD_VALUE: u32 = 8;
 pub const FAULT: u32 = 13;
 pub const MEMORY: u32 = 14;
 pub const TOO_LARGE: u32 = 31;
+pub const FINISHED: u32 = 43;
 pub const TRUNCATED: u32 = 1;
 // The kinds of values, and the steps of a place that are no keys.
 pub const DOUBLE: u32 = 1;
@@ -100,6 +103,8 @@ extern "C" {
         path: *mut u32, path_len: usize, steps: &mut usize) -> u32;
     pub fn mb_message_from_json(pool: *mut Handle, number: u32, json: At, json_len: usize, lenient: bool, message: *mut MessageHandle,
         byte: &mut usize) -> u32;
+    pub fn mb_from_json(pool: *mut Handle, number: u32, json: At, json_len: usize, lenient: bool,
+        out: Out, out_len: usize, size: &mut usize, byte: &mut usize) -> u32;
     pub fn mb_message_get(message: Message, place: *const Value, place_len: usize, keys: *const Bytes, keys_len: usize, value: &mut Value) -> u32;
     pub fn mb_message_read(message: Message, place: *const Value, place_len: usize, keys: *const Bytes, keys_len: usize,
         out: Out, out_len: usize, size: &mut usize) -> u32;
@@ -114,4 +119,9 @@ extern "C" {
     pub fn mb_message_remove(message: Message, place: *const Value, place_len: usize, strings: *const Bytes, strings_len: usize) -> u32;
     pub fn mb_message_drop_unknown(message: Message, place: *const Value, place_len: usize, strings: *const Bytes, strings_len: usize) -> u32;
     pub fn mb_message_free(message: *mut MessageHandle);
+    pub fn mb_decoder_new(pool: *mut Handle, number: u32, max_bytes: u32, max_depth: u8, decoder: *mut DecoderHandle) -> u32;
+    pub fn mb_decoder_feed(decoder: *mut DecoderHandle, piece: At, piece_len: usize, fault: &mut Fault, path: *mut Step, path_len: usize) -> u32;
+    pub fn mb_decoder_finish(decoder: *mut DecoderHandle, message: Message, fault: &mut Fault, path: *mut Step, path_len: usize) -> u32;
+    pub fn mb_decoder_pending(decoder: *mut DecoderHandle, pending: &mut usize) -> u32;
+    pub fn mb_decoder_free(decoder: *mut DecoderHandle);
 }

@@ -66,6 +66,8 @@ pub enum Error {
     NoField,
     /// What would be written has more than 2^31 - 1 bytes.
     TooLarge,
+    /// The decoder has given its fault, or lost what it had received where memory ran out.
+    Finished,
     /// Memory ran out.
     Memory,
     /// An answer that these calls do not lead to.
@@ -111,6 +113,7 @@ impl fmt::Display for Error {
             Error::NoType => f.write_str("type unknown"),
             Error::NoField => f.write_str("field unknown"),
             Error::TooLarge => f.write_str("output cause TooLarge"),
+            Error::Finished => f.write_str("the decoder is finished"),
             Error::Memory => f.write_str("memory"),
             Error::Answer(answer) => write!(f, "answer {answer}"),
         }

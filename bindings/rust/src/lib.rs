@@ -13,12 +13,14 @@
 //! ```
 //!
 //! Types come from a descriptor set ([`Pool::link`]) or from sources of proto3 ([`Pool::of_sources`]). A [`MessageType`] checks, rewrites and lists bytes,
-//! splits streams, and decodes a [`Message`], which is read by places ([`Part`]) and changed at places ([`PartMut`]). What is refused is an [`Error`] with the byte, the path and the cause.
+//! splits streams, and decodes a [`Message`], which is read by places ([`Part`]) and changed at places ([`PartMut`]); a
+//! [`Decoder`] does so with a message that arrives in pieces. What is refused is an [`Error`] with the byte, the path and the cause.
 //!
-//! A [`Pool`] and a [`MessageType`] may go to another thread, and a clone of them is cheap; a [`Message`] stays on its thread.
+//! A [`Pool`] and a [`MessageType`] may go to another thread, and a clone of them is cheap; a [`Message`] and a [`Decoder`] stay on their threads.
 mod calls;
 mod change;
 mod compat;
+mod decoder;
 mod error;
 mod frames;
 mod message;
@@ -32,6 +34,7 @@ mod value;
 
 pub use change::PartMut;
 pub use compat::{Difference, Severity};
+pub use decoder::Decoder;
 pub use error::{Cause, Error, Step, StreamError};
 pub use frames::{Frame, Frames};
 pub use message::{JsonForm, Message};

@@ -3,7 +3,7 @@ use crate::calls;
 use crate::report::{judged, written, Report};
 use crate::structs::{Field as FieldReport, Frame as FrameReport, Value as Reported};
 use crate::value::{scalar, size as size_of};
-use crate::{Cause, Error, Frames, Message, Pool, Value};
+use crate::{Cause, Decoder, Error, Frames, Message, Pool, Value};
 use std::io::Read;
 
 /// How many bytes a message may have, and how deep it may nest.
@@ -174,6 +174,11 @@ impl MessageType {
         Ok(message)
     }
 
+    /// A decoder of a message that arrives in pieces, which has received nothing.
+    pub fn decoder(&self) -> Result<Decoder, Error> {
+        Decoder::new(self)
+    }
+
     /// The message that a JSON text in UTF-8 is (ProtoJSON). A name that no field or enum has is refused.
     pub fn from_json(&self, json: impl AsRef<[u8]>) -> Result<Message, Error> {
         self.read_json(json.as_ref(), false)
@@ -190,11 +195,27 @@ impl MessageType {
             let (at, len, held) = (json.as_ptr(), json.len(), message.handle());
             calls::mb_message_from_json(self.pool.handle(), self.number, at, len, lenient, held, &mut byte)
         };
-        if let 101..=109 = answer {
-            return Err(Error::JsonText { byte, cause: Cause(answer) });
-        }
-        Report::new().judge(answer)?;
+        Report::new().judge(answer).map_err(|error| of_text(error, byte))?;
         Ok(message)
+    }
+
+    /// The canonical bytes of the message that a JSON text in UTF-8 is, which is read as by [`MessageType::from_json`].
+    pub fn canonical_from_json(&self, json: impl AsRef<[u8]>) -> Result<Vec<u8>, Error> {
+        self.write_json(json.as_ref(), false)
+    }
+
+    /// The canonical bytes of the message that a JSON text is, which is read as by [`MessageType::from_json_lenient`].
+    pub fn canonical_from_json_lenient(&self, json: impl AsRef<[u8]>) -> Result<Vec<u8>, Error> {
+        self.write_json(json.as_ref(), true)
+    }
+
+    fn write_json(&self, json: &[u8], lenient: bool) -> Result<Vec<u8>, Error> {
+        let mut byte = 0;
+        let bytes = written(json.len(), |out, room, size, _, _, _| unsafe {
+            let (at, len) = (json.as_ptr(), json.len());
+            calls::mb_from_json(self.pool.handle(), self.number, at, len, lenient, out, room, size, &mut byte)
+        });
+        bytes.map_err(|error| of_text(error, byte))
     }
 
     /// Reads a stream of messages, each after its length. After a frame that is refused it goes on with the next one.
@@ -250,6 +271,14 @@ impl MessageType {
             }
         })?;
         Ok(if is_absent { None } else { scalar(&value, out) })
+    }
+}
+
+/// The refusal of a JSON text at a byte, or the same error.
+fn of_text(error: Error, byte: usize) -> Error {
+    match error {
+        Error::Answer(cause @ 101..=109) => Error::JsonText { byte, cause: Cause(cause) },
+        error => error,
     }
 }
 

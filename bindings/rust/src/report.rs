@@ -28,6 +28,7 @@ impl Report {
             calls::BAD_VALUE => Error::BadValue,
             21..=30 => Error::Change { cause: Cause(answer) },
             calls::TOO_LARGE => Error::TooLarge,
+            calls::FINISHED => Error::Finished,
             calls::MEMORY => Error::Memory,
             _ => Error::Answer(answer),
         })

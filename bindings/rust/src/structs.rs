@@ -93,6 +93,12 @@ pub struct MessageHandle {
 }
 
 #[repr(C)]
+pub struct DecoderHandle {
+    pub at: *mut u8,
+    pub full: bool,
+}
+
+#[repr(C)]
 #[derive(Default)]
 pub struct Refusal {
     pub file: usize,

@@ -1,0 +1,156 @@
+/* Decoders of messages that arrive in pieces. A decoder stays on the thread that made it (thread.c). */
+#include "common.h"
+
+#include <structmember.h>
+
+PyObject *decoder_type;
+
+typedef struct {
+    PyObject_HEAD
+    struct mb_decoder handle;
+    unsigned long long thread;
+    size_t received; /* about how many bytes the message has */
+    MessageType *type;
+} Decoder;
+
+const char decoder_doc[] =
+"decoder(*, max_bytes=MAX_BYTES, max_depth=MAX_DEPTH)\n--\n\nA Decoder of a message that arrives in pieces, which has received nothing. The limits are those of"
+"\nthe whole message. It stays on the thread that made it.";
+
+PyObject *type_decoder(PyObject *self, PyObject *args, PyObject *kwargs)
+{
+    static char *names[] = {"max_bytes", "max_depth", NULL};
+    Py_ssize_t max_bytes = MB_MAX_BYTES, max_depth = MB_MAX_DEPTH;
+    MessageType *type = (MessageType *)self;
+    struct limits limits;
+
+    if (!PyArg_ParseTupleAndKeywords(args, kwargs, "|$nn:decoder", names, &max_bytes, &max_depth) || !set_limits(max_bytes, max_depth, &limits))
+        return NULL;
+    Decoder *decoder = PyObject_New(Decoder, (PyTypeObject *)decoder_type);
+    if (decoder == NULL)
+        return NULL;
+    decoder->handle = (struct mb_decoder){NULL, false};
+    decoder->thread = this_thread();
+    decoder->received = 0;
+    Py_INCREF(type);
+    decoder->type = type;
+    free_dropped();
+    uint32_t answer = mb_decoder_new(&type->pool->handle, type->number, limits.max_bytes, limits.max_depth, &decoder->handle);
+    if (answer != MB_DONE) {
+        Py_DECREF(decoder);
+        return refuse(answer, NULL);
+    }
+    return (PyObject *)decoder;
+}
+
+/* The handle of a decoder, or NULL, with an exception, on another thread. */
+static struct mb_decoder *handle_of(PyObject *self)
+{
+    if (((Decoder *)self)->thread == this_thread())
+        return &((Decoder *)self)->handle;
+    PyErr_SetString(PyExc_RuntimeError, "a decoder stays on the thread that made it: hand the pieces to that one");
+    return NULL;
+}
+
+PyDoc_STRVAR(feed_doc,
+"feed(data)\n--\n\nGives the decoder the next piece, anything with the buffer protocol. It is not kept. Raises Refused where all bytes"
+"\nreceived have another fault than Truncated, which no further bytes change; byte counts from the first piece on. Then, and after MemoryError, the"
+"\ndecoder is finished: each further call raises ValueError.");
+
+static PyObject *decoder_feed(PyObject *self, PyObject *data)
+{
+    struct mb_decoder *handle = handle_of(self);
+    struct report report;
+    struct input in;
+
+    if (handle == NULL || !take_input(data, &in))
+        return NULL;
+    /* No other thread may use the decoder meanwhile. */
+    PyThreadState *state = in.is_fixed && in.len >= LONG_INPUT ? PyEval_SaveThread() : NULL;
+    uint32_t answer = mb_decoder_feed(handle, in.at, in.len, &report.fault, report.path, MB_MAX_STEPS);
+    if (state != NULL)
+        PyEval_RestoreThread(state);
+    ((Decoder *)self)->received += in.len;
+    drop_input(&in);
+    if (answer != MB_DONE)
+        return refuse(answer, &report);
+    Py_RETURN_NONE;
+}
+
+PyDoc_STRVAR(finish_doc,
+"finish()\n--\n\nThe message of all pieces, as decode has it of their bytes, or Refused. Then the decoder is finished: each further call raises ValueError.");
+
+static PyObject *decoder_finish(PyObject *self, PyObject *Py_UNUSED(ignored))
+{
+    struct mb_decoder *handle = handle_of(self);
+    Node *message = handle == NULL ? NULL : new_message(((Decoder *)self)->type);
+    struct report report;
+
+    if (message == NULL)
+        return NULL;
+    message->hint = ((Decoder *)self)->received;
+    uint32_t answer = mb_decoder_finish(handle, &message->handle, &report.fault, report.path, MB_MAX_STEPS);
+    if (answer == MB_DONE)
+        return (PyObject *)message;
+    Py_DECREF(message);
+    return refuse(answer, &report);
+}
+
+static PyObject *decoder_get_pending(PyObject *self, void *Py_UNUSED(which))
+{
+    struct mb_decoder *handle = handle_of(self);
+    size_t pending = 0;
+
+    if (handle == NULL)
+        return NULL;
+    uint32_t answer = mb_decoder_pending(handle, &pending);
+    return answer == MB_DONE ? PyLong_FromSize_t(pending) : refuse(answer, NULL);
+}
+
+static PyObject *decoder_repr(PyObject *self)
+{
+    return PyUnicode_FromFormat("<mabristu.Decoder of %U>", ((Decoder *)self)->type->name);
+}
+
+static void decoder_dealloc(PyObject *self)
+{
+    PyTypeObject *of = Py_TYPE(self);
+    Decoder *decoder = (Decoder *)self;
+
+    if (decoder->handle.full)
+        drop_handles(decoder->thread, (struct mb_message){NULL, false}, decoder->handle);
+    Py_CLEAR(decoder->type);
+    PyObject_Free(self);
+    Py_DECREF(of);
+}
+
+PyObject *make_decoder_type(void)
+{
+    static PyMemberDef members[] = {
+        {"type", T_OBJECT, offsetof(Decoder, type), READONLY, "The type of the message."},
+        {NULL, 0, 0, 0, NULL},
+    };
+    static PyGetSetDef getset[] = {
+        {"pending", decoder_get_pending, NULL,
+         "How many bytes it holds as they came: those of a tag, a length or a number that is not complete, or of the payload of a string, of bytes or of an"
+         "\nunknown record. 0 where it is finished.", NULL},
+        {NULL, NULL, NULL, NULL, NULL},
+    };
+    static PyMethodDef methods[] = {
+        {"feed", decoder_feed, METH_O, feed_doc},
+        {"finish", decoder_finish, METH_NOARGS, finish_doc},
+        {NULL, NULL, 0, NULL},
+    };
+    static PyType_Slot slots[] = {
+        {Py_tp_doc, "A decoder of a message that arrives in pieces, as Order.decoder() makes one."},
+        {Py_tp_new, no_new},
+        {Py_tp_dealloc, decoder_dealloc},
+        {Py_tp_repr, decoder_repr},
+        {Py_tp_members, members},
+        {Py_tp_getset, getset},
+        {Py_tp_methods, methods},
+        {0, NULL},
+    };
+    static PyType_Spec spec = {"mabristu.Decoder", sizeof(Decoder), 0, Py_TPFLAGS_DEFAULT, slots};
+    return PyType_FromSpec(&spec);
+}

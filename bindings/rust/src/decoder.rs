@@ -1,0 +1,101 @@
+//! Messages that arrive in pieces.
+use crate::report::{judged, Report};
+use crate::structs::DecoderHandle;
+use crate::{calls, Error, Limits, Message, MessageType};
+use std::cell::UnsafeCell;
+use std::io::{self, Write};
+use std::{fmt, ptr};
+
+/// Decodes a message from pieces of its bytes, as they arrive. No piece is kept.
+///
+/// ```
+/// use mabristu::Pool;
+///
+/// # fn main() -> Result<(), mabristu::Error> {
+/// let pool = Pool::of_sources([("note.proto", "syntax = \"proto3\"; message Note { string text = 1; }")])?;
+/// let mut decoder = pool.message_type("Note")?.decoder()?;
+/// decoder.feed(b"\x0a\x05he")?;
+/// assert_eq!(decoder.pending(), 2);
+/// decoder.feed(b"llo")?;
+/// assert_eq!(decoder.finish()?.to_string(), "text: \"hello\"\n");
+/// # Ok(())
+/// # }
+/// ```
+///
+/// Bytes can be written to it too, as by [`io::copy`]. An error of such a write has the [`Error`] inside.
+///
+/// It stays on its thread, as a [`Message`] does.
+///
+/// ```compile_fail
+/// fn sent<T: Send>() {}
+/// sent::<mabristu::Decoder>();
+/// ```
+pub struct Decoder {
+    handle: UnsafeCell<DecoderHandle>,
+    message_type: MessageType,
+}
+
+// SAFETY, of each call: as in pool.rs. The handle has a pointer, so a decoder is neither Send nor Sync.
+impl Decoder {
+    pub(crate) fn new(message_type: &MessageType) -> Result<Decoder, Error> {
+        let handle = UnsafeCell::new(DecoderHandle { at: ptr::null_mut(), full: false });
+        let (decoder, Limits { max_bytes, max_depth }) = (Decoder { handle, message_type: message_type.clone() }, message_type.limits);
+        Report::new().judge(unsafe {
+            calls::mb_decoder_new(message_type.pool.handle(), message_type.number, max_bytes, max_depth, decoder.handle.get())
+        })?;
+        Ok(decoder)
+    }
+
+    /// The type of the message.
+    pub fn message_type(&self) -> &MessageType {
+        &self.message_type
+    }
+
+    /// Gives the decoder the next piece. Refused where all bytes received have another fault than Truncated, which no further bytes change; its byte
+    /// counts from the first piece on. After an error each further call has [`Error::Finished`].
+    pub fn feed(&mut self, piece: &[u8]) -> Result<(), Error> {
+        judged(|fault, path, steps| unsafe { calls::mb_decoder_feed(self.handle.get(), piece.as_ptr(), piece.len(), fault, path, steps) })
+    }
+
+    /// The message of all bytes received, as [`MessageType::decode`] decodes them.
+    pub fn finish(self) -> Result<Message, Error> {
+        let message = Message::none(&self.message_type);
+        judged(|fault, path, steps| unsafe { calls::mb_decoder_finish(self.handle.get(), message.handle(), fault, path, steps) })?;
+        Ok(message)
+    }
+
+    /// How many bytes it holds as they came: those of a tag, a length or a number that is not complete, or of the payload of a string, of bytes or of
+    /// an unknown record. 0 after an error.
+    pub fn pending(&self) -> usize {
+        let mut pending = 0;
+        // It has no other answer of a decoder that was made.
+        let _done = unsafe { calls::mb_decoder_pending(self.handle.get(), &mut pending) };
+        pending
+    }
+}
+
+impl Write for Decoder {
+    fn write(&mut self, piece: &[u8]) -> io::Result<usize> {
+        match self.feed(piece) {
+            Ok(()) => Ok(piece.len()),
+            Err(Error::Memory) => Err(io::Error::new(io::ErrorKind::OutOfMemory, Error::Memory)),
+            Err(refused) => Err(io::Error::new(io::ErrorKind::InvalidData, refused)),
+        }
+    }
+
+    fn flush(&mut self) -> io::Result<()> {
+        Ok(())
+    }
+}
+
+impl fmt::Debug for Decoder {
+    fn fmt(&self, f: &mut fmt::Formatter<'_>) -> fmt::Result {
+        f.debug_struct("Decoder").field("pending", &self.pending()).finish_non_exhaustive()
+    }
+}
+
+impl Drop for Decoder {
+    fn drop(&mut self) {
+        unsafe { calls::mb_decoder_free(self.handle.get()) }
+    }
+}
