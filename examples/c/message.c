@@ -3,6 +3,7 @@
  * of an empty message. The message stays with the library in between, behind a handle of its own, and the pool is freed before.
  * message relink [--lenient] SET TYPE FILE: as encode, by the types of the set that the library writes of the pool.
  * message from-json [--lenient] SET TYPE FILE: reads the message that a file holds as JSON, and writes its canonical bytes, as `pbtool from-json` does.
+ * message json-bytes [--lenient] SET TYPE FILE: the same, by the call that keeps no message.
  * message field SET TYPE NAME: prints what the field of this name is, by the numbers of struct mb_field. */
 #include "common.h"
 
@@ -132,6 +133,25 @@ static uint32_t write_bytes(struct mb_message *message, struct buffer *out)
     return answer;
 }
 
+/* Writes the canonical bytes of the message that a file holds as JSON, in a buffer that grows where it was too small. */
+static uint32_t write_json_bytes(const char *name, struct mb_pool *pool, uint32_t type, bool is_lenient, struct buffer *out)
+{
+    struct buffer file = read_file(name);
+    size_t byte;
+    uint32_t answer;
+
+    do {
+        grow(out, out->len + 256);
+        answer = mb_from_json(pool, type, file.bytes, file.len, is_lenient, out->bytes, out->room, &out->len, &byte);
+    } while (answer == MB_DONE && out->len > out->room);
+    free(file.bytes);
+    if (answer == MB_DONE)
+        fwrite(out->bytes, 1, out->len, stdout);
+    else if (answer >= MB_JSON_UNEXPECTED_BYTE && answer <= MB_JSON_BAD_VALUE)
+        print_text_refusal(answer, byte);
+    return answer;
+}
+
 static uint32_t print_message(const char *word, struct mb_message *message, struct buffer *out)
 {
     if (strcmp(word, "json") == 0)
@@ -164,12 +184,15 @@ int main(int argc, char **argv)
         return status;
     }
     uint32_t answer = strcmp(word, "relink") == 0 ? relink(&pool, argv[2], &type) : MB_DONE;
-    if (answer == MB_DONE && strcmp(word, "from-json") == 0)
+    bool is_written = strcmp(word, "json-bytes") == 0;
+    if (is_written)
+        answer = write_json_bytes(argv[3], &pool, type, is_lenient, &out);
+    else if (answer == MB_DONE && strcmp(word, "from-json") == 0)
         answer = from_json(argv[3], &pool, type, is_lenient, &message);
     else if (answer == MB_DONE)
         answer = make_message(word, argv[3], &pool, type, &message, &report);
     mb_pool_free(&pool);
-    if (answer == MB_DONE)
+    if (answer == MB_DONE && !is_written)
         answer = print_message(word, &message, &out);
     free(out.bytes);
     mb_message_free(&message);

@@ -6,7 +6,9 @@ field is: tool.py field SET TYPE NAME. What a message has, a place a line: tool.
 scalar at a path of field numbers, such as 3.1: tool.py find [--lenient] SET TYPE FILE PATH. What a set
 declares: tool.py types [--lenient] SET. Changes of a message, and its bytes: tool.py change SET TYPE FILE CHANGE.., as change.c says.
 A copy of a message with more bytes decoded onto it: tool.py whole SET TYPE FILE MORE, as whole.c prints it. What differs between two types: tool.py
-compat OLD_SET OLD_TYPE NEW_SET NEW_TYPE, as compat.c prints it. The canonical bytes of a message in JSON: tool.py from-json [--lenient] SET TYPE FILE"""
+compat OLD_SET OLD_TYPE NEW_SET NEW_TYPE, as compat.c prints it. The canonical bytes of a message in JSON: tool.py from-json [--lenient] SET TYPE FILE,
+or by the call that keeps no message: tool.py json-bytes [--lenient] SET TYPE FILE. Canonical bytes of a message that arrives in pieces of SIZE bytes: tool.py
+pieces SIZE [--lenient] SET TYPE FILE; and how many the decoder holds after each: tool.py pending SIZE [--lenient] SET TYPE FILE"""
 import sys
 
 import mabristu
@@ -101,6 +103,15 @@ def whole(message, more):
         yield f"oneof {copy.type.field(member).number if member else 0}\n"
 
 
+def pieces(decoder, name, size, is_pending):
+    """What is held after each piece of a file, and the canonical bytes."""
+    with open(name, "rb") as file:
+        while piece := file.read(size):
+            decoder.feed(piece)
+            yield f"{decoder.pending}\n" if is_pending else ""
+    yield decoder.finish().encode().hex() + "\n"
+
+
 def printed(command, *words):
     """What a command prints, a part at a time."""
     if command == "short":
@@ -131,6 +142,10 @@ def printed(command, *words):
         message = mabristu.Pool(read(set_name))[type_name].decode(read(name))
         yield from [change(message, word) for word in changes]
         yield message.encode().hex() + "\n"
+    elif command in ("pieces", "pending"):
+        size, *options, set_name, type_name, name = words
+        decoder = mabristu.Pool(read(set_name), lenient="--lenient" in options)[type_name].decoder()
+        yield from pieces(decoder, name, int(size), command == "pending")
     elif command == "omitted":
         yield f"{mabristu.Pool(read(words[0]), lenient=True).left_out}\n"
     elif command == "find":
@@ -170,6 +185,8 @@ def printed(command, *words):
             yield found.decode(read(name)).to_json() + "\n"
         elif command == "from-json":
             yield found.from_json(read(name), lenient="--lenient" in options).encode()
+        elif command == "json-bytes":
+            yield found.canonical_from_json(read(name), lenient="--lenient" in options)
         else:
             yield from frames(found, name)
 

@@ -5,7 +5,9 @@
 //! place a line: tool read [--lenient] SET TYPE FILE, as read.c prints it. The scalar at a path of field numbers, such as 3.1: tool find [--lenient] SET TYPE
 //! FILE PATH. What a set declares: tool types [--lenient] SET. Changes of a message, and its bytes: tool change SET TYPE FILE CHANGE.., as change.c says.
 //! A copy of a message with more bytes decoded onto it: tool whole SET TYPE FILE MORE, as whole.c prints it. What differs between two types: tool compat
-//! OLD_SET OLD_TYPE NEW_SET NEW_TYPE, as compat.c prints it. The canonical bytes of a message in JSON: tool from-json [--lenient] SET TYPE FILE
+//! OLD_SET OLD_TYPE NEW_SET NEW_TYPE, as compat.c prints it. The canonical bytes of a message in JSON: tool from-json [--lenient] SET TYPE FILE,
+//! or by the call that keeps no message: tool json-bytes [--lenient] SET TYPE FILE. Canonical bytes of a message that arrives in pieces of SIZE bytes: tool
+//! pieces SIZE [--lenient] SET TYPE FILE; and how many the decoder holds after each: tool pending SIZE [--lenient] SET TYPE FILE
 mod changes;
 mod files;
 mod values;
@@ -79,6 +81,28 @@ fn whole(message: &Message, more: &[u8]) -> Result<(), Failure> {
     Ok(())
 }
 
+/// The canonical bytes of a message in JSON, by way of the message or without.
+fn json_bytes(found: &MessageType, command: &str, json: &[u8], lenient: bool) -> Result<Vec<u8>, Error> {
+    match (command, lenient) {
+        ("from-json", false) => found.from_json(json)?.encode(),
+        ("from-json", true) => found.from_json_lenient(json)?.encode(),
+        (_, false) => found.canonical_from_json(json),
+        (_, true) => found.canonical_from_json_lenient(json),
+    }
+}
+
+/// What is held after each piece, and the canonical bytes.
+fn pieces(found: &MessageType, bytes: &[u8], size: usize, is_pending: bool) -> Result<(), Failure> {
+    let mut decoder = found.decoder().map_err(refused)?;
+    for piece in bytes.chunks(size) {
+        decoder.feed(piece).map_err(refused)?;
+        if is_pending {
+            print(format!("{}\n", decoder.pending()).as_bytes())?;
+        }
+    }
+    print(&hexadecimal(&decoder.finish().and_then(|message| message.encode()).map_err(refused)?))
+}
+
 fn run(words: &[&str]) -> Result<(), Failure> {
     let of_set = |error| failure(error, "set ");
     if let ["short", name] = words {
@@ -133,13 +157,18 @@ fn run(words: &[&str]) -> Result<(), Failure> {
         let pool = if options.is_empty() { Pool::link(&set) } else { Pool::link_lenient(&set) };
         return print(values::found(&message_type(&pool.map_err(of_set)?, name)?, &read(file)?, path)?.as_bytes());
     }
-    if let ["from-json", options @ .., set, name, file] = words {
+    if let [command @ ("from-json" | "json-bytes"), options @ .., set, name, file] = words {
         let set = read(set)?;
         let pool = if options.is_empty() { Pool::link(&set) } else { Pool::link_lenient(&set) };
         let found = message_type(&pool.map_err(of_set)?, name)?;
-        let json = read(file)?;
-        let message = if options.is_empty() { found.from_json(json) } else { found.from_json_lenient(json) };
-        return print(&message.and_then(|message| message.encode()).map_err(refused)?);
+        return print(&json_bytes(&found, command, &read(file)?, !options.is_empty()).map_err(refused)?);
+    }
+    if let [command @ ("pieces" | "pending"), size, options @ .., set, name, file] = words {
+        let set = read(set)?;
+        let pool = if options.is_empty() { Pool::link(&set) } else { Pool::link_lenient(&set) };
+        let found = message_type(&pool.map_err(of_set)?, name)?;
+        let size = size.parse().map_err(|_| (format!("no size: {size}"), 2))?;
+        return pieces(&found, &read(file)?, size, *command == "pending");
     }
     let (command, pool, name, file) = match words {
         [command, "--lenient", set, name, file] => (command, Pool::link_lenient(&read(set)?), name, file),
