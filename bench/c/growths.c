@@ -54,7 +54,7 @@ struct outputs {
     struct mb_enum enum_report;
     struct mb_file file_report;
     uint8_t text[256], out[4096];
-    size_t size;
+    size_t size, count;
     uint32_t type, detail, numbers[16];
     struct mb_difference differences[16];
     int32_t number;
@@ -62,6 +62,7 @@ struct outputs {
 
 static struct mb_pool pool, other, old_pool;
 static struct mb_message held, made, second;
+static struct mb_decoder decoder;
 static uint32_t type;
 static struct mb_bytes set, message, frame, name, source, lenient, source_name = {(const uint8_t *)"a.proto", 7};
 
@@ -141,6 +142,53 @@ static uint32_t message_from_json_cut(struct outputs *outputs)
 {
     return mb_message_from_json(&pool, type, (const uint8_t *)json_text, sizeof json_text - 2, false, &made, &outputs->size);
 }
+static uint32_t from_json(struct outputs *outputs)
+{
+    return mb_from_json(&pool, type, (const uint8_t *)json_text, sizeof json_text - 1, false, OUT, &outputs->count);
+}
+static uint32_t from_json_cut(struct outputs *outputs)
+{
+    return mb_from_json(&pool, type, (const uint8_t *)json_text, sizeof json_text - 2, false, OUT, &outputs->count);
+}
+/* Makes a call on a decoder that has received so many bytes of the message with ample memory. If it gives the message, or answers another than MB_DONE,
+ * the decoder has to be finished, and else it must not be: or this answers 99. */
+static uint32_t on_decoder(size_t len, uint32_t (*call)(struct outputs *), struct outputs *outputs)
+{
+    static struct outputs none;
+    size_t held_bytes = 1;
+    long given = granted, made_before = asked;
+    granted = 1 << 30;
+    uint32_t answer = mb_decoder_new(&pool, type, LIMITS, &decoder);
+    if (answer == MB_DONE)
+        answer = mb_decoder_feed(&decoder, message.at, len, &none.fault, none.path, 0);
+    granted = given;
+    asked = made_before;
+    uint32_t called = call(outputs);
+    made_before = asked;
+    granted = 1 << 30;
+    bool is_finished = mb_decoder_feed(&decoder, NULL, 0, &none.fault, none.path, 0) == MB_FINISHED &&
+                       mb_decoder_finish(&decoder, &second, &none.fault, none.path, 0) == MB_FINISHED &&
+                       mb_decoder_pending(&decoder, &held_bytes) == MB_DONE && held_bytes == 0;
+    mb_decoder_free(&decoder);
+    asked = made_before;
+    return answer != MB_DONE || is_finished != (called != MB_DONE || made.full) ? 99 : called;
+}
+static uint32_t feed_rest(struct outputs *outputs)
+{
+    size_t len = message.len / 2;
+    return mb_decoder_feed(&decoder, message.at + len, message.len - len, FAULT);
+}
+static uint32_t feed_all(struct outputs *outputs) { return mb_decoder_feed(&decoder, message.at, message.len, FAULT); }
+static uint32_t feed_bad(struct outputs *outputs) { return mb_decoder_feed(&decoder, (const uint8_t *)"\x0f", 1, FAULT); }
+static uint32_t finish(struct outputs *outputs) { return mb_decoder_finish(&decoder, &made, FAULT); }
+static uint32_t pending(struct outputs *outputs) { return mb_decoder_pending(&decoder, &outputs->size); }
+static uint32_t decoder_new(struct outputs *outputs) { (void)outputs; return mb_decoder_new(&pool, type, LIMITS, &decoder); }
+static uint32_t decoder_feed(struct outputs *outputs) { return on_decoder(0, feed_all, outputs); }
+static uint32_t decoder_feed_rest(struct outputs *outputs) { return on_decoder(message.len / 2, feed_rest, outputs); }
+static uint32_t decoder_feed_bad(struct outputs *outputs) { return on_decoder(message.len, feed_bad, outputs); }
+static uint32_t decoder_finish(struct outputs *outputs) { return on_decoder(message.len, finish, outputs); }
+static uint32_t decoder_finish_cut(struct outputs *outputs) { return on_decoder(message.len - 1, finish, outputs); }
+static uint32_t decoder_pending(struct outputs *outputs) { return on_decoder(message.len - 1, pending, outputs); }
 /* The discount of spring, in the message in examples/. */
 static const struct mb_value entry[] = {{MB_FIELD, 4}, {MB_STRING, 0}}, article[] = {{MB_FIELD, 3}, {MB_INDEX, 1}, {MB_FIELD, 1}};
 static const struct mb_bytes spring = {(const uint8_t *)"spring", 6};
@@ -255,7 +303,11 @@ static const struct { const char *name; uint32_t (*call)(struct outputs *outputs
     {"mb_pool_compile_lenient", compile_lenient, MB_DONE}, {"mb_pool_compile_lenient of a cut source", compile_lenient_cut, 65},
     {"mb_cause_name", cause_name, MB_DONE}, {"mb_cause_name of no cause", no_cause_name, MB_ABSENT},
     {"mb_message_json", message_json, MB_DONE},
+    {"mb_decoder_new", decoder_new, MB_DONE}, {"mb_decoder_feed", decoder_feed, MB_DONE}, {"mb_decoder_feed of the rest", decoder_feed_rest, MB_DONE},
+    {"mb_decoder_feed of what is no message", decoder_feed_bad, MB_FAULT}, {"mb_decoder_finish", decoder_finish, MB_DONE},
+    {"mb_decoder_finish of a cut message", decoder_finish_cut, MB_FAULT}, {"mb_decoder_pending", decoder_pending, MB_DONE},
     {"mb_message_from_json", message_from_json, MB_DONE}, {"mb_message_from_json of a cut text", message_from_json_cut, MB_JSON_UNEXPECTED_END},
+    {"mb_from_json", from_json, MB_DONE}, {"mb_from_json of a cut text", from_json_cut, MB_JSON_UNEXPECTED_END},
     {"mb_message_get", message_get, MB_DONE}, {"mb_message_get of no place", message_get_bad, MB_BAD_PLACE},
     {"mb_message_read", message_read, MB_DONE}, {"mb_message_fields", message_fields, MB_DONE},
     {"mb_message_key", message_key, MB_DONE}, {"mb_message_key of no key", message_no_key, MB_ABSENT},
@@ -269,7 +321,7 @@ static const struct { const char *name; uint32_t (*call)(struct outputs *outputs
     {"mb_message_merge", message_merge, MB_DONE}, {"mb_message_merge of a cut message", message_merge_cut, MB_FAULT},
     {"mb_find", find_address, MB_DONE}, {"mb_find in a cut message", find_address_cut, MB_FAULT},
 };
-#define OF_SHOP 26
+#define OF_SHOP 28
 
 static struct mb_bytes read_file(const char *path)
 {
@@ -319,6 +371,7 @@ static int wrong_calls(bool is_built, bool is_shop)
             tried = asked;
             granted = 1 << 30;
             mb_pool_free(&other);
+            mb_decoder_free(&decoder);
             mb_message_free(&made);
             mb_message_free(&held);
             mb_message_free(&second);

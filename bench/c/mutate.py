@@ -59,9 +59,9 @@ def main(program, seconds="60", seed="7"):
     message, shop, source = read("shop_order.bin"), read("shop.set"), read("shop.proto")
     frame = bytes([len(message)]) + message
     while time.time() < end:
-        kind = chosen.choice(["message", "message", "stream", "set", "source"])
+        kind = chosen.choice(["message", "message", "pieces", "stream", "set", "source"])
         files = {"shop.set": shop, "message": message, "stream": 2 * frame + b"\0" + frame, "shop.proto": source}
-        changed = {"set": "shop.set", "source": "shop.proto"}.get(kind, kind)
+        changed = {"set": "shop.set", "source": "shop.proto", "pieces": "message"}.get(kind, kind)
         files[changed] = mutated(files[changed], chosen)
         for name, data in files.items():
             with open(name, "wb") as it:
@@ -70,6 +70,8 @@ def main(program, seconds="60", seed="7"):
             pair = ["compile", ".", "shop.proto"], ["compile", ".", "/dev/null", "shop.proto"]
         elif kind == "stream":
             pair = 2 * (["frames", "shop.set", "shop.Order", "stream"],)
+        elif kind == "pieces":
+            pair = ["pieces", str(chosen.randrange(1, 20)), "shop.set", "shop.Order", "message"], ["canon", "shop.set", "shop.Order", "message"]
         else:
             pair = 2 * ([chosen.choice(["check", "show", "canon"]), "shop.set", "shop.Order", "message"],)
         told, wanted = by_library(pair[0]), by_pbtool(program, pair[1])

@@ -129,6 +129,22 @@ static uint32_t merge(void)
     mb_message_free(&message);
     return answer;
 }
+/* Decodes the input in pieces of a size. */
+static uint32_t decode_pieces(size_t piece)
+{
+    struct mb_decoder decoder = {0};
+    struct mb_message message = {0};
+    uint32_t answer = mb_decoder_new(&pool, type, MB_MAX_BYTES, MB_MAX_DEPTH, &decoder);
+    for (size_t at = 0; answer == MB_DONE && at < input_len; at += piece)
+        answer = mb_decoder_feed(&decoder, input + at, input_len - at < piece ? input_len - at : piece, FAULT);
+    if (answer == MB_DONE)
+        answer = mb_decoder_finish(&decoder, &message, FAULT);
+    mb_decoder_free(&decoder);
+    mb_message_free(&message);
+    return answer;
+}
+static uint32_t one_piece(void) { return decode_pieces(MOST); }
+static uint32_t pieces(void) { return decode_pieces(100); }
 static uint32_t check_and_show(void)
 {
     check();
@@ -139,6 +155,7 @@ static uint32_t check_and_show(void)
 static const struct call { const char *name; uint32_t (*call)(void); double whole, refused; } calls[] = {
     {"mb_raw_check", raw_check, 1, 2}, {"mb_raw_short", raw_short, 1, 1}, {"mb_check", check, 1, 3}, {"mb_check of more than the limit", check_most, 1, 3},
     {"mb_frames", frames, 1, 4}, {"mb_show", show, 2, 3}, {"mb_message_merge", merge, 2, 6}, {"mb_canon", canon, 4, 6}, {"mb_message_decode", decode, 4, 6},
+    {"mb_decoder_feed of one piece", one_piece, 2, 6}, {"mb_decoder_feed of pieces of 100 bytes", pieces, 2, 6},
     {"mb_find of a number", find_number, 1, 5}, {"mb_find of a string", find_string, 1, 5}, {"mb_find of a member of a oneof", find_member, 1, 5},
     {"mb_find of a string in messages", find_inside, 1, 5},
 };

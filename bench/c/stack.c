@@ -86,23 +86,58 @@ static uint32_t copy_held(void) { return on_message(copy_one); }
 static uint32_t fields[MB_MAX_STEPS];
 static size_t steps;
 static uint32_t json_one(struct mb_message *message) { return mb_message_json(message, false, true, OUT, fields, MB_MAX_STEPS, &steps); }
+/* Decodes bytes in pieces of a size, and frees the message. */
+static uint32_t decode_pieces(const uint8_t *bytes, size_t len, size_t piece)
+{
+    struct mb_decoder decoder = {0};
+    struct mb_message message = {0};
+    uint32_t answer = mb_decoder_new(&pool, type, LIMITS, &decoder);
+    for (size_t at = 0; answer == MB_DONE && at < len; at += piece)
+        answer = mb_decoder_feed(&decoder, bytes + at, len - at < piece ? len - at : piece, FAULT);
+    if (answer == MB_DONE)
+        answer = mb_decoder_pending(&decoder, &size);
+    if (answer == MB_DONE)
+        answer = mb_decoder_finish(&decoder, &message, FAULT);
+    mb_decoder_free(&decoder);
+    mb_message_free(&message);
+    return answer;
+}
+static uint32_t pieces_turned(void) { return decode_pieces(turned, turned_len, 1); }
+static uint32_t piece_turned(void) { return decode_pieces(turned, turned_len, turned_len); }
+static uint32_t pieces_cut_inside(void) { return decode_pieces(cut, cut_len, 1); }
+static uint32_t pieces_nested(void) { return decode_pieces(nested, nested_len, 1); }
+/* Frees a decoder in which all maps are open. */
+static uint32_t drop_open(void)
+{
+    struct mb_decoder decoder = {0};
+    uint32_t answer = mb_decoder_new(&pool, type, LIMITS, &decoder);
+    if (answer == MB_DONE)
+        answer = mb_decoder_feed(&decoder, lone, lone_len - 1, FAULT);
+    mb_decoder_free(&decoder);
+    return answer;
+}
 /* Reads JSON of objects in one another, 100 at most, of which a message in a map is two. */
-static uint32_t read_json(const char *front, const char *back, int count)
+static uint32_t read_json(const char *front, const char *back, int count, bool is_held)
 {
     static char json[1 << 12];
     struct mb_message message = {0};
+    size_t byte;
     char *at = json;
     for (int i = 0; i < count; i++)
         at += sprintf(at, "%s", front);
     at += sprintf(at, "{}");
     for (int i = 0; i < count; i++)
         at += sprintf(at, "%s", back);
-    uint32_t answer = mb_message_from_json(&pool, type, (const uint8_t *)json, (size_t)(at - json), false, &message, &size);
+    const uint8_t *bytes = (const uint8_t *)json;
+    uint32_t answer = is_held ? mb_message_from_json(&pool, type, bytes, (size_t)(at - json), false, &message, &byte)
+                              : mb_from_json(&pool, type, bytes, (size_t)(at - json), false, OUT, &byte);
     mb_message_free(&message);
     return answer;
 }
-static uint32_t read_messages(void) { return read_json("{\"a\":", "}", 99); }
-static uint32_t read_maps(void) { return read_json("{\"m\":{\"z\":", "}}", 49); }
+static uint32_t read_messages(void) { return read_json("{\"a\":", "}", 99, true); }
+static uint32_t read_maps(void) { return read_json("{\"m\":{\"z\":", "}}", 49, true); }
+static uint32_t messages_of_json(void) { return read_json("{\"a\":", "}", 99, false); }
+static uint32_t maps_of_json(void) { return read_json("{\"m\":{\"z\":", "}}", 49, false); }
 static uint32_t frame_held(void) { return on_message(frame_one); }
 static uint32_t encode_held(void) { return on_message(encode_one); }
 static uint32_t count_held(void) { return on_message(count_one); }
@@ -233,6 +268,12 @@ static const struct { const char *name; uint32_t (*call)(void); } calls[] = {
     {"mb_compat_witness of what breaks nothing", witness}, {"mb_cause_name", cause_name},
     {"mb_message_decode of turned maps, mb_message_json and mb_message_free", json_held},
     {"mb_message_from_json of messages, and mb_message_free", read_messages}, {"mb_message_from_json of maps, and mb_message_free", read_maps},
+    {"mb_from_json of messages", messages_of_json}, {"mb_from_json of maps", maps_of_json},
+    {"mb_decoder_feed of turned maps byte by byte, mb_decoder_finish, and mb_message_free", pieces_turned},
+    {"mb_decoder_feed of turned maps in one piece, mb_decoder_finish, and mb_message_free", piece_turned},
+    {"mb_decoder_feed byte by byte of lone entries that are cut off inside", pieces_cut_inside},
+    {"mb_decoder_feed of messages byte by byte, mb_decoder_finish, and mb_message_free", pieces_nested},
+    {"mb_decoder_free of lone entries that are open", drop_open},
     {"mb_message_decode of turned maps, mb_message_get and mb_message_free", get_held},
     {"mb_message_decode of turned maps, mb_message_fields and mb_message_free", fields_held},
     {"mb_message_decode of turned maps, mb_message_key and mb_message_free", key_held},
