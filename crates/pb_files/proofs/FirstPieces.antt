@@ -5,7 +5,7 @@ use Rattle.std.specs.Io.KnownBytes.{Consumes, IsAtEnd}
 use Rattle.std.proofs.lemmas.List.{take_all, take_at, take-take, take-append-drop}
 use Rattle.std.proofs.lemmas.Bool.{cases_lt}
 use Rattle.pb_files.specs.Answer.{Answer, device_failed}
-use Rattle.pb_files.specs.Known.{IsReadFrom, OfInput}
+use Rattle.pb_files.specs.Known.{IsReadFrom}
 use Rattle.pb_files.specs.Refusal.{Refuses}
 use Rattle.pb_files.specs.declared.report.Refusal.{Refusal}
 use Rattle.pb_files.specs.declared.report.Refusal.TheVariants as refusal

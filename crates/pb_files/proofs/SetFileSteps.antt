@@ -2,7 +2,6 @@
 use Rattle.std.proofs.Common.{◌≡◌, ◌≤◌, ◌+◌, ◌⊎◌, ℕ, List, [], ◌++◌, length, Bool, true, Option, Some, refl}
 use Rattle.std.specs.Borrow.{Bor}
 use Rattle.std.specs.Io.KnownBytes.{Consumes}
-use Rattle.std.specs.Prelude.{map}
 use Rattle.pb_wire.specs.Limits.{full}
 use Rattle.pb_decl.specs.Decls.{DeclaredFile}
 use Rattle.pb_descr.specs.Lenient.{IsLenientSetOf}

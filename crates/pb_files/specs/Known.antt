@@ -1,5 +1,5 @@
 -- What is known of files and inputs: where they are honest, and where they do not fail.
-use Rattle.std.specs.Prelude.{◌≡◌, ℕ, List, Bool, true, Option, None, Some, option_map, take}
+use Rattle.std.specs.Prelude.{◌≡◌, ℕ, List, Bool, true, Option, Some, option_map, take}
 use Rattle.pb_files.specs.FileMap.{FileMap, IsHonest}
 
 -- this holds of the file at a path, where the files are honest

@@ -15,4 +15,4 @@ pub use memory::MemFiles;
 pub use pieces::{FIRST_PIECE, is_cut, read_on};
 pub use reading::{open_file, read_file};
 pub use report::{OUTPUT, Refusal};
-pub use set_file::{LinkedSet, Reading, find_type, pool_at};
+pub use set_file::{LinkedSet, NamedType, Reading, find_named_type, find_type, pool_at};

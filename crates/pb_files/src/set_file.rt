@@ -4,6 +4,7 @@ ghost use Rattle.std.specs.Prelude.{◌≡◌, ◌+◌, ◌++◌, ◌<◌, true,
 ghost use Rattle.pb_wire.specs.Limits.{full};
 ghost use Rattle.pb_decl.specs.View.{file_view};
 ghost use Rattle.pb_descr.specs.Omitted.{omitted_view};
+ghost use Rattle.pb_json_names.specs.Names.{AreNamesOf};
 ghost use Rattle.pb_files.specs.FileMap.{KeepsMap};
 ghost use Rattle.pb_files.specs.Known.{IsReadFrom, IsReadOf};
 ghost use Rattle.pb_files.specs.Refusal.{KeepsFailures, Refuses};
@@ -14,6 +15,8 @@ use crate::pieces::{FIRST_PIECE, is_cut, read_on};
 use crate::reading::open_file;
 use crate::report::Refusal;
 use pb_descr::{DescrError, LenientSet, Omitted, read_set, read_set_lenient};
+use pb_json::JsonNames;
+use pb_json_names::names_of_set;
 use pb_link::link;
 use pb_schema::{MessageId, Pool};
 use pb_wire::{Input, Limits};
@@ -33,6 +36,49 @@ pub enum Reading {
 pub struct LinkedSet {
     pub pool: Pool,
     pub omitted: Vec<Omitted>,
+}
+
+/// A pool, a type of it, and the names that its set gives to fields in JSON.
+#[derive(Drop)]
+pub struct NamedType {
+    pub pool: Pool,
+    pub message_type: MessageId,
+    pub names: JsonNames,
+}
+
+/// The pool of the set at a path, the type of a name in it, and the names that the set gives to fields in JSON.
+pub fn find_named_type<'a, F: Files>(
+    alloc: Global,
+    reading: Reading,
+    path: &'a str,
+    type_name: &'a str,
+    files: &mut F,
+) -> Result<NamedType, Refusal<'a>>
+    ensures found { IfOk result (λ p. (set : List ℕ) × IsReadOf F.contents F.is_steady files.old (full.bytes + 1) path.entry.now (Some set)
+        × HasType reading type_name.entry.now set p.pool p.message_type.0 × AreNamesOf p.pool set p.names) }
+    ensures within { IfOk result (λ p. p.message_type.0 < length p.pool.messages) }
+    ensures refused { IfErr result (Refuses (λ a. (content : Option (List ℕ))
+        × IsReadOf F.contents F.is_steady files.old (full.bytes + 1) path.entry.now content
+        × NoType reading type_name.entry.now path.entry.now content a)) }
+    ensures kept { KeepsFailures F.failures files.old files.new result }
+    ensures steady { F.is_steady files.old ≡ true → F.is_steady files.new ≡ true }
+    ensures unfailing { F.is_steady files.old ≡ true → F.failures files.new ≡ F.failures files.old }
+    ensures takes_writes { F.takes_writes files.old ≡ true → F.takes_writes files.new ≡ true }
+    ensures files { KeepsMap (F.contents files.old) (F.contents files.new) }
+{
+    let set = read_set_file(alloc, path, files)?;
+    let linked = link_set(alloc, reading, &set)?;
+    match linked.pool.message_by_name(type_name) {
+        Some(message_type) => {
+            let names = names_of_set(alloc, &linked.pool, &set)?;
+            Ok(NamedType {
+                pool: linked.pool,
+                message_type,
+                names,
+            })
+        }
+        None => Err(Refusal::UnknownType(type_name)),
+    }
 }
 
 /// The pool of the set at a path and the type of a name in it.

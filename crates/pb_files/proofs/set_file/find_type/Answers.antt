@@ -1,4 +1,4 @@
-use Rattle.std.proofs.Common.{◌≡◌, ◌+◌, ℕ, List, Option, Some, sym, refl}
+use Rattle.std.proofs.Common.{◌+◌, ℕ, List, Option, Some, sym, refl}
 use Rattle.std.proofs.lemmas.Result.{err_from_is_err_and}
 use Rattle.pb_wire.specs.Limits.{full}
 use Rattle.pb_files.specs.Known.{IsReadOf}
