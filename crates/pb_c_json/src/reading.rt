@@ -3,14 +3,15 @@
 ghost use Rattle.std.specs.Prelude.{◌≡◌, ◌≢◌, ◌<◌, ◌≤◌, ◌^◌, ◌↔◌, ◌⊎◌, length, Err, IfOk, IfErr, IsErrAnd, MatchResult};
 ghost use Rattle.pb_value.specs.Canon.{canon_bytes};
 ghost use Rattle.pb_value.specs.Data.{Message};
-ghost use Rattle.pb_json_read.specs.Answers.{IsReadAs, IsRefusedWith};
+ghost use Rattle.pb_json_read.specs.Answers.{IsReadBy, IsRefusedBy};
 ghost use Rattle.pb_json_read.specs.Faults.{out_of_memory};
 ghost use Rattle.pb_json_read.specs.declared.error.JsonReadError.{JsonReadError as ReadError};
 ghost use Rattle.pb_c_json.specs.Numbers.{read_number};
 ghost use Rattle.pb_c_json.specs.Reading.{ReportsRead, rules_of};
 
 use pb_c_reports::{MEMORY, NO_TYPE, TOO_LARGE, canonical_of, type_numbered};
-use pb_json_read::{JsonReadCause, JsonReadError, JsonRules, read_json};
+use pb_json::JsonNames;
+use pb_json_read::{JsonReadCause, JsonReadError, JsonRules, read_json_by};
 use pb_schema::Pool;
 use pb_value::DynamicMessage;
 use std::alloc::Global;
@@ -77,64 +78,66 @@ fn report(error: JsonReadError, byte: &mut usize) -> u32
     number_of(error.cause)
 }
 
-/// The message of a JSON text, by its type's number. Where there is none, the error is what a call answers.
+/// The message of a JSON text, by its type's number and by the names that fields are given. Where there is none, the error is what a call answers.
 pub fn read_text<'p>(
     alloc: Global,
     pool: &'p Pool,
     number: u32,
     json: &[u8],
     rules: JsonRules,
+    names: &JsonNames,
     byte: &mut usize,
 ) -> Result<DynamicMessage<'p>, u32>
     ensures of_type { IfOk result (λ m. (m.pool ≡ pool.now) × (m.kind ≡ number)) }
-    ensures read { IfOk result (λ m. IsReadAs pool.now rules number json.now m.body) }
+    ensures read { IfOk result (λ m. IsReadBy pool.now rules names.now number json.now m.body) }
     ensures fault { IfErr result (λ a. a ≢ NO_TYPE → a ≢ MEMORY
-        → (e : ReadError) × IsRefusedWith pool.now rules number json.now e × ReportsRead e a byte.new) }
+        → (e : ReadError) × IsRefusedBy pool.now rules names.now number json.now e × ReportsRead e a byte.new) }
     ensures done { IfOk result (λ m. byte.new ≡ byte.old) }
     ensures unreported { IfErr result (λ a. (a ≡ NO_TYPE) ⊎ (a ≡ MEMORY) → byte.new ≡ byte.old) }
     ensures no_type { result ≡ Err NO_TYPE ↔ length pool.now.messages ≤ number }
     ensures answers { IfErr result (λ a. (a ≡ NO_TYPE) ⊎ (a ≡ MEMORY) ⊎ (101 ≤ a)) }
-    ensures accepted { number < length pool.now.messages → (v : Message) → IsReadAs pool.now rules number json.now v
+    ensures accepted { number < length pool.now.messages → (v : Message) → IsReadBy pool.now rules names.now number json.now v
         → MatchResult result (λ m. m.body ≡ v) (λ a. a ≡ MEMORY) }
-    ensures refused { number < length pool.now.messages → (e : ReadError) → IsRefusedWith pool.now rules number json.now e
+    ensures refused { number < length pool.now.messages → (e : ReadError) → IsRefusedBy pool.now rules names.now number json.now e
         → IsErrAnd result (λ a. ReportsRead e a byte.new ⊎ (a ≡ MEMORY)) }
 {
     let Some(message_type) = type_numbered(pool, number) else {
         return Err(NO_TYPE);
     };
-    match read_json(alloc, pool, message_type, json, rules) {
+    match read_json_by(alloc, pool, message_type, json, rules, names) {
         Ok(message) => Ok(message),
         Err(error) => Err(report(error, byte)),
     }
 }
 
-/// The canonical bytes of the message of a JSON text, by its type's number. Where there are none, the error is what a call answers.
+/// The canonical bytes of the message that `read_text` reads. Where there are none, the error is what a call answers.
 pub fn canonical_text(
     alloc: Global,
     pool: &Pool,
     number: u32,
     json: &[u8],
     rules: JsonRules,
+    names: &JsonNames,
     byte: &mut usize,
 ) -> Result<Vec<u8>, u32>
-    ensures read { IfOk result (λ b. (v : Message) × IsReadAs pool.now rules number json.now v
+    ensures read { IfOk result (λ b. (v : Message) × IsReadBy pool.now rules names.now number json.now v
         × (b.items ≡ canon_bytes pool.now number v) × (length (canon_bytes pool.now number v) < 2 ^ 31)) }
-    ensures too_large { result ≡ Err TOO_LARGE → (v : Message) × IsReadAs pool.now rules number json.now v
+    ensures too_large { result ≡ Err TOO_LARGE → (v : Message) × IsReadBy pool.now rules names.now number json.now v
         × (2 ^ 31 ≤ length (canon_bytes pool.now number v)) }
     ensures fault { IfErr result (λ a. a ≢ NO_TYPE → a ≢ TOO_LARGE → a ≢ MEMORY
-        → (e : ReadError) × IsRefusedWith pool.now rules number json.now e × ReportsRead e a byte.new) }
+        → (e : ReadError) × IsRefusedBy pool.now rules names.now number json.now e × ReportsRead e a byte.new) }
     ensures done { IfOk result (λ b. byte.new ≡ byte.old) }
     ensures unreported { IfErr result (λ a. (a ≡ NO_TYPE) ⊎ (a ≡ TOO_LARGE) ⊎ (a ≡ MEMORY) → byte.new ≡ byte.old) }
     ensures no_type { result ≡ Err NO_TYPE ↔ length pool.now.messages ≤ number }
     ensures answers { IfErr result (λ a. (a ≡ NO_TYPE) ⊎ (a ≡ TOO_LARGE) ⊎ (a ≡ MEMORY) ⊎ (101 ≤ a)) }
-    ensures accepted { number < length pool.now.messages → (v : Message) → IsReadAs pool.now rules number json.now v
+    ensures accepted { number < length pool.now.messages → (v : Message) → IsReadBy pool.now rules names.now number json.now v
         → length (canon_bytes pool.now number v) < 2 ^ 31 → MatchResult result (λ b. b.items ≡ canon_bytes pool.now number v) (λ a. a ≡ MEMORY) }
-    ensures oversized { number < length pool.now.messages → (v : Message) → IsReadAs pool.now rules number json.now v
+    ensures oversized { number < length pool.now.messages → (v : Message) → IsReadBy pool.now rules names.now number json.now v
         → 2 ^ 31 ≤ length (canon_bytes pool.now number v) → IsErrAnd result (λ a. (a ≡ TOO_LARGE) ⊎ (a ≡ MEMORY)) }
-    ensures refused { number < length pool.now.messages → (e : ReadError) → IsRefusedWith pool.now rules number json.now e
+    ensures refused { number < length pool.now.messages → (e : ReadError) → IsRefusedBy pool.now rules names.now number json.now e
         → IsErrAnd result (λ a. ReportsRead e a byte.new ⊎ (a ≡ MEMORY)) }
 {
-    match read_text(alloc, pool, number, json, rules, byte) {
+    match read_text(alloc, pool, number, json, rules, names, byte) {
         Ok(message) => match canonical_of(&message) {
             Ok(bytes) => Ok(bytes),
             Err(answer) => Err(answer),

@@ -7,7 +7,7 @@ ghost use Rattle.pb_c_json.specs.Numbers.{json_number};
 ghost use Rattle.pb_c_json.specs.Writing.{IsJsonLaid, RefusesAs, json_form};
 
 use pb_c_reports::{DONE, MEMORY, write_out};
-use pb_json::{JsonCause, JsonError, JsonForm, Layout, Names, Refusal, write_json};
+use pb_json::{JsonCause, JsonError, JsonForm, JsonNames, Layout, Names, Refusal, write_json};
 use pb_value::DynamicMessage;
 use pb_wire::{FailurePlan, MemOutput};
 
@@ -22,15 +22,15 @@ const JSON_BAD_PATH: u32 = 94;
 
 const JSON_UNSUPPORTED: u32 = 95;
 
-/// The form that two flags name.
-pub fn form_of(declared_names: bool, indented: bool) -> JsonForm<'static>
-    ensures { result ≡ json_form declared_names indented }
+/// The form that two flags name. Fields have the names that they are given, unless they have the declared ones.
+pub fn form_of(declared_names: bool, indented: bool, names: &JsonNames) -> JsonForm<'_>
+    ensures { result ≡ json_form declared_names indented names.entry }
 {
     JsonForm {
         names: if declared_names {
             Names::Declared
         } else {
-            Names::LowerCamel
+            Names::Given(names)
         },
         layout: if indented {
             Layout::Indented

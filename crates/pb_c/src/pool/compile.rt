@@ -7,7 +7,8 @@ ghost use Rattle.pb_schema.specs.Types.{Types};
 ghost use Rattle.pb_tokens.specs.Fault.{out_of_memory};
 ghost use Rattle.pb_source.specs.Source.{HasFaultIn, IsSourceIn};
 ghost use Rattle.pb_source.specs.declared.reading.Reading.TheVariants.{Lenient, Strict};
-ghost use Rattle.pb_c.specs.Held.{types_held};
+ghost use Rattle.pb_c.specs.Held.{HoldsNames, types_held};
+ghost use Rattle.pb_json.specs.Given.{none_given};
 ghost use Rattle.pb_c.specs.PoolFault.{PoolFault, TellsRefusal};
 ghost use Rattle.pb_c.specs.SourcePool.{AreNames, AreNamed, AreRead, AreSources, IsLinkedAs, IsUnparsed, SourceFails, SourcesFail, SourcesMake};
 
@@ -178,6 +179,7 @@ fn compile_sources(
     text: &mut [u8],
 ) -> u32
     ensures made { result ≡ DONE → (ts : Types) × SourcesMake grammar names.now texts.now ts × (types_held pool.new ≡ Some ts) }
+    ensures no_names { result ≡ DONE → HoldsNames (λ ts names. names ≡ none_given) pool.new }
     ensures left { result ≢ DONE → types_held pool.new ≡ None }
     ensures bad_name { result ≡ BAD_NAME ↔ ¬ AreNamed names.now texts.now }
     ensures refused { AreNamed names.now texts.now → result ≢ DONE → result ≢ MEMORY → (w : PoolFault) × SourcesFail grammar names.now texts.now w
@@ -189,12 +191,13 @@ fn compile_sources(
         return BAD_NAME;
     }
     match read_all(alloc, grammar, names, texts) {
-        Ok(files) => link_files(alloc, &files, pool, refusal, text),
+        Ok(files) => link_files(alloc, &files, None, pool, refusal, text),
         Err(error) => tell_source(&error, refusal),
     }
 }
 
 /// Links the types of sources of proto3 into a handle, in place of what it held: a name for each source, as imports name it, and its text.
+/// Its pool holds no names of fields in JSON: the option `json_name` of a source is passed over.
 ///
 /// Answers DONE; BAD_NAME where there are not as many names as texts, or a name is not UTF-8; the number of a cause, 50 or from 61 to 69,
 /// with the source's index and the byte in the refusal, for the first source that is none; the number of a cause, from 71 to 89, with the
@@ -210,6 +213,7 @@ pub extern "C" fn mb_pool_compile(
     text: &mut [u8],
 ) -> u32
     ensures made { result ≡ DONE → (ts : Types) × SourcesMake Strict names.now texts.now ts × (types_held pool.new ≡ Some ts) }
+    ensures no_names { result ≡ DONE → HoldsNames (λ ts names. names ≡ none_given) pool.new }
     ensures left { result ≢ DONE → types_held pool.new ≡ None }
     ensures bad_name { result ≡ BAD_NAME ↔ ¬ AreNamed names.now texts.now }
     ensures refused { AreNamed names.now texts.now → result ≢ DONE → result ≢ MEMORY → (w : PoolFault) × SourcesFail Strict names.now texts.now w
@@ -241,6 +245,7 @@ pub extern "C" fn mb_pool_compile_lenient(
     text: &mut [u8],
 ) -> u32
     ensures made { result ≡ DONE → (ts : Types) × SourcesMake Lenient names.now texts.now ts × (types_held pool.new ≡ Some ts) }
+    ensures no_names { result ≡ DONE → HoldsNames (λ ts names. names ≡ none_given) pool.new }
     ensures left { result ≢ DONE → types_held pool.new ≡ None }
     ensures bad_name { result ≡ BAD_NAME ↔ ¬ AreNamed names.now texts.now }
     ensures refused { AreNamed names.now texts.now → result ≢ DONE → result ≢ MEMORY → (w : PoolFault) × SourcesFail Lenient names.now texts.now w

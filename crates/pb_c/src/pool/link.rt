@@ -2,7 +2,8 @@
 
 ghost use Rattle.std.specs.Prelude.{◌≡◌, ◌≢◌, ◌≤◌, ◌⊎◌};
 ghost use Rattle.pb_schema.specs.Types.{Types};
-ghost use Rattle.pb_c.specs.Held.{types_held};
+ghost use Rattle.pb_c.specs.Held.{HoldsNames, types_held};
+ghost use Rattle.pb_json_names.specs.Names.{AreNamesOf};
 ghost use Rattle.pb_c.specs.PoolFault.{PoolFault, TellsFault};
 ghost use Rattle.pb_c.specs.SetPool.{SetFails, SetMakes};
 
@@ -24,6 +25,7 @@ fn link_set(
     text: &mut [u8],
 ) -> u32
     ensures made { result ≡ DONE → (ts : Types) × SetMakes set.now ts × (types_held pool.new ≡ Some ts) }
+    ensures names { result ≡ DONE → HoldsNames (λ ts names. AreNamesOf ts set.now names) pool.new }
     ensures left { result ≢ DONE → types_held pool.new ≡ None }
     ensures refused { result ≢ DONE → result ≢ MEMORY → (w : PoolFault) × SetFails set.now w
         × TellsFault w result fault.old fault.new path.old path.new refusal.old refusal.new text.old text.new }
@@ -32,13 +34,13 @@ fn link_set(
 {
     let _ = take(alloc, pool);
     match read_set(alloc, set) {
-        Ok(files) => link_files(alloc, &files, pool, refusal, text),
+        Ok(files) => link_files(alloc, &files, Some(set), pool, refusal, text),
         Err(error) => tell_set(&error, fault, path, refusal),
     }
 }
 
 /// Links the types of a descriptor set into a handle, in place of what it held: the bytes are the text of a
-/// `google.protobuf.FileDescriptorSet`, of at most 2^31 - 1 bytes.
+/// `google.protobuf.FileDescriptorSet`, of at most 2^31 - 1 bytes. The handle holds the names too that the set gives to fields in JSON (`json_name`).
 ///
 /// Answers DONE; FAULT with the fault, and as many of the at most 201 steps of its path as the buffer holds, where the bytes are no text of a set; the number
 /// of a cause, from 52 to 60, with the file's index in the refusal, where a file is not read; the number of a cause, from 71 to 89, with
@@ -55,6 +57,7 @@ pub extern "C" fn mb_pool_link(
     text: &mut [u8],
 ) -> u32
     ensures made { result ≡ DONE → (ts : Types) × SetMakes set.now ts × (types_held pool.new ≡ Some ts) }
+    ensures names { result ≡ DONE → HoldsNames (λ ts names. AreNamesOf ts set.now names) pool.new }
     ensures left { result ≢ DONE → types_held pool.new ≡ None }
     ensures refused { result ≢ DONE → result ≢ MEMORY → (w : PoolFault) × SetFails set.now w
         × TellsFault w result fault.old fault.new path.old path.new refusal.old refusal.new text.old text.new }

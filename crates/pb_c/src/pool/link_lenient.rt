@@ -2,7 +2,8 @@
 
 ghost use Rattle.std.specs.Prelude.{◌≡◌, ◌≢◌, ◌≤◌, ◌⊎◌};
 ghost use Rattle.pb_schema.specs.Types.{Types};
-ghost use Rattle.pb_c.specs.Held.{types_held};
+ghost use Rattle.pb_c.specs.Held.{HoldsNames, types_held};
+ghost use Rattle.pb_json_names.specs.Names.{AreNamesOf};
 ghost use Rattle.pb_c.specs.PoolFault.{PoolFault, TellsFault};
 ghost use Rattle.pb_c.specs.SetPool.{LeavesOut, LenientSetFails, LenientSetMakes};
 
@@ -25,6 +26,7 @@ fn link_leniently(
     text: &mut [u8],
 ) -> u32
     ensures made { result ≡ DONE → (ts : Types) × LenientSetMakes set.now ts × (types_held pool.new ≡ Some ts) }
+    ensures names { result ≡ DONE → HoldsNames (λ ts names. AreNamesOf ts set.now names) pool.new }
     ensures left_out { result ≡ DONE → LeavesOut set.now left_out.new }
     ensures left { result ≢ DONE → types_held pool.new ≡ None }
     ensures uncounted { result ≢ DONE → left_out.new ≡ left_out.old }
@@ -36,7 +38,7 @@ fn link_leniently(
     let _ = take(alloc, pool);
     match read_set_lenient(alloc, set) {
         Ok(read) => {
-            let answer = link_files(alloc, &read.files, pool, refusal, text);
+            let answer = link_files(alloc, &read.files, Some(set), pool, refusal, text);
             if answer == DONE {
                 *left_out = read.omitted.len();
             }
@@ -63,6 +65,7 @@ pub extern "C" fn mb_pool_link_lenient(
     text: &mut [u8],
 ) -> u32
     ensures made { result ≡ DONE → (ts : Types) × LenientSetMakes set.now ts × (types_held pool.new ≡ Some ts) }
+    ensures names { result ≡ DONE → HoldsNames (λ ts names. AreNamesOf ts set.now names) pool.new }
     ensures left_out { result ≡ DONE → LeavesOut set.now left_out.new }
     ensures left { result ≢ DONE → types_held pool.new ≡ None }
     ensures uncounted { result ≢ DONE → left_out.new ≡ left_out.old }

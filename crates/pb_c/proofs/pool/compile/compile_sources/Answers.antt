@@ -14,6 +14,14 @@ returns-in-Err-clause-made c done =
     t.ensures.told (λ is. t.ensures.memory is) in
     absurd (kept.0 done)
 
+pub returns-in-Err-clause-no_names : goal.returns-in-Err-clause-no_names
+returns-in-Err-clause-no_names c done =
+    let a = c.args in let t = c.tell_source in
+    let kept = source_kept t.result (t.new.refusal ≡ a.refusal.now) c.in-Err.error
+    (λ i byte c. (text : List ℕ) → TellsRefusal (PoolFault.in_source i byte c) t.result a.refusal.now t.new.refusal text text) (λ i byte c told. (told []).answer_is)
+    t.ensures.told (λ is. t.ensures.memory is) in
+    absurd (kept.0 done)
+
 pub returns-in-Err-clause-bad_name : goal.returns-in-Err-clause-bad_name
 returns-in-Err-clause-bad_name c =
     let a = c.args in let t = c.tell_source in

@@ -13,6 +13,13 @@ returns-in-Err-clause-made c done =
     c.tell_set.ensures.refusal (λ is. ((c.tell_set.ensures.memory is).0, (c.tell_set.ensures.memory is).1)) in
     absurd (kept.0 done)
 
+pub returns-in-Err-clause-names : goal.returns-in-Err-clause-names
+returns-in-Err-clause-names c done =
+    let kept = set_kept c.tell_set.result (c.tell_set.new.fault ≡ c.args.fault.now) c.in-Err.error
+    (λ w. (text : List ℕ) → TellsRefusal w c.tell_set.result c.args.refusal.now c.tell_set.new.refusal text text) (λ w told. (told c.args.text.now).answer_is)
+    c.tell_set.ensures.refusal (λ is. ((c.tell_set.ensures.memory is).0, (c.tell_set.ensures.memory is).1)) in
+    absurd (kept.0 done)
+
 pub returns-in-Err-clause-refused : goal.returns-in-Err-clause-refused
 returns-in-Err-clause-refused c not_done not_memory =
     let a = c.args in let t = c.tell_set.new in
