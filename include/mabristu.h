@@ -110,7 +110,8 @@ struct mb_refusal {
 };
 
 /* Links the types of a descriptor set, as `protoc --include_imports --descriptor_set_out` or `pbtool compile` writes one, into a handle, in place of
- * what it held. Where the answer is another than MB_DONE the handle holds nothing. For MB_FAULT (the bytes are no set) the fault is reported, for 52 to
+ * what it held, and keeps the names that the set gives fields in JSON (the option json_name). Where the answer is another than MB_DONE the handle holds
+ * nothing. For MB_FAULT (the bytes are no set) the fault is reported, for 52 to
  * 60 (a file of the set) and for 71 to 89 (linking) the refusal, with as much of its text as the buffer holds: the two names. */
 uint32_t mb_pool_link(const uint8_t *set, size_t set_len, struct mb_pool *pool,
                       struct mb_fault *fault, struct mb_step *path, size_t path_len,
@@ -131,7 +132,7 @@ struct mb_bytes {
 
 /* Links the types of sources of proto3. The name of each (as imports name it) is in one list, and the source itself at the same index of the other. What
  * a source imports has to be among them, google/protobuf/timestamp.proto too. As mb_pool_link, but that for 50 and 61 to 69 (a source) the refusal has
- * the source's index and the byte. */
+ * the source's index and the byte, and that an option json_name is left out: link the compiled set where such names are wanted in JSON. */
 uint32_t mb_pool_compile(const struct mb_bytes *names, size_t names_len, const struct mb_bytes *texts, size_t texts_len, struct mb_pool *pool,
                          struct mb_refusal *refusal, uint8_t *text, size_t text_len);
 
@@ -378,11 +379,12 @@ uint32_t mb_message_show_decimal(struct mb_message *message, uint8_t *out, size_
  * range; a path of a FieldMask would not be read back; an Any that holds no message of a type of its pool. */
 enum { MB_JSON_NO_KIND = 91, MB_JSON_NOT_FINITE = 92, MB_JSON_OUT_OF_RANGE = 93, MB_JSON_BAD_PATH = 94, MB_JSON_UNSUPPORTED = 95 };
 
-/* Writes the message as JSON (ProtoJSON), as mb_message_encode writes its bytes: with field names as declared or in lowerCamelCase, and indented or on
- * one line. For MB_JSON_NO_KIND and the numbers after it, the first part that has no JSON form is reported: the numbers of the fields that lead to it,
- * as many as the buffer holds, and how many there are. */
-uint32_t mb_message_json(struct mb_message *message, bool declared_names, bool indented, uint8_t *out, size_t out_len, size_t *size,
-                         uint32_t *path, size_t path_len, size_t *steps);
+/* Writes the message as JSON (ProtoJSON), as mb_message_encode writes its bytes, indented or on one line. Field names are as declared; or else each is
+ * the one that the pool's set gives the field, and in lowerCamelCase where it gives none. The pool is that of the message's type, or another one of the
+ * same set: a message holds its types, but not these names. For MB_JSON_NO_KIND and the numbers after it, the first part that has no JSON form is
+ * reported: the numbers of the fields that lead to it, as many as the buffer holds, and how many there are. */
+uint32_t mb_message_json(struct mb_pool *pool, struct mb_message *message, bool declared_names, bool indented,
+                         uint8_t *out, size_t out_len, size_t *size, uint32_t *path, size_t path_len, size_t *steps);
 
 /* Why a JSON text is not read as a message: at a byte no JSON text goes on so, or the bytes only begin one; they are not UTF-8; the text, or the message,
  * nests too deep; a member has a name that no field has; a second one names the same field or key, or sets a field of the same oneof; a name is no key of
@@ -392,9 +394,10 @@ enum {
     MB_JSON_REPEATED_NAME = 106, MB_JSON_SECOND_MEMBER = 107, MB_JSON_BAD_KEY = 108, MB_JSON_BAD_VALUE = 109
 };
 
-/* Reads a message from JSON (ProtoJSON), in place of what its handle held. It holds the types too, so the pool may be freed before. `lenient` passes
- * over members that no field has, and over strings that an enum does not declare. For MB_JSON_UNEXPECTED_BYTE and the numbers after it, the byte is
- * reported where what is refused begins, counted from 0; the message is changed for MB_DONE alone. */
+/* Reads a message from JSON (ProtoJSON), in place of what its handle held. It holds the types too, so the pool may be freed before. A member is the
+ * field that the pool's set gives its name, or else that which is declared by it, or else that which is given none and has it in lowerCamelCase.
+ * `lenient` passes over members that no field has, and over strings that an enum does not declare. For MB_JSON_UNEXPECTED_BYTE and the numbers after
+ * it, the byte is reported where what is refused begins, counted from 0; the message is changed for MB_DONE alone. */
 uint32_t mb_message_from_json(struct mb_pool *pool, uint32_t type, const uint8_t *json, size_t json_len, bool lenient, struct mb_message *message,
                               size_t *byte);
 

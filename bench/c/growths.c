@@ -77,6 +77,9 @@ static uint32_t raw_short(struct outputs *outputs) { return mb_raw_short(message
 static uint32_t raw_short_cut(struct outputs *outputs) { return mb_raw_short(message.at, message.len - 1, LIMITS, OUT, FAULT); }
 static uint32_t link(struct outputs *outputs) { return mb_pool_link(set.at, set.len, &other, FAULT, REFUSAL); }
 static uint32_t link_cut(struct outputs *outputs) { return mb_pool_link(set.at, set.len - 1, &other, FAULT, REFUSAL); }
+/* Of the file a: package p; message T { string display_name = 1 [json_name = "label"]; } */
+static const uint8_t names_set[] = "\n0\n\1a\x12\1p\" \n\1T\x12\x1b\n\x0c" "display_name\x18\1 \1(\tR\5labelb\6proto3";
+static uint32_t link_names(struct outputs *outputs) { return mb_pool_link(names_set, sizeof names_set - 1, &other, FAULT, REFUSAL); }
 static uint32_t link_lenient(struct outputs *outputs) { return mb_pool_link_lenient(lenient.at, lenient.len, &other, &outputs->size, FAULT, REFUSAL); }
 static uint32_t link_lenient_cut(struct outputs *outputs) { return mb_pool_link_lenient(lenient.at, lenient.len - 1, &other, &outputs->size, FAULT, REFUSAL); }
 static uint32_t compile(struct outputs *outputs) { return mb_pool_compile(&source_name, 1, &source, 1, &other, REFUSAL); }
@@ -131,7 +134,7 @@ static uint32_t message_json(struct outputs *outputs)
 {
     static uint32_t fields[MB_MAX_STEPS];
     size_t steps;
-    return mb_message_json(&held, false, true, OUT, fields, MB_MAX_STEPS, &steps);
+    return mb_message_json(&pool, &held, false, true, OUT, fields, MB_MAX_STEPS, &steps);
 }
 static const char json_text[] = "{\"placedOn\":\"x\",\"lines\":[{\"pieces\":1}],\"discounts\":{\"a\":1}}";
 static uint32_t message_from_json(struct outputs *outputs)
@@ -282,6 +285,7 @@ static const struct { const char *name; uint32_t (*call)(struct outputs *outputs
     {"mb_raw_check", raw_check, MB_DONE}, {"mb_raw_check of a cut message", raw_check_cut, MB_FAULT},
     {"mb_raw_short", raw_short, MB_DONE}, {"mb_raw_short of a cut message", raw_short_cut, MB_FAULT},
     {"mb_pool_link", link, MB_DONE}, {"mb_pool_link of a cut set", link_cut, MB_FAULT},
+    {"mb_pool_link of a set that gives names", link_names, MB_DONE},
     {"mb_pool_link_lenient", link_lenient, MB_DONE}, {"mb_pool_link_lenient of a cut set", link_lenient_cut, MB_FAULT},
     {"mb_pool_compile", compile, MB_DONE}, {"mb_pool_compile of a cut source", compile_cut, 65},
     {"mb_pool_share", share, MB_DONE}, {"mb_pool_type", find, MB_DONE},

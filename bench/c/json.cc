@@ -55,7 +55,7 @@ struct Pair {
 
 static bool write_here(Pair& pair, size_t& size) {
     size_t steps;
-    return mb_message_json(&pair.here, false, false, out.data(), out.size(), &size, fields, MB_MAX_STEPS, &steps) == MB_DONE && size <= out.size();
+    return mb_message_json(&types, &pair.here, false, false, out.data(), out.size(), &size, fields, MB_MAX_STEPS, &steps) == MB_DONE && size <= out.size();
 }
 
 static bool read_here(const std::string& json, mb_message* message) {

@@ -85,7 +85,7 @@ static uint32_t merge_held(void) { return on_message(merge_one); }
 static uint32_t copy_held(void) { return on_message(copy_one); }
 static uint32_t fields[MB_MAX_STEPS];
 static size_t steps;
-static uint32_t json_one(struct mb_message *message) { return mb_message_json(message, false, true, OUT, fields, MB_MAX_STEPS, &steps); }
+static uint32_t json_one(struct mb_message *message) { return mb_message_json(&pool, message, false, true, OUT, fields, MB_MAX_STEPS, &steps); }
 /* Decodes bytes in pieces of a size, and frees the message. */
 static uint32_t decode_pieces(const uint8_t *bytes, size_t len, size_t piece)
 {

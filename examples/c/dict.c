@@ -4,15 +4,15 @@
 
 #include <stdlib.h>
 
-/* The JSON of a message, in a buffer that grows where it was too small. */
-static uint32_t to_json(struct mb_message *message, struct buffer *json)
+/* The JSON of a message, with names as declared, in a buffer that grows where it was too small. */
+static uint32_t to_json(struct mb_pool *pool, struct mb_message *message, struct buffer *json)
 {
     uint32_t path[MB_MAX_STEPS], answer;
     size_t steps;
 
     do {
         grow(json, json->len + 256);
-        answer = mb_message_json(message, true, true, json->bytes, json->room, &json->len, path, MB_MAX_STEPS, &steps);
+        answer = mb_message_json(pool, message, true, true, json->bytes, json->room, &json->len, path, MB_MAX_STEPS, &steps);
     } while (answer == MB_DONE && json->len > json->room);
     if (answer >= MB_JSON_NO_KIND && answer <= MB_JSON_UNSUPPORTED)
         print_json_refusal(answer, path, steps);
@@ -35,7 +35,7 @@ int main(int argc, char **argv)
     uint32_t answer = mb_message_decode(&pool, type, file.bytes, file.len, MB_MAX_BYTES, MB_MAX_DEPTH, &message, &report.fault, report.path, MB_MAX_STEPS);
     if (answer == MB_DONE)
         answer = mb_message_drop_unknown(&message, NULL, 0, NULL, 0);
-    if (answer == MB_DONE && (answer = to_json(&message, &json)) == MB_DONE) {
+    if (answer == MB_DONE && (answer = to_json(&pool, &message, &json)) == MB_DONE) {
         fwrite(json.bytes, 1, json.len, stdout);
         printf("\n");
         answer = mb_message_from_json(&pool, type, json.bytes, json.len, false, &again, &byte);

@@ -72,14 +72,14 @@ static uint32_t list(struct mb_message *message, struct buffer *out, bool is_dec
 }
 
 /* Prints the JSON on one line, or says on standard error which part of the message has none. */
-static uint32_t print_json(struct mb_message *message, struct buffer *out)
+static uint32_t print_json(struct mb_pool *pool, struct mb_message *message, struct buffer *out)
 {
     uint32_t path[MB_MAX_STEPS], answer;
     size_t steps;
 
     do {
         grow(out, out->len + 256);
-        answer = mb_message_json(message, false, false, out->bytes, out->room, &out->len, path, MB_MAX_STEPS, &steps);
+        answer = mb_message_json(pool, message, false, false, out->bytes, out->room, &out->len, path, MB_MAX_STEPS, &steps);
     } while (answer == MB_DONE && out->len > out->room);
     if (answer == MB_DONE) {
         fwrite(out->bytes, 1, out->len, stdout);
@@ -152,10 +152,10 @@ static uint32_t write_json_bytes(const char *name, struct mb_pool *pool, uint32_
     return answer;
 }
 
-static uint32_t print_message(const char *word, struct mb_message *message, struct buffer *out)
+static uint32_t print_message(const char *word, struct mb_pool *pool, struct mb_message *message, struct buffer *out)
 {
     if (strcmp(word, "json") == 0)
-        return print_json(message, out);
+        return print_json(pool, message, out);
     if (strcmp(word, "from-json") == 0)
         return write_bytes(message, out);
     if (strcmp(word, "list") == 0 || strcmp(word, "decimal") == 0)
@@ -191,9 +191,12 @@ int main(int argc, char **argv)
         answer = from_json(argv[3], &pool, type, is_lenient, &message);
     else if (answer == MB_DONE)
         answer = make_message(word, argv[3], &pool, type, &message, &report);
-    mb_pool_free(&pool);
+    /* A message keeps its types, but not the names that JSON is written by. */
+    if (strcmp(word, "json") != 0)
+        mb_pool_free(&pool);
     if (answer == MB_DONE && !is_written)
-        answer = print_message(word, &message, &out);
+        answer = print_message(word, &pool, &message, &out);
+    mb_pool_free(&pool);
     free(out.bytes);
     mb_message_free(&message);
     if (answer >= MB_JSON_NO_KIND && answer <= MB_JSON_BAD_VALUE)

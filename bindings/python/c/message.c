@@ -64,8 +64,9 @@ struct mb_message *whole(PyObject *self)
     return NULL;
 }
 
-/* JSON: its form, and the part of a message that has none. */
+/* JSON: the pool whose names it is written by, its form, and the part of a message that has none. */
 struct json {
+    struct mb_pool *pool;
     bool declared_names, indented;
     uint32_t path[MB_MAX_STEPS];
     size_t steps;
@@ -94,7 +95,7 @@ static PyObject *refuse_output(uint32_t answer, const struct json *json)
 
 static uint32_t write_json(struct mb_message *handle, struct json *json, uint8_t *out, size_t room, size_t *size)
 {
-    return mb_message_json(handle, json->declared_names, json->indented, out, room, size, json->path, MB_MAX_STEPS, &json->steps);
+    return mb_message_json(json->pool, handle, json->declared_names, json->indented, out, room, size, json->path, MB_MAX_STEPS, &json->steps);
 }
 
 static uint32_t write_listing(struct mb_message *handle, struct json *json, uint8_t *out, size_t room, size_t *size)
@@ -200,8 +201,8 @@ static PyObject *message_listing(PyObject *self, PyObject *args, PyObject *kwarg
 }
 
 PyDoc_STRVAR(to_json_doc,
-             "to_json(*, declared_names=False, indent=False)\n--\n\nThe message as JSON (ProtoJSON): with field names in lowerCamelCase or as declared,"
-             " on one line or indented. Refused where a part has no JSON form, as a Timestamp out of its range.");
+             "to_json(*, declared_names=False, indent=False)\n--\n\nThe message as JSON (ProtoJSON), on one line or indented: with field names as declared,"
+             "\nor else as the set gives them by json_name, or in lowerCamelCase. Refused where a part has no JSON form, as a Timestamp out of its range.");
 
 static PyObject *message_to_json(PyObject *self, PyObject *args, PyObject *kwargs)
 {
@@ -209,8 +210,9 @@ static PyObject *message_to_json(PyObject *self, PyObject *args, PyObject *kwarg
     int declared_names = 0, indent = 0;
     struct json json = {0};
 
-    if (!PyArg_ParseTupleAndKeywords(args, kwargs, "|$pp:to_json", names, &declared_names, &indent))
+    if (!PyArg_ParseTupleAndKeywords(args, kwargs, "|$pp:to_json", names, &declared_names, &indent) || whole(self) == NULL)
         return NULL;
+    json.pool = &((Node *)self)->type->pool->handle;
     json.declared_names = declared_names;
     json.indented = indent;
     return written(self, write_json, &json, as_str);

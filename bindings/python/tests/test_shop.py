@@ -25,6 +25,12 @@ def example(name):
         return it.read()
 
 
+# Of: package names; message Shelf { string display_name = 1 [json_name = "label"]; int32 in_stock = 2;
+# repeated Shelf shelf_below = 3 [json_name = "a \"b\""]; }
+NAMED = (b'\n\x87\x01\n\x0bnames.proto\x12\x05names"i\n\x05Shelf\x12\x1b\n\x0cdisplay_name\x18\x01 \x01(\tR\x05label\x12\x19\n\x08in_stock\x18\x02 \x01'
+         b'(\x05R\x07inStock\x12(\n\x0bshelf_below\x18\x03 \x03(\x0b2\x0c.names.ShelfR\x05a "b"b\x06proto3')
+
+
 def framed(message):
     """A varint of one byte, then the message."""
     return bytes([len(message)]) + message
@@ -73,6 +79,34 @@ class Messages(Shop):
             self.assertEqual((str(refused), refused.byte, refused.cause, refused.number), (f"json byte {byte} cause {cause}", byte, cause, number))
         with self.assertRaises(TypeError):
             self.order.from_json(7)
+
+    def test_json_by_names_of_the_set(self):
+        # The set is what protoc 3.21.12 makes; what is written and read is what json_format of protobuf 4.21.12 has.
+        data = b"\n\x03top\x10\x03\x1a\x05\n\x03low"
+        given = {"label": "top", "inStock": 3, 'a "b"': [{"label": "low"}]}
+        declared = {"display_name": "top", "in_stock": 3, "shelf_below": [{"display_name": "low"}]}
+        in_camel = {"displayName": "top", "inStock": 3, "shelfBelow": [{"displayName": "low"}]}
+        for shelf in (Pool(NAMED)["names.Shelf"], Pool(NAMED, lenient=True)["names.Shelf"]):
+            message = shelf.decode(data)
+            self.assertEqual([json.loads(message.to_json()), json.loads(message.to_json(declared_names=True))], [given, declared])
+            lines = message.copy().to_json(indent=True).split("\n")
+            self.assertEqual(lines[:6], ["{", '  "label": "top",', '  "inStock": 3,', '  "a \\"b\\"": [', "    {", '      "label": "low"'])
+            for read in (given, declared):
+                self.assertEqual([shelf.from_json(json.dumps(read)), shelf.canonical_from_json(json.dumps(read))], [message, data])
+            for text, byte, cause in (('{"displayName":""}', 1, "UnknownName"), ('{"label":"","display_name":""}', 12, "RepeatedName")):
+                for call in (shelf.from_json, shelf.canonical_from_json):
+                    self.assertEqual(str(self.refused(call, text)), f"json byte {byte} cause {cause}")
+            self.assertEqual(shelf.from_json('{"displayName":"","inStock":3}', lenient=True).encode(), b"\x10\x03")
+            rack = shelf.new()
+            rack["shelf_below"].append({"display_name": 2000 * "x"})
+            self.assertEqual(json.loads(rack.to_json()), {'a "b"': [{"label": 2000 * "x"}]})
+            self.assertRaises(TypeError, rack["shelf_below"][0].to_json)
+        # A pool of sources has no such names, and neither has the set that a pool makes.
+        fields = 'string display_name = 1 [json_name = "label"]; int32 in_stock = 2; repeated Shelf shelf_below = 3;'
+        source = f'syntax = "proto3"; package names; message Shelf {{ {fields} }}'
+        for pool in (Pool.of_sources({"names.proto": source}), Pool(Pool(NAMED).to_set())):
+            self.assertEqual(json.loads(pool["names.Shelf"].decode(data).to_json()), in_camel)
+            self.assertEqual(pool["names.Shelf"].canonical_from_json(json.dumps(in_camel)), data)
 
     def test_set_of_a_pool(self):
         again = Pool(self.pool.to_set())

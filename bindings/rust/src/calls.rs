@@ -99,8 +99,8 @@ extern "C" {
         oneof: u32, number: &mut u32) -> u32;
     pub fn mb_message_unknown(message: Message, place: *const Value, place_len: usize, keys: *const Bytes, keys_len: usize,
         out: Out, out_len: usize, size: &mut usize) -> u32;
-    pub fn mb_message_json(message: *mut MessageHandle, declared_names: bool, indented: bool, out: Out, out_len: usize, size: &mut usize,
-        path: *mut u32, path_len: usize, steps: &mut usize) -> u32;
+    pub fn mb_message_json(pool: *mut Handle, message: *mut MessageHandle, declared_names: bool, indented: bool,
+        out: Out, out_len: usize, size: &mut usize, path: *mut u32, path_len: usize, steps: &mut usize) -> u32;
     pub fn mb_message_from_json(pool: *mut Handle, number: u32, json: At, json_len: usize, lenient: bool, message: *mut MessageHandle,
         byte: &mut usize) -> u32;
     pub fn mb_from_json(pool: *mut Handle, number: u32, json: At, json_len: usize, lenient: bool,

@@ -6,7 +6,7 @@ use crate::{calls, Cause, Error, Limits, MessageType};
 use std::cell::UnsafeCell;
 use std::{fmt, ptr};
 
-/// How JSON is written. The default: field names in lowerCamelCase, on one line.
+/// How JSON is written. The default: field names as the set gives them by `json_name`, else in lowerCamelCase, on one line.
 #[derive(Clone, Copy, Debug, Default, PartialEq, Eq)]
 pub struct JsonForm {
     /// Field names as declared.
@@ -104,6 +104,7 @@ impl Message {
             let answer = unsafe {
                 let (at, room, path_at) = (out.as_mut_ptr(), out.len(), path.as_mut_ptr());
                 calls::mb_message_json(
+                    self.message_type.pool.handle(),
                     self.handle(),
                     form.declared_names,
                     form.indented,

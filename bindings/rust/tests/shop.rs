@@ -41,6 +41,49 @@ fn writes_json() {
     assert_eq!(error.to_string(), "json path 3 cause OutOfRange");
 }
 
+/// A set of `message Shelf { string display_name = 1 [json_name = "label"]; int32 in_stock = 2; repeated Shelf shelf_below = 3
+/// [json_name = "a \"b\""]; }` in the package names, as protoc 3.21.12 makes it.
+const NAMED: &[u8] = b"\n\x87\x01\n\x0bnames.proto\x12\x05names\"i\n\x05Shelf\x12\x1b\n\x0cdisplay_name\x18\x01 \x01(\tR\x05label\
+\x12\x19\n\x08in_stock\x18\x02 \x01(\x05R\x07inStock\x12(\n\x0bshelf_below\x18\x03 \x03(\x0b2\x0c.names.ShelfR\x05a \"b\"b\x06proto3";
+
+#[test]
+fn names_of_the_set_in_json() {
+    // What is written and read is what json_format of protobuf 4.21.12 has.
+    let bytes = b"\n\x03top\x10\x03\x1a\x05\n\x03low";
+    let given = r#"{"label":"top","inStock":3,"a \"b\"":[{"label":"low"}]}"#;
+    let declared = r#"{"display_name":"top","in_stock":3,"shelf_below":[{"display_name":"low"}]}"#;
+    for pool in [Pool::link(NAMED).unwrap(), Pool::link_lenient(NAMED).unwrap().clone()] {
+        let shelf = pool.message_type("names.Shelf").unwrap();
+        drop(pool);
+        let message = shelf.decode(bytes).unwrap();
+        assert_eq!(message.to_json(JsonForm::default()).unwrap(), given);
+        assert_eq!(message.clone().to_json(JsonForm { declared_names: true, indented: false }).unwrap(), declared);
+        for json in [given, declared] {
+            assert_eq!(shelf.from_json(json).unwrap(), message);
+            assert_eq!(shelf.canonical_from_json(json).unwrap(), bytes);
+        }
+        for (json, line) in [
+            (r#"{"displayName":""}"#, "json byte 1 cause UnknownName"),
+            (r#"{"label":"","display_name":""}"#, "json byte 12 cause RepeatedName"),
+        ] {
+            assert_eq!(shelf.from_json(json).unwrap_err().to_string(), line);
+            assert_eq!(shelf.canonical_from_json(json).unwrap_err().to_string(), line);
+        }
+        let read = shelf.from_json_lenient(r#"{"displayName":"","inStock":3}"#).unwrap();
+        assert_eq!(read.encode().unwrap(), [0x10, 0x03]);
+    }
+    // A pool of sources has no such names, and neither has the set that a pool makes.
+    let source = r#"syntax = "proto3"; package names; message Shelf { string display_name = 1 [json_name = "label"]; }"#;
+    let of_source = Pool::of_sources([("names.proto", source)]).unwrap();
+    for pool in [of_source, Pool::link(&Pool::link(NAMED).unwrap().to_set().unwrap()).unwrap()] {
+        let shelf = pool.message_type("names.Shelf").unwrap();
+        let json = r#"{"displayName":"top"}"#;
+        let message = shelf.from_json(json).unwrap();
+        assert_eq!(message.encode().unwrap(), b"\n\x03top");
+        assert_eq!(message.to_json(JsonForm::default()).unwrap(), json);
+    }
+}
+
 #[test]
 fn reads_json() {
     // What is written of the order is read as the order; names as declared are taken too.
