@@ -48,8 +48,9 @@ pub use pb_find::{ScalarRef, find};
 pub use pb_stream::{DelimitedReader, read_delimited, write_delimited};
 
 // What messages print as, and messages read from JSON.
-pub use pb_json::{JsonCause, JsonError, JsonForm, Layout, Names, Refusal, write_json};
-pub use pb_json_read::{JsonReadCause, JsonReadError, JsonRules, read_json};
+pub use pb_json::{JsonCause, JsonError, JsonForm, JsonNames, Layout, Names, Refusal, write_json};
+pub use pb_json_names::names_of_set;
+pub use pb_json_read::{JsonReadCause, JsonReadError, JsonRules, read_json, read_json_by};
 pub use pb_listing::{
     FloatForm, write_listing, write_message, write_message_as, write_nested, write_types,
 };

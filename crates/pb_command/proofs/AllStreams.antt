@@ -16,8 +16,10 @@ use Rattle.pb_command.specs.Steps.{AllBegunAtPath, AllBegunOf, AllFramesAtPath, 
 use Rattle.pb_files.specs.SetFile.{HasType}
 use Rattle.pb_command.specs.TypeAnswer.{missing, opened}
 use Rattle.pb_output.specs.declared.sink.Sink.{Sink}
+use Rattle.pb_command.specs.declared.shown.Shown.{Shown}
 use Rattle.pb_command.specs.declared.command.FrameForm.{FrameForm}
 use Rattle.pb_command.specs.declared.command.Source.{Source}
+use Rattle.pb_command.specs.SetNames.{IsShownAs}
 use Rattle.pb_files.specs.declared.report.Refusal.{Refusal}
 use Rattle.pb_files.proofs.RefusalLemmas.{by_refusal_any, by_refusal_map}
 use Rattle.pb_files.proofs.KnownLemmas.{of_later, opened_of}
@@ -66,7 +68,7 @@ module _ {D : Type 0} (written : D → Option (List ℕ)) (failures : D → ℕ)
 -- WHAT IS KNOWN OF AN INPUT IS KNOWN OF ITS FILE
 
 module _
-    (K K' : (Option (List ℕ) → Type 0) → Type 0) (more : (P : Option (List ℕ) → Type 0) → K P → K' P) (form : FrameForm) (pool : Types) (m : ℕ) where
+    (K K' : (Option (List ℕ) → Type 0) → Type 0) (more : (P : Option (List ℕ) → Type 0) → K P → K' P) (form : Shown) (pool : Types) (m : ℕ) where
   pub all_by : (path : List ℕ) (a : Answer) → AllFramesBy K form path pool m a → AllFramesBy K' form path pool m a
   all_by path a (all_passed {s} h e) = all_passed (h.0, more (λ content. AllAt content form pool m s) h.1) e
   all_by path a (cut_after {s} {f} h e) = cut_after (h.0, more (λ content. CutAt content form pool m s f) h.1) e
@@ -77,7 +79,7 @@ module _
 
 module _
     {F I : Type 0} (contents : F → Option FileMap) (is_steady : F → Bool) (files : F) (left : I → Option (List ℕ)) (stays : I → Bool) (input : I)
-    (form : FrameForm) (path : List ℕ) (pool : Types) (m : ℕ)
+    (form : Shown) (path : List ℕ) (pool : Types) (m : ℕ)
     (is_opened : OfFiles contents is_steady files path (λ content. IsOpened left content (Some input) × (stays input ≡ true))) where
   -- what holds of the input's bytes holds of the file's
   of_input : (P : Option (List ℕ) → Type 0) → OfInput left stays input P → OfFiles contents is_steady files path P
@@ -93,19 +95,20 @@ module _
 -- FROM THE FILE TO THE SET THAT HAS ITS TYPE
 
 module _
-    {F : Type 0} (contents : F → Option FileMap) (is_steady : F → Bool) (old mid : F) (form : FrameForm) (s : Source) (set : List ℕ) (pool : Types) (m : ℕ)
+    {F : Type 0} (contents : F → Option FileMap) (is_steady : F → Bool) (old mid : F) (asked : FrameForm) (form : Shown) (s : Source) (set : List ℕ) (pool : Types) (m : ℕ)
+    (shows : IsShownAs (IsReadOf contents is_steady old (full.bytes + 1) s.set.now) s pool m asked form)
     (is_read : IsReadOf contents is_steady old (full.bytes + 1) s.set.now (Some set)) (has : HasType s.reading s.type_name.now set pool m)
     (kept : KeepsMap (contents old) (contents mid)) (steady : is_steady old ≡ true → is_steady mid ≡ true) where
   earlier : (P : Option (List ℕ) → Type 0) → OfFiles contents is_steady mid s.file.now P → OfFiles contents is_steady old s.file.now P
   earlier P of = of_later s.file.now P kept steady of
 
-  pub all_of : (a : Answer) → AllFramesAtPath contents is_steady mid form pool m s.file.now a → AllFramesOf contents is_steady old form s a
+  pub all_of : (a : Answer) → AllFramesAtPath contents is_steady mid form pool m s.file.now a → AllFramesOf contents is_steady old asked s a
   all_of a (inl h) = missing is_read has (earlier (λ content. content ≡ None) h.0) h.1
   all_of a (inr h) =
       opened is_read has
-      (all_by (OfFiles contents is_steady mid s.file.now) (OfFiles contents is_steady old s.file.now) earlier form pool m s.file.now a h)
+      (form, shows, all_by (OfFiles contents is_steady mid s.file.now) (OfFiles contents is_steady old s.file.now) earlier form pool m s.file.now a h)
 
-  pub all_begun_of : (text : List ℕ) → AllBegunAtPath contents is_steady mid form pool m s.file.now text → AllBegunOf contents is_steady old form s text
+  pub all_begun_of : (text : List ℕ) → AllBegunAtPath contents is_steady mid form pool m s.file.now text → AllBegunOf contents is_steady old asked s text
   all_begun_of text (inl nothing) = inl nothing
   all_begun_of text (inr h) =
       inr (
@@ -114,5 +117,5 @@ module _
         m,
         is_read,
         has,
-        begun_by (OfFiles contents is_steady mid s.file.now) (OfFiles contents is_steady old s.file.now) earlier form pool m text h,
+        (form, shows, begun_by (OfFiles contents is_steady mid s.file.now) (OfFiles contents is_steady old s.file.now) earlier form pool m text h),
       )

@@ -16,8 +16,10 @@ use Rattle.pb_command.specs.Streaming.{FramesBegunIn, FramesIn, PutsFrames}
 use Rattle.pb_files.specs.SetFile.{HasType}
 use Rattle.pb_command.specs.TypeAnswer.{missing, opened}
 use Rattle.pb_output.specs.declared.sink.Sink.{Sink}
+use Rattle.pb_command.specs.declared.shown.Shown.{Shown}
 use Rattle.pb_command.specs.declared.command.FrameForm.{FrameForm}
 use Rattle.pb_command.specs.declared.command.Source.{Source}
+use Rattle.pb_command.specs.SetNames.{IsShownAs}
 use Rattle.pb_files.specs.declared.report.Refusal.{Refusal}
 use Rattle.pb_files.proofs.RefusalLemmas.{by_refusal_any, by_refusal_map}
 use Rattle.pb_files.proofs.KnownLemmas.{of_later, opened_of}
@@ -27,7 +29,7 @@ use Rattle.pb_output.proofs.SinkLemmas.{finished}
 -- THE LINES GO OUT
 
 module _
-    {D I : Type 0} (written : D → Option (List ℕ)) (failures : D → ℕ) (left : I → Option (List ℕ)) (is_steady : I → Bool) (input : I) (form : FrameForm)
+    {D I : Type 0} (written : D → Option (List ℕ)) (failures : D → ℕ) (left : I → Option (List ℕ)) (is_steady : I → Bool) (input : I) (form : Shown)
     (path : List ℕ) (pool : Types) (m : ℕ) where
   abbrev StreamComes : D → D → Result Unit Refusal → Type 0
   StreamComes start end r =
@@ -82,7 +84,7 @@ module _
 
 module _
     {F I : Type 0} (contents : F → Option FileMap) (is_steady : F → Bool) (files : F) (left : I → Option (List ℕ)) (stays : I → Bool) (input : I)
-    (form : FrameForm) (path : List ℕ) (pool : Types) (m : ℕ)
+    (form : Shown) (path : List ℕ) (pool : Types) (m : ℕ)
     (is_opened : OfFiles contents is_steady files path (λ content. IsOpened left content (Some input) × (stays input ≡ true))) where
   -- what holds of the input's bytes holds of the file's
   of_input : (P : Option (List ℕ) → Type 0) → OfInput left stays input P → OfFiles contents is_steady files path P
@@ -100,19 +102,23 @@ module _
 -- FROM THE FILE TO THE SET THAT HAS ITS TYPE
 
 module _
-    {F : Type 0} (contents : F → Option FileMap) (is_steady : F → Bool) (old mid : F) (form : FrameForm) (s : Source) (set : List ℕ) (pool : Types) (m : ℕ)
+    {F : Type 0} (contents : F → Option FileMap) (is_steady : F → Bool) (old mid : F) (asked : FrameForm) (form : Shown) (s : Source) (set : List ℕ) (pool : Types) (m : ℕ)
+    (shows : IsShownAs (IsReadOf contents is_steady old (full.bytes + 1) s.set.now) s pool m asked form)
     (is_read : IsReadOf contents is_steady old (full.bytes + 1) s.set.now (Some set)) (has : HasType s.reading s.type_name.now set pool m)
     (kept : KeepsMap (contents old) (contents mid)) (steady : is_steady old ≡ true → is_steady mid ≡ true) where
   earlier : (P : Option (List ℕ) → Type 0) → OfFiles contents is_steady mid s.file.now P → OfFiles contents is_steady old s.file.now P
   earlier P of = of_later s.file.now P kept steady of
 
-  pub stream_of : (a : Answer) → StreamAt contents is_steady mid form pool m s.file.now a → StreamOf contents is_steady old form s a
+  pub stream_of : (a : Answer) → StreamAt contents is_steady mid form pool m s.file.now a → StreamOf contents is_steady old asked s a
   stream_of a (inl h) = missing is_read has (earlier (λ content. content ≡ None) h.0) h.1
   stream_of a (inr h) =
-      opened is_read has
-      (frames_map _ _ _ _ _ _ s.file.now pool m a (λ text k. (k.0, earlier (λ content. FramesAt content form pool m text) k.1))
-      (λ count text r k. (k.0, earlier (λ content. RefusedFrameAt content form pool m count text r) k.1)) (λ text k. (k.0, earlier (λ content. ⊥) k.1)) h)
+      opened is_read has (
+        form,
+        shows,
+        frames_map _ _ _ _ _ _ s.file.now pool m a (λ text k. (k.0, earlier (λ content. FramesAt content form pool m text) k.1))
+            (λ count text r k. (k.0, earlier (λ content. RefusedFrameAt content form pool m count text r) k.1)) (λ text k. (k.0, earlier (λ content. ⊥) k.1)) h,
+      )
 
-  pub stream_begun_of : (text : List ℕ) → StreamBegunAt contents is_steady mid form pool m s.file.now text → StreamBegun contents is_steady old form s text
+  pub stream_begun_of : (text : List ℕ) → StreamBegunAt contents is_steady mid form pool m s.file.now text → StreamBegun contents is_steady old asked s text
   stream_begun_of text (inl nothing) = inl nothing
-  stream_begun_of text (inr h) = inr (set, pool, m, is_read, has, h.0, earlier (λ content. FramesBegunAt content form pool m text) h.1)
+  stream_begun_of text (inr h) = inr (set, pool, m, is_read, has, (form, shows, h.0, earlier (λ content. FramesBegunAt content form pool m text) h.1))

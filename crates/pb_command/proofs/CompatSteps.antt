@@ -1,23 +1,20 @@
 -- What `compat` comes to: when its lines are out, over honest files, and over any files.
-use Rattle.std.proofs.Common.{◌≡◌, ◌+◌, ℕ, List, [], Bool, true, false, Option, None, Some, take, refl, sym, ap, inl, inr, subst}
-use Rattle.std.specs.Prelude.{IfSome, Result, Ok, Err, option_map}
+use Rattle.std.proofs.Common.{◌≡◌, ℕ, List, Bool, true, false, Option, None, Some, refl, subst}
+use Rattle.std.specs.Prelude.{IfSome, Result, option_map}
 use Rattle.std.specs.Borrow.{Bor}
-use Rattle.pb_wire.specs.Limits.{full}
 use Rattle.pb_schema.specs.Types.{Types}
-use Rattle.pb_descr.specs.Omitted.{OmittedView}
 use Rattle.pb_files.specs.Answer.{Answer}
-use Rattle.pb_files.specs.FileMap.{FileMap, IsHonest, KeepsMap}
-use Rattle.pb_files.specs.SetFile.{HasPool, NoPool}
-use Rattle.pb_files.specs.Answer.{done, stopped}
+use Rattle.pb_files.specs.FileMap.{FileMap, IsHonest}
+use Rattle.pb_files.specs.SetFile.{NoPool}
+use Rattle.pb_files.specs.Answer.{done}
 use Rattle.pb_files.specs.Refusal.{Refuses}
 use Rattle.pb_files.specs.declared.report.Refusal.{Refusal}
-use Rattle.pb_files.specs.declared.report.Refusal.TheVariants.{Breaks, UnknownType}
-use Rattle.pb_output.specs.Sending.{Cut, Sent}
+use Rattle.pb_files.specs.declared.report.Refusal.TheVariants.{UnknownType}
+use Rattle.pb_output.specs.Sending.{Cut}
 use Rattle.pb_verdict.specs.Verdict.{LacksType}
 use Rattle.pb_verdict.specs.declared.verdict.Readers.{Readers}
-use Rattle.pb_verdict.specs.declared.verdict.Verdict.{Verdict}
-use Rattle.pb_command.specs.CompatAnswer.{AnswersBreak, CompatAnswer, ComparesTo, compared, lines_answer, no_new, no_old, unknown, verdict_answer}
-use Rattle.pb_command.specs.Steps.{Comes, CompatOf, IsAt, IsNothing, NoFile}
+use Rattle.pb_command.specs.CompatAnswer.{AnswersBreak, CompatAnswer, ComparesTo, compared, lines_answer, no_new, no_old, unknown}
+use Rattle.pb_command.specs.Steps.{Comes, CompatOf, IsNothing, NoFile}
 use Rattle.pb_command.specs.declared.command.Comparison.{Comparison}
 use Rattle.pb_command.proofs.SetWhole.{no_pool_whole, pool_at}
 

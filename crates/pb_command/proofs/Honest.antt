@@ -1,5 +1,5 @@
 -- Right answers of a command: over honest files those of their bytes, and over any files of the form of one.
-use Rattle.std.proofs.Common.{◌≡◌, ◌+◌, ℕ, List, [], Bool, Option, None, Some, refl, sym, inl, inr, subst}
+use Rattle.std.proofs.Common.{◌≡◌, ◌+◌, ℕ, List, Bool, Option, None, refl, sym, inl, inr, subst}
 use Rattle.std.specs.Prelude.{option_map}
 use Rattle.pb_wire.specs.Fault.{Fault}
 use Rattle.pb_wire.specs.Limits.{full}
@@ -8,8 +8,8 @@ use Rattle.pb_value.specs.Data.{Message}
 use Rattle.pb_files.specs.Answer.{Answer}
 use Rattle.pb_command.specs.Answers.{Answers, AnyAnswers, AnyBegins, Begins, canonical_form}
 use Rattle.pb_files.specs.FileMap.{FileMap, IsHonest}
-use Rattle.pb_command.specs.AllFrames.{AllFramesAnswer, ArePassed, Passed, all_passed, cut_after, failed_after, none_passed, none_there}
-use Rattle.pb_command.specs.FramesAnswer.{FrameRefusal, FramesAnswer, AreFrames, none, ended, frame_refused, input_failed}
+use Rattle.pb_command.specs.AllFrames.{AllFramesAnswer, Passed, all_passed, cut_after, failed_after}
+use Rattle.pb_command.specs.FramesAnswer.{FrameRefusal, FramesAnswer, ended, frame_refused, input_failed}
 use Rattle.pb_command.specs.MessageAnswer.{MessageAnswer, faulty, read}
 use Rattle.pb_command.specs.RawAnswer.{RawAnswer}
 use Rattle.pb_files.specs.Known.{IsReadOf, OfFiles}
@@ -28,7 +28,11 @@ use Rattle.pb_command.specs.declared.form.Form.TheVariants as form
 use Rattle.pb_command.proofs.FromJsonSteps.{json_any, json_whole}
 use Rattle.pb_command.specs.FromJsonAnswer.{rules_by}
 use Rattle.pb_command.proofs.Judged.{answer_whole}
-use Rattle.pb_command.proofs.SetWhole.{no_pool_whole, no_type_whole, pool_at, type_at}
+use Rattle.pb_command.proofs.NameSteps.{names_any, shown_map}
+use Rattle.pb_command.specs.SetNames.{GivesNames}
+use Rattle.pb_command.specs.declared.command.Source.{Source}
+use Rattle.pb_json.specs.Given.{NamesGiven}
+use Rattle.pb_command.proofs.SetWhole.{named_at, no_pool_whole, no_type_whole, pool_at, type_at}
 use Rattle.pb_command.proofs.SourceSteps.{compile_of_any, compile_of_map}
 use Rattle.pb_command.specs.CompileAnswer.{places_of, texts_of}
 
@@ -84,6 +88,12 @@ module _ {F : Type 0} (contents : F → Option FileMap) (is_steady : F → Bool)
     type_of_map C C' reading name set_path path a more (opened {set} {pool} {m} is has comes) =
         let at = type_at reading name set pool m (map set_path) (is map honest) has in opened at.1 at.2 (more pool m comes)
 
+    -- the names of the first bytes of a set are those of the set
+    names_of_map : (s : Source) (pool : Types) (m : ℕ) (names : NamesGiven)
+        → GivesNames (IsReadOf contents is_steady files (full.bytes + 1) s.set.now) s pool m names → GivesNames (λ o. o ≡ map s.set.now) s pool m names
+    names_of_map s pool m names (set, is, has, are) =
+        let at = named_at s.reading s.type_name.now set pool m names (map s.set.now) (is map honest) has are in (at.0, at.1, at.2, at.3)
+
     types_of_map :
         (reading : Reading) (path : List ℕ) (name : Option (List ℕ)) (a : Answer)
         → TypesAnswer (IsReadOf contents is_steady files (full.bytes + 1) path) reading path name a → TypesAnswer (λ o. o ≡ map path) reading path name a
@@ -108,17 +118,33 @@ module _ {F : Type 0} (contents : F → Option FileMap) (is_steady : F → Bool)
         (λ pool m. message_map _ _ _ _ (canonical_form to) pool m a (λ f known. known map honest) (λ v known. known.1 map honest)) h
     right_of_map (Json layout source) a h =
         type_of_map _ _ source.reading source.type_name.now source.set.now source.file.now a
-        (λ pool m. message_map _ _ _ _ (form.Json layout) pool m a (λ f known. known map honest) (λ v known. known.1 map honest)) h
+        (λ pool m x. (
+          x.0,
+          names_of_map source pool m x.0.now x.1,
+          message_map _ _ _ _ (form.Json layout x.0) pool m a (λ f known. known map honest) (λ v known. known.1 map honest) x.2,
+        )) h
     right_of_map (FromJson out source) a h =
         type_of_map _ _ source.reading source.type_name.now source.set.now source.file.now a
-        (λ pool m. json_whole (rules_by source.reading) out.now pool m (map source.file.now) a (λ b known. known map honest)) h
+        (λ pool m x. (
+          x.0,
+          names_of_map source pool m x.0 x.1,
+          json_whole (rules_by source.reading) x.0 out.now pool m (map source.file.now) a (λ b known. known map honest) x.2,
+        )) h
     right_of_map (Frames form source) a h =
         type_of_map _ _ source.reading source.type_name.now source.set.now source.file.now a
-        (λ pool m. frames_map _ _ _ _ _ _ source.file.now pool m a (λ text known. known.1 map honest) (λ count text r known. known.1 map honest)
-        (λ text known. known.1 map honest)) h
+        (λ pool m x. (
+          x.0,
+          shown_map (IsReadOf contents is_steady files (full.bytes + 1) source.set.now) (λ content. content ≡ map source.set.now) source pool m (names_of_map source pool m) form x.0 x.1,
+          frames_map _ _ _ _ _ _ source.file.now pool m a (λ text known. known.1 map honest) (λ count text r known. known.1 map honest)
+              (λ text known. known.1 map honest) x.2,
+        )) h
     right_of_map (AllFrames form source) a h =
         type_of_map _ _ source.reading source.type_name.now source.set.now source.file.now a
-        (λ pool m. all_map _ _ _ _ _ _ source.file.now pool m a (λ s known. known.1 map honest) (λ s f known. known.1 map honest) (λ s known. known.1 map honest)) h
+        (λ pool m x. (
+          x.0,
+          shown_map (IsReadOf contents is_steady files (full.bytes + 1) source.set.now) (λ content. content ≡ map source.set.now) source pool m (names_of_map source pool m) form x.0 x.1,
+          all_map _ _ _ _ _ _ source.file.now pool m a (λ s known. known.1 map honest) (λ s f known. known.1 map honest) (λ s known. known.1 map honest) x.2,
+        )) h
     right_of_map (command.Types reading set name) a h = types_of_map reading set.now (option_map (λ n. n.now) name) a h
     right_of_map (Compile roots out names) a h = compile_of_map contents is_steady files (places_of roots) out.now (texts_of names.now) a map honest h
     right_of_map (Compat comparison) a h = compat_of_map contents is_steady files map honest comparison a h
@@ -134,13 +160,16 @@ module _ {F : Type 0} (contents : F → Option FileMap) (is_steady : F → Bool)
     begun_of_map (Compile roots out names) text h = h
     begun_of_map (Compat comparison) text h = h
     begun_of_map (Frames form source) text (inl nothing) = inl nothing
-    begun_of_map (Frames form source) text (inr h) =
-        let at = type_at source.reading source.type_name.now h.0 h.1 h.2 (map source.set.now) (h.3 map honest) h.4 in
-        inr (at.0, h.1, h.2, sym at.1, at.2, h.6 map honest)
-    begun_of_map (AllFrames form source) text (inl nothing) = inl nothing
-    begun_of_map (AllFrames form source) text (inr (set, pool, m, of_set, has, begun)) =
+    begun_of_map (Frames form source) text (inr (set, pool, m, of_set, has, x)) =
         let at = type_at source.reading source.type_name.now set pool m (map source.set.now) (of_set map honest) has in
-        inr (at.0, pool, m, sym at.1, at.2, (begun.0, begun.1, begun.3 map honest))
+        let shows = shown_map (IsReadOf contents is_steady files (full.bytes + 1) source.set.now) (λ content. content ≡ map source.set.now) source pool m (names_of_map source pool m) form x.0 x.1 in
+        inr (at.0, pool, m, sym at.1, at.2, (x.0, shows, x.3 map honest))
+    begun_of_map (AllFrames form source) text (inl nothing) = inl nothing
+    begun_of_map (AllFrames form source) text (inr (set, pool, m, of_set, has, x)) =
+        let at = type_at source.reading source.type_name.now set pool m (map source.set.now) (of_set map honest) has in
+        let shows = shown_map (IsReadOf contents is_steady files (full.bytes + 1) source.set.now) (λ content. content ≡ map source.set.now) source pool m (names_of_map source pool m) form x.0 x.1 in
+        let begun = x.2 in
+        inr (at.0, pool, m, sym at.1, at.2, (x.0, shows, (begun.0, begun.1, begun.3 map honest)))
 
   -- over any files
   pub right_of_any : (command : Command) (a : Answer) → RightOf contents is_steady files command a → AnyAnswers command a
@@ -156,16 +185,28 @@ module _ {F : Type 0} (contents : F → Option FileMap) (is_steady : F → Bool)
       (λ pool m. message_map _ _ _ _ (canonical_form to) pool m a (λ f known. tt) (λ v known. known.0)) h
   right_of_any (Json layout source) a h =
       type_any _ _ _ _ source.reading source.type_name.now source.set.now source.file.now a
-      (λ pool m. message_map _ _ _ _ (form.Json layout) pool m a (λ f known. tt) (λ v known. known.0)) h
+      (λ pool m x. (
+        x.0,
+        names_any (IsReadOf contents is_steady files (full.bytes + 1) source.set.now) source pool m x.0.now x.1,
+        message_map _ _ _ _ (form.Json layout x.0) pool m a (λ f known. tt) (λ v known. known.0) x.2,
+      )) h
   right_of_any (FromJson out source) a h =
       type_any _ _ _ _ source.reading source.type_name.now source.set.now source.file.now a
-      (λ pool m. json_any _ (rules_by source.reading) out.now pool m a) h
+      (λ pool m x. (x.0, names_any (IsReadOf contents is_steady files (full.bytes + 1) source.set.now) source pool m x.0 x.1, json_any _ (rules_by source.reading) x.0 out.now pool m a x.2)) h
   right_of_any (Frames form source) a h =
       type_any _ _ _ _ source.reading source.type_name.now source.set.now source.file.now a
-      (λ pool m. frames_map _ _ _ _ _ _ source.file.now pool m a (λ text known. known.0) (λ count text r known. known.0) (λ text known. known.0)) h
+      (λ pool m x. (
+        x.0,
+        shown_map (IsReadOf contents is_steady files (full.bytes + 1) source.set.now) (λ content. Unit {0}) source pool m (names_any (IsReadOf contents is_steady files (full.bytes + 1) source.set.now) source pool m) form x.0 x.1,
+        frames_map _ _ _ _ _ _ source.file.now pool m a (λ text known. known.0) (λ count text r known. known.0) (λ text known. known.0) x.2,
+      )) h
   right_of_any (AllFrames form source) a h =
       type_any _ _ _ _ source.reading source.type_name.now source.set.now source.file.now a
-      (λ pool m. all_map _ _ _ _ _ _ source.file.now pool m a (λ s known. known.0) (λ s f known. known.0) (λ s known. known.0)) h
+      (λ pool m x. (
+        x.0,
+        shown_map (IsReadOf contents is_steady files (full.bytes + 1) source.set.now) (λ content. Unit {0}) source pool m (names_any (IsReadOf contents is_steady files (full.bytes + 1) source.set.now) source pool m) form x.0 x.1,
+        all_map _ _ _ _ _ _ source.file.now pool m a (λ s known. known.0) (λ s f known. known.0) (λ s known. known.0) x.2,
+      )) h
   right_of_any (command.Types reading set name) a h =
       types_any (IsReadOf contents is_steady files (full.bytes + 1) set.now) reading set.now (option_map (λ n. n.now) name) a h
   right_of_any (Compile roots out names) a h = compile_of_any contents is_steady files (places_of roots) out.now (texts_of names.now) a h
@@ -181,9 +222,10 @@ module _ {F : Type 0} (contents : F → Option FileMap) (is_steady : F → Bool)
   begun_of_any (command.Types reading set name) text h = h
   begun_of_any (Compile roots out names) text h = h
   begun_of_any (Compat comparison) text h = h
-  begun_of_any (Frames form source) text (inl nothing) =
-      (record { files = []; messages = []; enums = [] }, 0, (0, subst (λ (t : List ℕ). AreFrames form (record { files = []; messages = []; enums = [] }) 0 0 t) (sym nothing) none))
-  begun_of_any (Frames form source) text (inr h) = (h.1, h.2, h.5)
-  begun_of_any (AllFrames form source) text (inl nothing) =
-      (record { files = []; messages = []; enums = [] }, 0, none_passed, sym nothing, none_there)
-  begun_of_any (AllFrames form source) text (inr (set, pool, m, of_set, has, begun)) = (pool, m, begun.0, begun.1, begun.2)
+  begun_of_any (Frames form source) text (inl nothing) = inl nothing
+  begun_of_any (Frames form source) text (inr (set, pool, m, of_set, has, x)) =
+      inr (pool, m, x.0, shown_map (IsReadOf contents is_steady files (full.bytes + 1) source.set.now) (λ content. Unit {0}) source pool m (names_any (IsReadOf contents is_steady files (full.bytes + 1) source.set.now) source pool m) form x.0 x.1, x.2)
+  begun_of_any (AllFrames form source) text (inl nothing) = inl nothing
+  begun_of_any (AllFrames form source) text (inr (set, pool, m, of_set, has, x)) =
+      let begun = x.2 in
+      inr (pool, m, x.0, shown_map (IsReadOf contents is_steady files (full.bytes + 1) source.set.now) (λ content. Unit {0}) source pool m (names_any (IsReadOf contents is_steady files (full.bytes + 1) source.set.now) source pool m) form x.0 x.1, (begun.0, begun.1, begun.2))

@@ -18,6 +18,8 @@ use Rattle.pb_json.specs.declared.error.JsonError.TheVariants as json_error
 use Rattle.pb_json.specs.declared.form.Layout.{Layout}
 use Rattle.pb_files.specs.Answer.{done}
 use Rattle.pb_files.specs.Report.{output_name}
+use Rattle.std.specs.Borrow.{Bor}
+use Rattle.pb_json.specs.Given.{NamesGiven}
 use Rattle.pb_command.specs.JsonAnswer.{IsJsonLine, JsonAnswer, has_form}
 use Rattle.pb_command.specs.Steps.{Comes, FailsAt, IsNothing, NoFile, WritesLine}
 
@@ -50,35 +52,35 @@ nothing_sent written failures old new same =
 
 -- A LINE OF JSON
 
-module _ {D : Type 0} (written : D → Option (List ℕ)) (failures : D → ℕ) (old : D) (layout : Layout) (m : Dynamic) where
+module _ {D : Type 0} (written : D → Option (List ℕ)) (failures : D → ℕ) (old : D) (layout : Layout) (names : Bor NamesGiven) (m : Dynamic) where
   -- there is none
-  pub unwritten : (new : D) (e : JsonError) → RefusedAs m e → new ≡ old → WritesLine written failures old new layout m (Err e)
+  pub unwritten : (new : D) (e : JsonError) → RefusedAs m e → new ≡ old → WritesLine written failures old new layout names m (Err e)
   unwritten new json_error.Output h same = absurd h
   unwritten new (json_error.Refused x) h same = (h, same)
   unwritten new json_error.Memory h same = same
 
   module _
       (mid new : D) {a b : Sink} (empty : a ≡ record { held = []; sent = 0; failed = false })
-      (put : PutsSome written failures old mid a b (IsJsonLine layout m)) where
+      (put : PutsSome written failures old mid a b (IsJsonLine layout names m)) where
     -- it went out
-    pub line_sent : Finishes written failures mid new b (Ok tt) → WritesLine written failures old new layout m (Ok tt)
+    pub line_sent : Finishes written failures mid new b (Ok tt) → WritesLine written failures old new layout names m (Ok tt)
     line_sent ends = (put.0, put.1, finished empty put.2 ends)
 
     -- or did not
-    pub line_cut : (e : DeviceFault) → Finishes written failures mid new b (Err e) → WritesLine written failures old new layout m (Err json_error.Output)
+    pub line_cut : (e : DeviceFault) → Finishes written failures mid new b (Err e) → WritesLine written failures old new layout names m (Err json_error.Output)
     line_cut e ends = (put.0, put.1, finished empty put.2 ends)
 
 -- WHAT COMES OF IT
 
-module _ {D : Type 0} (written : D → Option (List ℕ)) (failures : D → ℕ) (old new : D) (layout : Layout) (m : Dynamic) where
+module _ {D : Type 0} (written : D → Option (List ℕ)) (failures : D → ℕ) (old new : D) (layout : Layout) (names : Bor NamesGiven) (m : Dynamic) where
   -- the line went out
   pub line_comes :
-      WritesLine written failures old new layout m (Ok tt)
-      → Comes (Sent written failures old new) (Cut written failures old new) NoFile (λ path. ⊥) (JsonAnswer layout m) IsNothing (Ok tt)
+      WritesLine written failures old new layout names m (Ok tt)
+      → Comes (Sent written failures old new) (Cut written failures old new) NoFile (λ path. ⊥) (JsonAnswer layout names m) IsNothing (Ok tt)
   line_comes (line, is, sent) = (done line, has_form {line = line} is refl, refl, refl, sent, refl)
 
   -- the output failed
   pub cut_comes :
-      (path : List ℕ) → path ≡ output_name → WritesLine written failures old new layout m (Err json_error.Output)
-      → FailsAt (Sent written failures old new) (Cut written failures old new) NoFile (λ path. ⊥) (JsonAnswer layout m) IsNothing path
+      (path : List ℕ) → path ≡ output_name → WritesLine written failures old new layout names m (Err json_error.Output)
+      → FailsAt (Sent written failures old new) (Cut written failures old new) NoFile (λ path. ⊥) (JsonAnswer layout names m) IsNothing path
   cut_comes path named (line, is, cut) = inr (inl (line, named, inl (done line, has_form {line = line} is refl, refl), cut, refl))

@@ -31,6 +31,7 @@ pub mod Endings
 -- for `compat`
 pub mod CompatSteps
 -- for right answers of a whole command: those of the bytes of honest files, and of the form of one over any files
+pub mod NameSteps
 pub mod Honest
 -- for `frames`
 pub mod Commands

@@ -11,11 +11,16 @@ use Rattle.pb_files.specs.FileMap.{FileMap, IsOpened, KeepsMap}
 use Rattle.pb_command.specs.MessageAnswer.{FormAnswer, faulty, read}
 use Rattle.pb_files.specs.Report.{fault_line}
 use Rattle.pb_files.specs.Known.{IsReadOf, OfFiles, OfInput}
-use Rattle.pb_command.specs.Steps.{MessageAt, MessageOf}
+use Rattle.pb_command.specs.Steps.{JsonOf, MessageAt, MessageOf}
 use Rattle.pb_files.specs.SetFile.{HasType}
 use Rattle.pb_command.specs.TypeAnswer.{missing, opened}
 use Rattle.pb_command.specs.declared.command.Source.{Source}
 use Rattle.pb_command.specs.declared.form.Form.{Form}
+use Rattle.pb_command.specs.declared.form.Form.TheVariants as form
+use Rattle.std.specs.Borrow.{Bor}
+use Rattle.pb_json.specs.Given.{NamesGiven}
+use Rattle.pb_json.specs.declared.form.Layout.{Layout}
+use Rattle.pb_json_names.specs.Names.{AreNamesOf}
 use Rattle.pb_files.proofs.KnownLemmas.{of_later, opened_of}
 use Rattle.pb_command.proofs.Honest.{message_map}
 
@@ -66,3 +71,18 @@ module _
       opened is_read has
       (message_map _ _ _ _ form pool m a (λ f known. of_later s.file.now (λ content. FaultAt content pool m f) kept steady known)
       (λ v known. (known.0, of_later s.file.now (λ content. TextAt content pool m v) kept steady known.1)) h)
+
+-- the same of its JSON, with the names that the set gives
+module _
+    {F : Type 0} (contents : F → Option FileMap) (is_steady : F → Bool) (old mid : F) (layout : Layout) (s : Source) (set : List ℕ) (pool : Types) (m : ℕ)
+    (names : Bor NamesGiven) (are : AreNamesOf pool set names.now) (is_read : IsReadOf contents is_steady old (full.bytes + 1) s.set.now (Some set))
+    (has : HasType s.reading s.type_name.now set pool m) (kept : KeepsMap (contents old) (contents mid)) (steady : is_steady old ≡ true → is_steady mid ≡ true) where
+  pub json_of : (a : Answer) → MessageAt contents is_steady mid (form.Json layout names) pool m s.file.now a → JsonOf contents is_steady old layout s a
+  json_of a (inl h) = missing is_read has (of_later s.file.now (λ content. content ≡ None) kept steady h.0) h.1
+  json_of a (inr h) =
+      opened is_read has (
+        names,
+        (set, is_read, has, are),
+        message_map _ _ _ _ (form.Json layout names) pool m a (λ f known. of_later s.file.now (λ content. FaultAt content pool m f) kept steady known)
+            (λ v known. (known.0, of_later s.file.now (λ content. TextAt content pool m v) kept steady known.1)) h,
+      )

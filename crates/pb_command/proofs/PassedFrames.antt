@@ -1,34 +1,30 @@
 -- All frames of a stream, one after another, also those that are refused.
-use Rattle.std.proofs.Common.{◌≡◌, ℕ, zero, suc, ◌+◌, ◌-◌, ◌^◌, ◌<◌, ◌≤◌, min, List, [], ◌∷◌, ◌++◌, length, Bool, true, Option, None, Some, refl, sym, ap, ◌∙◌, subst, arith, length-append, add-one, inl, inr}
+use Rattle.std.proofs.Common.{◌≡◌, ℕ, zero, suc, ◌+◌, ◌-◌, ◌^◌, ◌<◌, ◌≤◌, min, List, [], ◌∷◌, ◌++◌, length, Bool, true, Option, None, Some, refl, sym, ap, ◌∙◌, subst, arith, length-append, inl}
 use Rattle.std.specs.Prelude.{Result, Ok, Err, IfSome, OnOk}
 use Rattle.std.specs.Borrow.{Bor}
-use Rattle.pb_wire.specs.Fault.{Fault, fault}
+use Rattle.pb_wire.specs.Fault.{Fault}
 use Rattle.pb_wire.specs.Limits.{full}
 use Rattle.pb_wire.proofs.Tokens.{ends_some}
-use Rattle.pb_wire.specs.declared.device.DeviceFault.{DeviceFault}
 use Rattle.pb_schema.specs.Types.{Types}
-use Rattle.pb_value.specs.Data.{Message}
 use Rattle.pb_value.specs.Dynamic.{Dynamic}
 use Rattle.pb_value.specs.WellFormed.{IsWellFormed}
 use Rattle.pb_stream.specs.Frame.{Frame, FrameFault}
 use Rattle.pb_stream.specs.Taking.{TakesNone}
 use Rattle.pb_frames.specs.Next.{TakesSpan}
-use Rattle.pb_frames.specs.Spans.{HasNoSpan, IsSpan}
-use Rattle.pb_files.specs.Answer.{Answer, done, stopped, broken}
+use Rattle.pb_frames.specs.Spans.{HasNoSpan}
+use Rattle.pb_files.specs.Answer.{done, stopped, broken}
 use Rattle.pb_files.specs.Known.{OfInput}
 use Rattle.pb_files.specs.Report.{frame_fault_line, frames_line}
 use Rattle.pb_listing.specs.Putting.{PutsSome}
-use Rattle.pb_output.specs.Sink.{Puts}
 use Rattle.pb_output.specs.declared.sink.Sink.{Sink}
 use Rattle.pb_output.proofs.SinkLemmas.{puts_none, puts_then}
 use Rattle.pb_command.specs.AllFrames.{AllBegunBy, AllFramesBy, ArePassed, Passed, Passes, and_refused, and_shown, concluded, none_passed}
 use Rattle.pb_command.specs.AllFrames.{none_yet, one_shown, one_refused, none_there, shown_there, refused_there, all_passed, cut_after, failed_after}
-use Rattle.pb_command.specs.FramesAnswer.{AreFrameLines, FrameRefusal, IsRefusedFrame, MayBeRefused, bad_bytes, frame_refusal_line, no_json}
+use Rattle.pb_command.specs.FramesAnswer.{AreFrameLines, FrameRefusal, IsRefusedFrame, MayBeRefused, bad_bytes, frame_refusal_line, no_json, are_json}
 use Rattle.pb_json.specs.Answers.{IsRefused}
 use Rattle.pb_json.specs.Refusals.{Refused}
-use Rattle.pb_command.specs.declared.command.FrameForm.TheVariants.{Json}
 use Rattle.pb_command.specs.PassingOn.{Concludes, HasPassed, IsGoing, IsOver, PutsAnswer, PutsRefusal}
-use Rattle.pb_command.specs.declared.command.FrameForm.{FrameForm}
+use Rattle.pb_command.specs.declared.shown.Shown.{Shown}
 use Rattle.pb_command.specs.declared.all_frames.Progress.{Progress}
 use Rattle.pb_files.specs.declared.report.Refusal.{Refusal}
 use Rattle.pb_files.specs.declared.report.Refusal.TheVariants as refusal
@@ -36,14 +32,14 @@ use Rattle.pb_files.specs.declared.report.Refusal.TheVariants as refusal
 -- SIZES
 
 -- no more frames are refused than there are
-pub few_refused : {form : FrameForm} {pool : Types} {m : ℕ} {s : Passed} → ArePassed form pool m s → s.refused ≤ s.count
+pub few_refused : {form : Shown} {pool : Types} {m : ℕ} {s : Passed} → ArePassed form pool m s → s.refused ≤ s.count
 few_refused none_there = omega arith
 few_refused (shown_there lines before well offset size taken are) = let fewer = few_refused before in omega (arith, fewer)
 few_refused (refused_there before size r may) = let fewer = few_refused before in omega (arith, fewer)
 
 -- frames have no fewer bytes than they are
 pub frames_have_bytes :
-    {form : FrameForm} {pool : Types} {m : ℕ} {input : List ℕ} {s : Passed} {rest : List ℕ} → Passes form pool m input s rest → s.count ≤ s.offset
+    {form : Shown} {pool : Types} {m : ℕ} {input : List ℕ} {s : Passed} {rest : List ℕ} → Passes form pool m input s rest → s.count ≤ s.offset
 frames_have_bytes none_yet = omega arith
 frames_have_bytes (one_shown {span = span} lines before frame are) =
     let fewer = frames_have_bytes before in
@@ -93,7 +89,7 @@ none_left (Some xs) (Some ys) rest is h =
 -- WHAT WAS READ
 
 module _
-    {I : Type 0} {left : I → Option (List ℕ)} {is_steady : I → Bool} {form : FrameForm} {pool : Types} {m : ℕ} where
+    {I : Type 0} {left : I → Option (List ℕ)} {is_steady : I → Bool} {form : Shown} {pool : Types} {m : ℕ} where
   pub passed_none : (i : I) → HasPassed left is_steady i i form pool m none_passed
   passed_none i = record {
     passed = none_there;
@@ -232,7 +228,7 @@ some_concluded s (suc n) some is = rw is refl
 
 module _
     {D I : Type 0} {written : D → Option (List ℕ)} {failures : D → ℕ} {left : I → Option (List ℕ)} {is_steady : I → Bool} {old new : D} {a b : Sink}
-    {start now : I} {form : FrameForm} {pool : Types} {m : ℕ} where
+    {start now : I} {form : Shown} {pool : Types} {m : ℕ} where
   -- what is answered of all frames
   pub over_answered :
       {path : List ℕ} {count : ℕ} {p : Progress} (r : Result Unit Refusal)
@@ -271,7 +267,7 @@ module _
 
 module _
     {D I : Type 0} {written : D → Option (List ℕ)} {failures : D → ℕ} {left : I → Option (List ℕ)} {is_steady : I → Bool}
-    {form : FrameForm} {pool : Types} {m : ℕ} where
+    {form : Shown} {pool : Types} {m : ℕ} where
   pub going_start :
       (d : D) (e : Sink) (i : I) (q : Progress) → q.refused ≡ 0 → q.offset ≡ 0 → q.lines.items ≡ []
       → IsGoing written failures left is_steady d d e e i i form pool m 0 q
@@ -341,7 +337,7 @@ module _
       {old mid : D} {a b : Sink} {start now next : I} {index : ℕ} {p : Progress} (size : ℕ) (d : Dynamic) (r : Refused) (q : Progress)
       → IsGoing written failures left is_steady old mid a b start now form pool m index p
       → IfSome (left now) (λ input. TakesSpan input (left next) size (λ span. Frame pool m full span d.body [])) → IsWellFormed d.pool d.kind d.body
-      → (d.pool ≡ pool) × (d.kind ≡ m) → form ≡ Json → IsRefused d r → (is_steady now ≡ true → is_steady next ≡ true) → p.offset < 2 ^ 64
+      → (d.pool ≡ pool) × (d.kind ≡ m) → are_json form ≡ true → IsRefused d r → (is_steady now ≡ true → is_steady next ≡ true) → p.offset < 2 ^ 64
       → q.offset ≡ min (p.offset + size) (2 ^ 64 - 1) → q.refused ≡ p.refused + 1 → q.lines.items ≡ p.lines.items ++ frame_refusal_line index (no_json r)
       → IsGoing written failures left is_steady old mid a b start next form pool m (index + 1) q
   turn_formless {now = now} {next = next} size d r q h took well typed is_json refused stays range is_offset one_more line =

@@ -1,5 +1,5 @@
 -- What `raw` comes to, from what its steps leave.
-use Rattle.std.proofs.Common.{◌≡◌, ℕ, List, Option, None, Some, refl, sym, subst}
+use Rattle.std.proofs.Common.{ℕ, List, Option, None, Some, refl, sym, subst}
 use Rattle.std.specs.Prelude.{Result, Err}
 use Rattle.pb_wire.specs.Record.{Record}
 use Rattle.pb_wire.specs.Schema.{blank}

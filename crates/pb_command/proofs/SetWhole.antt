@@ -1,5 +1,5 @@
 -- The first bytes of a set, one more than may be read, tell what all of them do.
-use Rattle.std.proofs.Common.{◌≡◌, ℕ, ◌+◌, List, take, Option, None, Some, refl, subst}
+use Rattle.std.proofs.Common.{◌≡◌, ℕ, ◌+◌, List, take, Option, None, Some, refl, ◌∙◌, subst}
 use Rattle.std.specs.Prelude.{option_map}
 use Rattle.pb_wire.specs.Grammar.{HasFault}
 use Rattle.pb_wire.specs.Limits.{full}
@@ -10,6 +10,8 @@ use Rattle.pb_decl.specs.Decls.{DeclaredFile}
 use Rattle.pb_descr.specs.Omitted.{OmittedView}
 use Rattle.pb_descr.specs.Pool.{descriptor_types, the_set}
 use Rattle.pb_descr.specs.Sets.{IsSetText}
+use Rattle.pb_json.specs.Given.{NamesGiven}
+use Rattle.pb_json_names.specs.Names.{AreNamesOf}
 use Rattle.pb_files.specs.Answer.{Answer}
 use Rattle.pb_files.specs.SetFile.{HasPool, HasType, IsSetBy, NoPool, NoType, no_file, no_text, no_set, no_links, no_pool, no_name}
 use Rattle.pb_files.specs.declared.set_file.Reading.{Reading}
@@ -48,6 +50,17 @@ module _ (reading : Reading) where
   type_at name set pool m (Some b) e has =
       let front : set ≡ take (full.bytes + 1) b = cc in
       (b, refl, has_type_whole name b pool m (subst (λ (x : List ℕ). HasType reading name x pool m) front has))
+
+  -- and so are the names that the set gives to fields
+  pub named_at :
+      (name set : List ℕ) (pool : Types) (m : ℕ) (names : NamesGiven) (o : Option (List ℕ)) → Some set ≡ option_map (take (full.bytes + 1)) o
+      → HasType reading name set pool m → AreNamesOf pool set names → (b : List ℕ) × (Some b ≡ o) × HasType reading name b pool m × AreNamesOf pool b names
+  named_at name set pool m names None e has are = absurd (cc)
+  named_at name set pool m names (Some b) e has are =
+      let front : set ≡ take (full.bytes + 1) b = cc in
+      let cut : HasType reading name (take (full.bytes + 1) b) pool m = subst (λ (x : List ℕ). HasType reading name x pool m) front has in
+      let whole : take (full.bytes + 1) b ≡ b = front_whole full.bytes b cut.makes.is_set.text.size in
+      (b, refl, has_type_whole name b pool m cut, subst (λ (x : List ℕ). AreNamesOf pool x names) (front ∙ whole) are)
 
   pub no_pool_whole :
       (path : List ℕ) (o : Option (List ℕ)) (a : Answer) → NoPool reading path (option_map (take (full.bytes + 1)) o) a → NoPool reading path o a

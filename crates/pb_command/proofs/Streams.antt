@@ -1,12 +1,11 @@
 -- The frames of a stream, one after another.
 use Rattle.std.proofs.Common.{◌≡◌, ◌⊎◌, inl, inr, ℕ, suc, ◌+◌, ◌-◌, ◌^◌, ◌<◌, ◌≤◌, List, [], ◌∷◌, ◌++◌, length, Bool, true, false, Option, None, Some, refl, sym, ap, ◌∙◌, subst, arith, length-append, add-one}
-use Rattle.std.specs.Prelude.{Result, Ok, Err, IfSome, IsSomeAnd, IsErr}
+use Rattle.std.specs.Prelude.{IfSome, IsSomeAnd}
 use Rattle.std.specs.Borrow.{Bor}
 use Rattle.std.specs.Io.KnownBytes.{Consumes}
 use Rattle.pb_wire.specs.Fault.{Fault, fault}
 use Rattle.pb_wire.specs.Limits.{Bounds, full}
 use Rattle.pb_wire.specs.Varint.{EndsOnce}
-use Rattle.pb_wire.specs.declared.device.DeviceFault.{DeviceFault}
 use Rattle.pb_schema.specs.Types.{Types}
 use Rattle.pb_value.specs.Data.{Message}
 use Rattle.pb_value.specs.Dynamic.{Dynamic}
@@ -21,17 +20,15 @@ use Rattle.pb_listing.specs.Putting.{PutsSome}
 use Rattle.pb_json.specs.Answers.{RefusedAs, refused_view}
 use Rattle.pb_json.specs.declared.error.JsonError.{JsonError}
 use Rattle.pb_json.specs.declared.error.JsonError.TheVariants as json_error
-use Rattle.pb_command.specs.FramesAnswer.{AreFrames, none, one_more, AreFrameLines, BeginsWith, no_frame, frame_more, ended, frame_refused, input_failed}
+use Rattle.pb_command.specs.FramesAnswer.{AreFrames, none, one_more, AreFrameLines, BeginsWith, no_frame, frame_more, ended, frame_refused, input_failed, are_json}
 use Rattle.pb_command.specs.FramesAnswer.{bad_bytes, no_json}
 use Rattle.pb_files.specs.Refusal.{ByRefusal}
-use Rattle.pb_command.specs.declared.command.FrameForm.TheVariants.{Json}
 use Rattle.pb_output.specs.Sink.{Puts}
 use Rattle.pb_command.specs.Streaming.{AreReadLines, FramesBegunIn, FramesIn, IsToldOfFormless, IsToldOfFrame, ReadsFrame, RefusesFrame, RefusesNext, RefusesRead}
 use Rattle.pb_output.specs.declared.sink.Sink.{Sink}
-use Rattle.pb_command.specs.declared.command.FrameForm.{FrameForm}
-use Rattle.pb_command.specs.declared.frames.Next.{Next}
+use Rattle.pb_command.specs.declared.shown.Shown.{Shown}
 use Rattle.pb_files.specs.declared.report.Refusal.{Refusal}
-use Rattle.pb_output.proofs.SinkLemmas.{puts_none, puts_then}
+use Rattle.pb_output.proofs.SinkLemmas.{puts_none}
 
 -- SIZES
 
@@ -61,7 +58,7 @@ frame_has_byte {rest = rest} frame =
 
 -- frames have no fewer bytes than they are
 frames_size :
-    {form : FrameForm} {pool : Types} {m : ℕ} {input : List ℕ} {count offset : ℕ} {text rest : List ℕ} → BeginsWith form pool m input count offset text rest → count ≤ offset
+    {form : Shown} {pool : Types} {m : ℕ} {input : List ℕ} {count offset : ℕ} {text rest : List ℕ} → BeginsWith form pool m input count offset text rest → count ≤ offset
 frames_size no_frame = omega arith
 frames_size (frame_more lines size before frame is are) =
     let fewer = frames_size before in
@@ -75,7 +72,7 @@ no_bytes (x ∷ xs) e = absurd (omega (arith, e))
 -- WHAT WAS READ
 
 -- this number of frames of an input was read, with these lines, and the reader goes on
-pub record AreRead {I : Type 0} (left : I → Option (List ℕ)) (is_steady : I → Bool) (form : FrameForm) (start now : Stream I) (count : ℕ) (text : List ℕ) : Type 0 where
+pub record AreRead {I : Type 0} (left : I → Option (List ℕ)) (is_steady : I → Bool) (form : Shown) (start now : Stream I) (count : ℕ) (text : List ℕ) : Type 0 where
   pub frames : AreFrames form start.pool start.kind count text
   pub pool : now.pool ≡ start.pool
   pub kind : now.kind ≡ start.kind
@@ -89,7 +86,7 @@ pub record AreRead {I : Type 0} (left : I → Option (List ℕ)) (is_steady : I 
 
 -- they were put
 pub record IsStreaming
-    {D I : Type 0} (written : D → Option (List ℕ)) (failures : D → ℕ) (left : I → Option (List ℕ)) (is_steady : I → Bool) (form : FrameForm) (old new : D)
+    {D I : Type 0} (written : D → Option (List ℕ)) (failures : D → ℕ) (left : I → Option (List ℕ)) (is_steady : I → Bool) (form : Shown) (old new : D)
     (a b : Sink) (start now : Stream I) (count : ℕ) : Type 0 where
   pub text : List ℕ
   pub put : Puts written failures old new a b text
@@ -97,7 +94,7 @@ pub record IsStreaming
 
 -- one more frame is known
 known_more :
-    {old new : Option (List ℕ)} (form : FrameForm) (pool : Types) (kind : ℕ) (input rest text lines : List ℕ) (count before after : ℕ) (m : Message)
+    {old new : Option (List ℕ)} (form : Shown) (pool : Types) (kind : ℕ) (input rest text lines : List ℕ) (count before after : ℕ) (m : Message)
     → old ≡ Some rest → IsSomeAnd new (Frame pool kind full rest m) → Counts before after old new → BeginsWith form pool kind input count before text rest
     → before + length rest ≡ length input → length input < 2 ^ 64 → AreFrameLines form pool kind count before (after - before) m lines
     → (left : List ℕ) × (new ≡ Some left) × BeginsWith form pool kind input (suc count) after (text ++ lines) left × (after + length left ≡ length input)
@@ -137,7 +134,7 @@ none_left (Some xs) (Some ys) rest is h =
     let same : xs ≡ rest = cc in
     sym same ∙ h.0 ∙ h.1
 
-module _ {I : Type 0} {left : I → Option (List ℕ)} {is_steady : I → Bool} {form : FrameForm} where
+module _ {I : Type 0} {left : I → Option (List ℕ)} {is_steady : I → Bool} {form : Shown} where
   pub read_start : (r : Stream I) → r.taken ≡ 0 → r.finished ≡ false → r.limits ≡ full → AreRead left is_steady form r r 0 []
   read_start r first open_ limits = record {
     frames = none;
@@ -248,7 +245,7 @@ module _ {I : Type 0} {left : I → Option (List ℕ)} {is_steady : I → Bool} 
   -- the frame that was read has no JSON form
   formless_as :
       {start now next : Stream I} {count : ℕ} {text : List ℕ} (path : List ℕ) (m : Message) (e : JsonError) (r : Refusal)
-      → AreRead left is_steady form start now count text → ReadsFrame left is_steady now next m → form ≡ Json
+      → AreRead left is_steady form start now count text → ReadsFrame left is_steady now next m → are_json form ≡ true
       → RefusedAs (record { pool = start.pool; kind = start.kind; body = m }) e → IsToldOfFormless count e r
       → ByRefusal (λ line. FramesIn left is_steady start.input form path start.pool start.kind (stopped text line))
       (λ device. FramesIn left is_steady start.input form path start.pool start.kind (broken text device))
@@ -304,7 +301,7 @@ module _ {I : Type 0} {left : I → Option (List ℕ)} {is_steady : I → Bool} 
 
 -- its lines, as they were put
 pub lines_read :
-    {D I : Type 0} {written : D → Option (List ℕ)} {failures : D → ℕ} {d0 d1 : D} {a b : Sink} (form : FrameForm) (old new : Stream I) (d : Dynamic)
+    {D I : Type 0} {written : D → Option (List ℕ)} {failures : D → ℕ} {d0 d1 : D} {a b : Sink} (form : Shown) (old new : Stream I) (d : Dynamic)
     (index offset size : ℕ) → (d.pool ≡ old.pool) × (d.kind ≡ old.kind) → offset ≡ old.taken → size ≡ new.taken - offset
     → PutsSome written failures d0 d1 a b (AreFrameLines form d.pool d.kind index offset size d.body)
     → PutsSome written failures d0 d1 a b (AreReadLines form index old new d.body)
@@ -312,5 +309,5 @@ lines_read form old new d index offset size typed begins sized put = (put.0, rw 
 
 pub streaming_start :
     {D I : Type 0} {written : D → Option (List ℕ)} {failures : D → ℕ} {left : I → Option (List ℕ)} {is_steady : I → Bool} {d : D} {a : Sink}
-    (form : FrameForm) (r : Stream I) → r.taken ≡ 0 → r.finished ≡ false → r.limits ≡ full → IsStreaming written failures left is_steady form d d a a r r 0
+    (form : Shown) (r : Stream I) → r.taken ≡ 0 → r.finished ≡ false → r.limits ≡ full → IsStreaming written failures left is_steady form d d a a r r 0
 streaming_start form r first open_ limits = record { text = []; put = puts_none; read = read_start r first open_ limits }

@@ -10,7 +10,7 @@ use Rattle.pb_frames.specs.Spans.{HasNoSpan, IsSpan}
 use Rattle.pb_files.specs.Answer.{Answer, done, stopped, broken}
 use Rattle.pb_files.specs.Report.{frames_line}
 use Rattle.pb_command.specs.FramesAnswer.{AreFrameLines, FrameRefusal, IsRefusedFrame, MayBeRefused, bad_bytes, frame_refusal_line}
-use Rattle.pb_command.specs.declared.command.FrameForm.{FrameForm}
+use Rattle.pb_command.specs.declared.shown.Shown.{Shown}
 
 -- Some frames of a stream: how many, how many of them are refused, how many bytes they have, what is printed of those that are not refused, and
 -- what reports the others.
@@ -40,7 +40,7 @@ and_refused s size r = record {
 }
 
 -- An input begins with some frames, one after another, and the rest follows. The bytes of each are a frame of a message that is printed, or are refused.
-pub data Passes (form : FrameForm) (pool : Types) (m : ℕ) (input : List ℕ) : Passed → List ℕ → Type 0 where
+pub data Passes (form : Shown) (pool : Types) (m : ℕ) (input : List ℕ) : Passed → List ℕ → Type 0 where
   none_yet : Passes form pool m input none_passed input
   one_shown :
       {s : Passed} {span rest : List ℕ} {v : Message} (shown : List ℕ) → Passes form pool m input s (span ++ rest) → Frame pool m full span v []
@@ -50,7 +50,7 @@ pub data Passes (form : FrameForm) (pool : Types) (m : ℕ) (input : List ℕ) :
       → IsRefusedFrame form pool m span r → Passes form pool m input (and_refused s (length span) r) rest
 
 -- this number of frames, whatever their places
-pub data ArePassed (form : FrameForm) (pool : Types) (m : ℕ) : Passed → Type 0 where
+pub data ArePassed (form : Shown) (pool : Types) (m : ℕ) : Passed → Type 0 where
   none_there : ArePassed form pool m none_passed
   shown_there :
       {s : Passed} {v : Message} (lines : List ℕ) → ArePassed form pool m s → IsWellFormed pool m v → (offset size : ℕ) → (taken : ℕ)
@@ -80,22 +80,22 @@ pub data AllFramesAnswer
 -- of bytes that may be there
 module _ (content : Option (List ℕ)) where
   -- the bytes are these frames
-  abbrev pub AllAt : FrameForm → Types → ℕ → Passed → Type 0
+  abbrev pub AllAt : Shown → Types → ℕ → Passed → Type 0
   AllAt form pool m s = (input : List ℕ) × (content ≡ Some input) × (length input < 2 ^ 64 → Passes form pool m input s [])
 
   -- they begin with these frames, and what follows is no frame with an end
-  abbrev pub CutAt : FrameForm → Types → ℕ → Passed → Fault → Type 0
+  abbrev pub CutAt : Shown → Types → ℕ → Passed → Fault → Type 0
   CutAt form pool m s f =
       (input : List ℕ) × (content ≡ Some input)
       × (length input < 2 ^ 64 → (rest : List ℕ) × Passes form pool m input s rest × HasNoSpan rest × FrameFault pool m full rest f)
 
   -- they begin with these frames
-  abbrev pub BegunAt : FrameForm → Types → ℕ → Passed → Type 0
+  abbrev pub BegunAt : Shown → Types → ℕ → Passed → Type 0
   BegunAt form pool m s =
       (input : List ℕ) × (content ≡ Some input) × (length input < 2 ^ 64 → (rest : List ℕ) × Passes form pool m input s rest)
 
 -- What comes of a stream of whose bytes is known what Known says of them, and what is printed before that is known.
-module _ (Known : (Option (List ℕ) → Type 0) → Type 0) (form : FrameForm) where
+module _ (Known : (Option (List ℕ) → Type 0) → Type 0) (form : Shown) where
   abbrev pub AllFramesBy : List ℕ → Types → ℕ → Answer → Type 0
   AllFramesBy path =
       AllFramesAnswer (λ pool m s. ArePassed form pool m s × Known (λ content. AllAt content form pool m s))

@@ -19,6 +19,9 @@ use Rattle.pb_command.specs.FromJsonAnswer.{FromJsonAnswer, rules_by}
 use Rattle.pb_command.specs.MessageAnswer.{MessageAnswer}
 use Rattle.pb_command.specs.RawAnswer.{RawAnswer}
 use Rattle.pb_files.specs.SetFile.{HasType}
+use Rattle.pb_json.specs.Given.{NamesGiven}
+use Rattle.pb_json.specs.declared.form.Layout.{Layout}
+use Rattle.pb_command.specs.SetNames.{GivesNames, IsShownAs}
 use Rattle.pb_command.specs.TypeAnswer.{TypeAnswer}
 use Rattle.pb_command.specs.TypesAnswer.{TypesAnswer}
 use Rattle.pb_command.specs.declared.command.Command.{Command}
@@ -27,6 +30,7 @@ use Rattle.pb_command.specs.declared.command.Command.TheVariants.{Compat, FromJs
 use Rattle.pb_command.specs.declared.command.Command.TheVariants as command
 use Rattle.pb_command.specs.declared.command.FrameForm.{FrameForm}
 use Rattle.pb_command.specs.declared.command.Source.{Source}
+use Rattle.pb_command.specs.declared.shown.Shown.{Shown}
 use Rattle.pb_command.specs.declared.form.Form.{Form}
 use Rattle.pb_command.specs.declared.form.Form.TheVariants as form
 
@@ -46,18 +50,18 @@ module _ (content : Option (List ℕ)) where
   TextAt pool m v = (text : List ℕ) × (content ≡ Some text) × Text pool m full text v
 
   -- the bytes are frames with these lines
-  abbrev pub FramesAt : FrameForm → Types → ℕ → List ℕ → Type 0
+  abbrev pub FramesAt : Shown → Types → ℕ → List ℕ → Type 0
   FramesAt form pool m text =
       (input : List ℕ) × (content ≡ Some input) × (length input < 2 ^ 64 → (count : ℕ) × (offset : ℕ) × BeginsWith form pool m input count offset text [])
 
   -- they begin with this number of frames with these lines, and the one that follows is refused
-  abbrev pub RefusedFrameAt : FrameForm → Types → ℕ → ℕ → List ℕ → FrameRefusal → Type 0
+  abbrev pub RefusedFrameAt : Shown → Types → ℕ → ℕ → List ℕ → FrameRefusal → Type 0
   RefusedFrameAt form pool m count text r =
       (input : List ℕ) × (content ≡ Some input)
       × (length input < 2 ^ 64 → (offset : ℕ) × (rest : List ℕ) × BeginsWith form pool m input count offset text rest × IsRefusedFrame form pool m rest r)
 
   -- they begin with frames with these lines
-  abbrev pub FramesBegunAt : FrameForm → Types → ℕ → List ℕ → Type 0
+  abbrev pub FramesBegunAt : Shown → Types → ℕ → List ℕ → Type 0
   FramesBegunAt form pool m text =
       (input : List ℕ) × (content ≡ Some input)
       × (length input < 2 ^ 64 → (count : ℕ) × (offset : ℕ) × (rest : List ℕ) × BeginsWith form pool m input count offset text rest)
@@ -68,21 +72,32 @@ module _ (map : FileMap) where
       TypeAnswer (λ content. content ≡ map s.set.now) (map s.file.now ≡ None)
       (MessageAnswer (FaultAt (map s.file.now)) (TextAt (map s.file.now)) form) s.reading s.type_name.now s.set.now s.file.now
 
+  abbrev pub JsonComesTo : Layout → Source → Answer → Type 0
+  JsonComesTo layout s =
+      TypeAnswer (λ content. content ≡ map s.set.now) (map s.file.now ≡ None)
+      (λ pool m a. (names : Bor NamesGiven) × GivesNames (λ content. content ≡ map s.set.now) s pool m names.now
+      × MessageAnswer (FaultAt (map s.file.now)) (TextAt (map s.file.now)) (form.Json layout names) pool m a)
+      s.reading s.type_name.now s.set.now s.file.now
+
   abbrev pub JsonReadsTo : List ℕ → Source → Answer → Type 0
   JsonReadsTo out s =
-      TypeAnswer (λ content. content ≡ map s.set.now) (map s.file.now ≡ None) (FromJsonAnswer (λ b. Some b ≡ map s.file.now) (rules_by s.reading) out)
+      TypeAnswer (λ content. content ≡ map s.set.now) (map s.file.now ≡ None)
+      (λ pool m a. (names : NamesGiven) × GivesNames (λ content. content ≡ map s.set.now) s pool m names
+      × FromJsonAnswer (λ b. Some b ≡ map s.file.now) (rules_by s.reading) names out pool m a)
       s.reading s.type_name.now s.set.now s.file.now
 
   abbrev pub FramesComeTo : FrameForm → Source → Answer → Type 0
   FramesComeTo form s =
       TypeAnswer (λ content. content ≡ map s.set.now) (map s.file.now ≡ None)
-      (FramesAnswer (FramesAt (map s.file.now) form) (RefusedFrameAt (map s.file.now) form) (λ pool m text. ⊥) s.file.now)
+      (λ pool m a. (way : Shown) × IsShownAs (λ content. content ≡ map s.set.now) s pool m form way
+      × FramesAnswer (FramesAt (map s.file.now) way) (RefusedFrameAt (map s.file.now) way) (λ pool m text. ⊥) s.file.now pool m a)
       s.reading s.type_name.now s.set.now s.file.now
 
   abbrev pub AllFramesComeTo : FrameForm → Source → Answer → Type 0
   AllFramesComeTo form s =
       TypeAnswer (λ content. content ≡ map s.set.now) (map s.file.now ≡ None)
-      (AllFramesAnswer (AllAt (map s.file.now) form) (CutAt (map s.file.now) form) (λ pool m passed. ⊥) s.file.now)
+      (λ pool m a. (way : Shown) × IsShownAs (λ content. content ≡ map s.set.now) s pool m form way
+      × AllFramesAnswer (AllAt (map s.file.now) way) (CutAt (map s.file.now) way) (λ pool m passed. ⊥) s.file.now pool m a)
       s.reading s.type_name.now s.set.now s.file.now
 
   abbrev pub Answers : Command → Answer → Type 0
@@ -90,7 +105,7 @@ module _ (map : FileMap) where
   Answers (Check source) = MessageComesTo form.Check source
   Answers (Show floats source) = MessageComesTo (form.Listing floats) source
   Answers (Canon to source) = MessageComesTo (canonical_form to) source
-  Answers (Json layout source) = MessageComesTo (form.Json layout) source
+  Answers (Json layout source) = JsonComesTo layout source
   Answers (FromJson out source) = JsonReadsTo out.now source
   Answers (Frames form source) = FramesComeTo form source
   Answers (AllFrames form source) = AllFramesComeTo form source
@@ -112,11 +127,12 @@ module _ (map : FileMap) where
   Begins (Frames form source) text =
       (text ≡ [])
       ⊎ ((set : List ℕ) × (pool : Types) × (m : ℕ) × (map source.set.now ≡ Some set) × HasType source.reading source.type_name.now set pool m
-      × FramesBegunAt (map source.file.now) form pool m text)
+      × ((way : Shown) × IsShownAs (λ content. content ≡ map source.set.now) source pool m form way × FramesBegunAt (map source.file.now) way pool m text))
   Begins (AllFrames form source) text =
       (text ≡ [])
       ⊎ ((set : List ℕ) × (pool : Types) × (m : ℕ) × (map source.set.now ≡ Some set) × HasType source.reading source.type_name.now set pool m
-      × ((s : Passed) × (s.text ≡ text) × BegunAt (map source.file.now) form pool m s))
+      × ((way : Shown) × IsShownAs (λ content. content ≡ map source.set.now) source pool m form way
+      × ((s : Passed) × (s.text ≡ text) × BegunAt (map source.file.now) way pool m s)))
 
 -- OVER ANY FILES, also those that report nothing of what they hold
 
@@ -124,25 +140,36 @@ abbrev pub AnyMessage : Form → Source → Answer → Type 0
 AnyMessage form s =
     TypeAnswer (λ content. ⊤) ⊤ (MessageAnswer (λ pool m f. ⊤) IsWellFormed form) s.reading s.type_name.now s.set.now s.file.now
 
-abbrev pub AnyReading : List ℕ → Source → Answer → Type 0
-AnyReading out s = TypeAnswer (λ content. ⊤) ⊤ (FromJsonAnswer (λ b. ⊤) (rules_by s.reading) out) s.reading s.type_name.now s.set.now s.file.now
+abbrev pub AnyJson : Layout → Source → Answer → Type 0
+AnyJson layout s =
+    TypeAnswer (λ content. ⊤) ⊤
+    (λ pool m a. (names : Bor NamesGiven) × GivesNames (λ content. ⊤) s pool m names.now
+    × MessageAnswer (λ pool m f. ⊤) IsWellFormed (form.Json layout names) pool m a) s.reading s.type_name.now s.set.now s.file.now
 
-abbrev pub AnyFrames : FrameForm → Types → ℕ → List ℕ → Type 0
+abbrev pub AnyReading : List ℕ → Source → Answer → Type 0
+AnyReading out s =
+    TypeAnswer (λ content. ⊤) ⊤
+    (λ pool m a. (names : NamesGiven) × GivesNames (λ content. ⊤) s pool m names × FromJsonAnswer (λ b. ⊤) (rules_by s.reading) names out pool m a)
+    s.reading s.type_name.now s.set.now s.file.now
+
+abbrev pub AnyFrames : Shown → Types → ℕ → List ℕ → Type 0
 AnyFrames form pool m text = (count : ℕ) × AreFrames form pool m count text
 
 -- these many frames, and one that is refused
-abbrev pub AnyRefusal : FrameForm → Types → ℕ → ℕ → List ℕ → FrameRefusal → Type 0
+abbrev pub AnyRefusal : Shown → Types → ℕ → ℕ → List ℕ → FrameRefusal → Type 0
 AnyRefusal form pool m count text r = AreFrames form pool m count text × MayBeRefused form pool m r
 
 abbrev pub AnyStream : FrameForm → Source → Answer → Type 0
 AnyStream form s =
-    TypeAnswer (λ content. ⊤) ⊤ (FramesAnswer (AnyFrames form) (AnyRefusal form) (AnyFrames form) s.file.now)
-    s.reading s.type_name.now s.set.now s.file.now
+    TypeAnswer (λ content. ⊤) ⊤
+    (λ pool m a. (way : Shown) × IsShownAs (λ content. ⊤) s pool m form way
+    × FramesAnswer (AnyFrames way) (AnyRefusal way) (AnyFrames way) s.file.now pool m a) s.reading s.type_name.now s.set.now s.file.now
 
 abbrev pub AnyAllFrames : FrameForm → Source → Answer → Type 0
 AnyAllFrames form s =
-    TypeAnswer (λ content. ⊤) ⊤ (AllFramesAnswer (ArePassed form) (λ pool m passed f. ArePassed form pool m passed) (ArePassed form) s.file.now)
-    s.reading s.type_name.now s.set.now s.file.now
+    TypeAnswer (λ content. ⊤) ⊤
+    (λ pool m a. (way : Shown) × IsShownAs (λ content. ⊤) s pool m form way
+    × AllFramesAnswer (ArePassed way) (λ pool m passed f. ArePassed way pool m passed) (ArePassed way) s.file.now pool m a) s.reading s.type_name.now s.set.now s.file.now
 
 -- the answer has the form of one: of raw records it is that of some bytes, of sources that of some at each path, of comparisons that of some sets, and
 -- else of some set, and of some messages of the type
@@ -151,7 +178,7 @@ AnyAnswers (Raw form file) a = (content : Option (List ℕ)) × RawAnswer full f
 AnyAnswers (Check source) a = AnyMessage form.Check source a
 AnyAnswers (Show floats source) a = AnyMessage (form.Listing floats) source a
 AnyAnswers (Canon to source) a = AnyMessage (canonical_form to) source a
-AnyAnswers (Json layout source) a = AnyMessage (form.Json layout) source a
+AnyAnswers (Json layout source) a = AnyJson layout source a
 AnyAnswers (FromJson out source) a = AnyReading out.now source a
 AnyAnswers (Frames form source) a = AnyStream form source a
 AnyAnswers (AllFrames form source) a = AnyAllFrames form source a
@@ -169,8 +196,12 @@ AnyBegins (FromJson out source) text = text ≡ []
 AnyBegins (command.Types reading set name) text = text ≡ []
 AnyBegins (Compile roots out names) text = text ≡ []
 AnyBegins (Compat comparison) text = text ≡ []
-AnyBegins (Frames form source) text = (pool : Types) × (m : ℕ) × AnyFrames form pool m text
-AnyBegins (AllFrames form source) text = (pool : Types) × (m : ℕ) × (s : Passed) × (s.text ≡ text) × ArePassed form pool m s
+AnyBegins (Frames form source) text =
+    (text ≡ []) ⊎ ((pool : Types) × (m : ℕ) × (way : Shown) × IsShownAs (λ content. ⊤) source pool m form way × AnyFrames way pool m text)
+AnyBegins (AllFrames form source) text =
+    (text ≡ [])
+    ⊎ ((pool : Types) × (m : ℕ) × (way : Shown) × IsShownAs (λ content. ⊤) source pool m form way
+    × ((s : Passed) × (s.text ≡ text) × ArePassed way pool m s))
 
 -- THE END OF A RUN
 

@@ -1,5 +1,5 @@
 -- What `frames` prints of a stream of messages, and what it answers.
-use Rattle.std.specs.Prelude.{◌≡◌, ◌+◌, ⊤, ℕ, suc, List, [], ◌++◌, codes, decimal, length}
+use Rattle.std.specs.Prelude.{◌≡◌, ◌+◌, ⊤, Bool, true, false, ℕ, suc, List, [], ◌++◌, codes, decimal, length}
 use Rattle.pb_wire.specs.Fault.{Fault}
 use Rattle.pb_wire.specs.Limits.{full}
 use Rattle.pb_schema.specs.Types.{Types}
@@ -14,18 +14,23 @@ use Rattle.pb_listing.specs.ListingAs.{AreMessageLines}
 use Rattle.pb_listing.specs.RawListing.{line}
 use Rattle.pb_files.specs.Report.{frame_fault_line, frame_json_line}
 use Rattle.pb_command.specs.JsonAnswer.{IsJsonLine}
-use Rattle.pb_command.specs.declared.command.FrameForm.{FrameForm}
-use Rattle.pb_command.specs.declared.command.FrameForm.TheVariants.{Listing, Json}
+use Rattle.pb_command.specs.declared.shown.Shown.{Shown}
+use Rattle.pb_command.specs.declared.shown.Shown.TheVariants.{Listing, Json}
 
 -- the line of a frame: which one it is, where it begins and how many bytes it has
 abbrev pub frame_line : ℕ → ℕ → ℕ → List ℕ
 frame_line index offset size = line 0 (codes "frame " ++ decimal index ++ codes " at " ++ decimal offset ++ codes " size " ++ decimal size)
 
 -- the bytes are the lines of a frame: this one, and its message one level in, with floats listed so; or its message as a line of JSON
-abbrev pub AreFrameLines : FrameForm → Types → ℕ → ℕ → ℕ → ℕ → Message → List ℕ → Type 0
+abbrev pub AreFrameLines : Shown → Types → ℕ → ℕ → ℕ → ℕ → Message → List ℕ → Type 0
 AreFrameLines (Listing floats) pool m index offset size v s =
     (inside : List ℕ) × (s ≡ frame_line index offset size ++ inside) × AreMessageLines floats pool 1 m v inside
-AreFrameLines Json pool m index offset size v s = IsJsonLine Compact (record { pool = pool; kind = m; body = v }) s
+AreFrameLines (Json names) pool m index offset size v s = IsJsonLine Compact names (record { pool = pool; kind = m; body = v }) s
+
+-- frames are printed as JSON
+abbrev pub are_json : Shown → Bool
+are_json (Listing floats) = false
+are_json (Json names) = true
 
 -- why a frame is refused: its bytes have a fault, or a part of its message has no JSON form
 pub data FrameRefusal : Type 0 where
@@ -38,26 +43,26 @@ frame_refusal_line index (bad_bytes f) = frame_fault_line index f
 frame_refusal_line index (no_json r) = frame_json_line index r.path r.cause
 
 -- what an input begins with is refused so: it is no frame; or it is one, and is printed as JSON, and its message has no JSON form
-abbrev pub IsRefusedFrame : FrameForm → Types → ℕ → List ℕ → FrameRefusal → Type 0
+abbrev pub IsRefusedFrame : Shown → Types → ℕ → List ℕ → FrameRefusal → Type 0
 IsRefusedFrame form pool m input (bad_bytes f) = FrameFault pool m full input f
 IsRefusedFrame form pool m input (no_json r) =
-    (form ≡ Json) × ((v : Message) × (rest : List ℕ) × Frame pool m full input v rest × IsRefused (record { pool = pool; kind = m; body = v }) r)
+    (are_json form ≡ true) × ((v : Message) × (rest : List ℕ) × Frame pool m full input v rest × IsRefused (record { pool = pool; kind = m; body = v }) r)
 
 -- frames of the type may be refused so, whatever their bytes
-abbrev pub MayBeRefused : FrameForm → Types → ℕ → FrameRefusal → Type 0
+abbrev pub MayBeRefused : Shown → Types → ℕ → FrameRefusal → Type 0
 MayBeRefused form pool m (bad_bytes f) = ⊤
 MayBeRefused form pool m (no_json r) =
-    (form ≡ Json) × ((v : Message) × IsWellFormed pool m v × IsRefused (record { pool = pool; kind = m; body = v }) r)
+    (are_json form ≡ true) × ((v : Message) × IsWellFormed pool m v × IsRefused (record { pool = pool; kind = m; body = v }) r)
 
 -- the lines of this number of frames, whatever their places
-pub data AreFrames (form : FrameForm) (pool : Types) (m : ℕ) : ℕ → List ℕ → Type 0 where
+pub data AreFrames (form : Shown) (pool : Types) (m : ℕ) : ℕ → List ℕ → Type 0 where
   none : AreFrames form pool m 0 []
   one_more :
       {count : ℕ} {text : List ℕ} {v : Message} (lines : List ℕ) → AreFrames form pool m count text → IsWellFormed pool m v → (offset size : ℕ)
       → AreFrameLines form pool m count offset size v lines → AreFrames form pool m (suc count) (text ++ lines)
 
 -- an input begins with these numbers of frames and of bytes, with these lines, and the rest follows
-pub data BeginsWith (form : FrameForm) (pool : Types) (m : ℕ) (input : List ℕ) : ℕ → ℕ → List ℕ → List ℕ → Type 0 where
+pub data BeginsWith (form : Shown) (pool : Types) (m : ℕ) (input : List ℕ) : ℕ → ℕ → List ℕ → List ℕ → Type 0 where
   no_frame : BeginsWith form pool m input 0 0 [] input
   frame_more :
       {count offset : ℕ} {text rest after : List ℕ} {v : Message} (lines : List ℕ) (size : ℕ) → BeginsWith form pool m input count offset text rest

@@ -28,7 +28,7 @@ ListingAnswer floats m answer = (text : List ℕ) × IsListing floats m text × 
 abbrev pub FormAnswer : Form → Dynamic → Answer → Type 0
 FormAnswer Check m answer = answer ≡ done (codes "ok\n")
 FormAnswer (Listing floats) m answer = ListingAnswer floats m answer
-FormAnswer (Json layout) m answer = JsonAnswer layout m answer
+FormAnswer (Json layout names) m answer = JsonAnswer layout names m answer
 FormAnswer Canonical m answer = CanonAnswer (bytes_of m) (done (encode_lower (bytes_of m) ++ line_feed)) answer
 FormAnswer (CanonicalFile path) m answer = CanonAnswer (bytes_of m) (saves path.now (bytes_of m)) answer
 

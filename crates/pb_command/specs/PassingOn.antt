@@ -1,5 +1,5 @@
 -- What reading all frames of one input leaves.
-use Rattle.std.specs.Prelude.{◌≡◌, ◌⊎◌, ◌+◌, ◌<◌, ◌^◌, ⊤, ℕ, zero, List, ◌++◌, length, Bool, true, Option, Some, Result, Ok, Err}
+use Rattle.std.specs.Prelude.{◌≡◌, ◌⊎◌, ◌+◌, ◌<◌, ◌^◌, ℕ, List, length, Bool, true, Option, Some, Result, Ok, Err}
 use Rattle.pb_schema.specs.Types.{Types}
 use Rattle.pb_files.specs.Answer.{Answer, done, stopped, broken}
 use Rattle.pb_files.specs.Known.{OfInput}
@@ -10,9 +10,9 @@ use Rattle.pb_command.specs.AllFrames.{AllBegunBy, AllFramesBy, ArePassed, Passe
 use Rattle.pb_command.specs.declared.all_frames.Progress.{Progress}
 use Rattle.pb_command.specs.declared.all_frames.Turn.{Turn}
 use Rattle.pb_command.specs.declared.all_frames.Turn.TheVariants.{GoesOn, Ends, Stops}
-use Rattle.pb_command.specs.declared.command.FrameForm.{FrameForm}
+use Rattle.pb_command.specs.declared.shown.Shown.{Shown}
 use Rattle.pb_files.specs.declared.report.Refusal.{Refusal}
-use Rattle.pb_files.specs.declared.report.Refusal.TheVariants.{Frames, Memory}
+use Rattle.pb_files.specs.declared.report.Refusal.TheVariants.{Frames}
 
 module _
     {D : Type 0} (written : D → Option (List ℕ)) (failures : D → ℕ) (old new : D) (a b : Sink) (IsRight : Answer → Type 0) (IsBegun : List ℕ → Type 0) where
@@ -29,7 +29,7 @@ module _
 
 -- these frames were read of an input
 pub record HasPassed
-    {I : Type 0} (left : I → Option (List ℕ)) (is_steady : I → Bool) (start now : I) (form : FrameForm) (pool : Types) (m : ℕ) (s : Passed) : Type 0 where
+    {I : Type 0} (left : I → Option (List ℕ)) (is_steady : I → Bool) (start now : I) (form : Shown) (pool : Types) (m : ℕ) (s : Passed) : Type 0 where
   pub passed : ArePassed form pool m s
   pub steady : is_steady start ≡ true → is_steady now ≡ true
   pub known :
@@ -38,7 +38,7 @@ pub record HasPassed
 
 module _
     {D I : Type 0} (written : D → Option (List ℕ)) (failures : D → ℕ) (left : I → Option (List ℕ)) (is_steady : I → Bool) (old new : D) (a b : Sink)
-    (start now : I) (form : FrameForm) (pool : Types) (m : ℕ) where
+    (start now : I) (form : Shown) (pool : Types) (m : ℕ) where
   -- this number of frames was read, and their lines were put
   pub record IsGoing (index : ℕ) (p : Progress) : Type 0 where
     pub state : Passed

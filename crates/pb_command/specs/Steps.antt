@@ -1,5 +1,5 @@
 -- What the steps of a command leave.
-use Rattle.std.specs.Prelude.{◌≡◌, ◌⊎◌, ◌+◌, ℕ, List, [], Bool, true, Option, None, Some, Result, Ok, Err, Vec, option_map, take}
+use Rattle.std.specs.Prelude.{◌≡◌, ◌⊎◌, ◌+◌, ℕ, List, [], Bool, Option, None, Some, Result, Ok, Err, Vec, option_map}
 use Rattle.std.specs.declared.alloc.Global.{Global}
 use Rattle.pb_wire.specs.Schema.{blank}
 use Rattle.pb_wire.specs.Exact.{IsSomeText}
@@ -8,6 +8,8 @@ use Rattle.pb_schema.specs.Types.{Types}
 use Rattle.pb_value.specs.Dynamic.{Dynamic}
 use Rattle.pb_value.specs.WellFormed.{IsWellFormed}
 use Rattle.pb_json.specs.Answers.{IsRefused, refused_view}
+use Rattle.std.specs.Borrow.{Bor}
+use Rattle.pb_json.specs.Given.{NamesGiven}
 use Rattle.pb_json.specs.declared.error.JsonError.{JsonError}
 use Rattle.pb_json.specs.declared.error.JsonError.TheVariants as json_error
 use Rattle.pb_json.specs.declared.form.Layout.{Layout}
@@ -18,7 +20,7 @@ use Rattle.pb_command.specs.Answers.{FaultAt, TextAt, FramesAt, RefusedFrameAt, 
 use Rattle.pb_command.specs.AllFrames.{AllBegunBy, AllFramesBy}
 use Rattle.pb_command.specs.CompatAnswer.{CompatAnswer}
 use Rattle.pb_command.specs.CompileAnswer.{CompileAnswer, places_of, texts_of, told_of}
-use Rattle.pb_files.specs.FileMap.{FileMap, IsHonest}
+use Rattle.pb_files.specs.FileMap.{FileMap}
 use Rattle.pb_command.specs.FramesAnswer.{FramesAnswer}
 use Rattle.pb_command.specs.Gathering.{Gathered, GathersUnder, HasTroubleUnder, IsAbsentUnder, DeclaresUnder, Places, Origin, Outcome, Trouble, stopped_at}
 use Rattle.pb_command.specs.FromJsonAnswer.{FromJsonAnswer, rules_by}
@@ -32,6 +34,7 @@ use Rattle.pb_command.specs.TypesAnswer.{TypesAnswer}
 use Rattle.pb_command.specs.JsonAnswer.{IsJsonLine}
 use Rattle.pb_files.specs.Known.{IsReadOf, OfFiles}
 use Rattle.pb_files.specs.SetFile.{HasType}
+use Rattle.pb_command.specs.SetNames.{GivesNames, IsShownAs}
 use Rattle.pb_files.specs.declared.set_file.Reading.{Reading}
 use Rattle.pb_command.specs.declared.command.Command.{Command}
 use Rattle.pb_command.specs.declared.command.Command.TheVariants.{Raw, Check, Show, Canon, Json, Frames, AllFrames, Compile}
@@ -41,6 +44,7 @@ use Rattle.pb_command.specs.declared.command.Comparison.{Comparison}
 use Rattle.pb_command.specs.declared.command.FrameForm.{FrameForm}
 use Rattle.pb_command.specs.declared.command.RawForm.{RawForm}
 use Rattle.pb_command.specs.declared.command.Source.{Source}
+use Rattle.pb_command.specs.declared.shown.Shown.{Shown}
 use Rattle.pb_command.specs.declared.form.Form.{Form}
 use Rattle.pb_command.specs.declared.form.Form.TheVariants as form
 use Rattle.pb_files.specs.declared.report.Refusal.{Refusal}
@@ -82,11 +86,11 @@ NoFile saved = saved ≡ None
 
 -- A MESSAGE AS JSON
 
-module _ {D : Type 0} (written : D → Option (List ℕ)) (failures : D → ℕ) (old new : D) (layout : Layout) (m : Dynamic) where
+module _ {D : Type 0} (written : D → Option (List ℕ)) (failures : D → ℕ) (old new : D) (layout : Layout) (names : Bor NamesGiven) (m : Dynamic) where
   -- its line went out whole, or a prefix of it before the output failed; or there is none, and nothing went out
   abbrev pub WritesLine : Result Unit JsonError → Type 0
-  WritesLine (Ok u) = (line : List ℕ) × IsJsonLine layout m line × Sent written failures old new line
-  WritesLine (Err json_error.Output) = (line : List ℕ) × IsJsonLine layout m line × Cut written failures old new line
+  WritesLine (Ok u) = (line : List ℕ) × IsJsonLine layout names m line × Sent written failures old new line
+  WritesLine (Err json_error.Output) = (line : List ℕ) × IsJsonLine layout names m line × Cut written failures old new line
   WritesLine (Err (json_error.Refused x)) = IsRefused m (refused_view x) × (new ≡ old)
   WritesLine (Err json_error.Memory) = new ≡ old
 
@@ -105,12 +109,12 @@ module _ {F : Type 0} (contents : F → Option FileMap) (is_steady : F → Bool)
       (λ pool m v. IsWellFormed pool m v × OfFiles contents is_steady files path (λ content. TextAt content pool m v)) form pool m a
 
   -- or its JSON text is read
-  abbrev pub JsonReadAt : JsonRules → List ℕ → Types → ℕ → List ℕ → Answer → Type 0
-  JsonReadAt rules out pool m path a =
-      IsMissing path a ⊎ FromJsonAnswer (λ b. IsReadOf contents is_steady files (full.bytes + 1) path (Some b)) rules out pool m a
+  abbrev pub JsonReadAt : JsonRules → NamesGiven → List ℕ → Types → ℕ → List ℕ → Answer → Type 0
+  JsonReadAt rules names out pool m path a =
+      IsMissing path a ⊎ FromJsonAnswer (λ b. IsReadOf contents is_steady files (full.bytes + 1) path (Some b)) rules names out pool m a
 
   -- or its frames are shown
-  abbrev pub StreamAt : FrameForm → Types → ℕ → List ℕ → Answer → Type 0
+  abbrev pub StreamAt : Shown → Types → ℕ → List ℕ → Answer → Type 0
   StreamAt form pool m path a =
       IsMissing path a
       ⊎ FramesAnswer (λ pool m text. AnyFrames form pool m text × OfFiles contents is_steady files path (λ content. FramesAt content form pool m text))
@@ -118,15 +122,15 @@ module _ {F : Type 0} (contents : F → Option FileMap) (is_steady : F → Bool)
       (λ pool m text. AnyFrames form pool m text × OfFiles contents is_steady files path (λ content. ⊥)) path pool m a
 
   -- what is printed of them before that is known
-  abbrev pub StreamBegunAt : FrameForm → Types → ℕ → List ℕ → List ℕ → Type 0
+  abbrev pub StreamBegunAt : Shown → Types → ℕ → List ℕ → List ℕ → Type 0
   StreamBegunAt form pool m path text =
       (text ≡ []) ⊎ (AnyFrames form pool m text × OfFiles contents is_steady files path (λ content. FramesBegunAt content form pool m text))
 
   -- or all its frames are
-  abbrev pub AllFramesAtPath : FrameForm → Types → ℕ → List ℕ → Answer → Type 0
+  abbrev pub AllFramesAtPath : Shown → Types → ℕ → List ℕ → Answer → Type 0
   AllFramesAtPath form pool m path a = IsMissing path a ⊎ AllFramesBy (OfFiles contents is_steady files path) form path pool m a
 
-  abbrev pub AllBegunAtPath : FrameForm → Types → ℕ → List ℕ → List ℕ → Type 0
+  abbrev pub AllBegunAtPath : Shown → Types → ℕ → List ℕ → List ℕ → Type 0
   AllBegunAtPath form pool m path text = (text ≡ []) ⊎ AllBegunBy (OfFiles contents is_steady files path) form pool m text
 
   -- COMMANDS
@@ -139,20 +143,31 @@ module _ {F : Type 0} (contents : F → Option FileMap) (is_steady : F → Bool)
       (λ pool m v. IsWellFormed pool m v × OfFiles contents is_steady files s.file.now (λ content. TextAt content pool m v)) form)
       s.reading s.type_name.now s.set.now s.file.now
 
+  -- what `json` answers
+  abbrev pub JsonOf : Layout → Source → Answer → Type 0
+  JsonOf layout s =
+      TypeAnswer (IsReadOf contents is_steady files (full.bytes + 1) s.set.now) (OfFiles contents is_steady files s.file.now (λ content. content ≡ None))
+      (λ pool m a. (names : Bor NamesGiven) × GivesNames (IsReadOf contents is_steady files (full.bytes + 1) s.set.now) s pool m names.now
+      × MessageAnswer (λ pool m f. OfFiles contents is_steady files s.file.now (λ content. FaultAt content pool m f))
+      (λ pool m v. IsWellFormed pool m v × OfFiles contents is_steady files s.file.now (λ content. TextAt content pool m v)) (form.Json layout names) pool m a)
+      s.reading s.type_name.now s.set.now s.file.now
+
   -- what `from-json` answers
   abbrev pub JsonReadOf : List ℕ → Source → Answer → Type 0
   JsonReadOf out s =
       TypeAnswer (IsReadOf contents is_steady files (full.bytes + 1) s.set.now) (OfFiles contents is_steady files s.file.now (λ content. content ≡ None))
-      (FromJsonAnswer (λ b. IsReadOf contents is_steady files (full.bytes + 1) s.file.now (Some b)) (rules_by s.reading) out)
+      (λ pool m a. (names : NamesGiven) × GivesNames (IsReadOf contents is_steady files (full.bytes + 1) s.set.now) s pool m names
+      × FromJsonAnswer (λ b. IsReadOf contents is_steady files (full.bytes + 1) s.file.now (Some b)) (rules_by s.reading) names out pool m a)
       s.reading s.type_name.now s.set.now s.file.now
 
   -- what `frames` answers
   abbrev pub StreamOf : FrameForm → Source → Answer → Type 0
   StreamOf form s =
       TypeAnswer (IsReadOf contents is_steady files (full.bytes + 1) s.set.now) (OfFiles contents is_steady files s.file.now (λ content. content ≡ None))
-      (FramesAnswer (λ pool m text. AnyFrames form pool m text × OfFiles contents is_steady files s.file.now (λ content. FramesAt content form pool m text))
-      (λ pool m count text r. AnyRefusal form pool m count text r × OfFiles contents is_steady files s.file.now (λ content. RefusedFrameAt content form pool m count text r))
-      (λ pool m text. AnyFrames form pool m text × OfFiles contents is_steady files s.file.now (λ content. ⊥)) s.file.now)
+      (λ pool m a. (way : Shown) × IsShownAs (IsReadOf contents is_steady files (full.bytes + 1) s.set.now) s pool m form way
+      × FramesAnswer (λ pool m text. AnyFrames way pool m text × OfFiles contents is_steady files s.file.now (λ content. FramesAt content way pool m text))
+      (λ pool m count text r. AnyRefusal way pool m count text r × OfFiles contents is_steady files s.file.now (λ content. RefusedFrameAt content way pool m count text r))
+      (λ pool m text. AnyFrames way pool m text × OfFiles contents is_steady files s.file.now (λ content. ⊥)) s.file.now pool m a)
       s.reading s.type_name.now s.set.now s.file.now
 
   -- what `frames` prints before that is known
@@ -160,20 +175,25 @@ module _ {F : Type 0} (contents : F → Option FileMap) (is_steady : F → Bool)
   StreamBegun form s text =
       (text ≡ [])
       ⊎ ((set : List ℕ) × (pool : Types) × (m : ℕ) × IsReadOf contents is_steady files (full.bytes + 1) s.set.now (Some set)
-      × HasType s.reading s.type_name.now set pool m × AnyFrames form pool m text × OfFiles contents is_steady files s.file.now (λ content. FramesBegunAt content form pool m text))
+      × HasType s.reading s.type_name.now set pool m
+      × ((way : Shown) × IsShownAs (IsReadOf contents is_steady files (full.bytes + 1) s.set.now) s pool m form way
+      × AnyFrames way pool m text × OfFiles contents is_steady files s.file.now (λ content. FramesBegunAt content way pool m text)))
 
   -- what `frames --keep-going` answers
   abbrev pub AllFramesOf : FrameForm → Source → Answer → Type 0
   AllFramesOf form s =
       TypeAnswer (IsReadOf contents is_steady files (full.bytes + 1) s.set.now) (OfFiles contents is_steady files s.file.now (λ content. content ≡ None))
-      (AllFramesBy (OfFiles contents is_steady files s.file.now) form s.file.now) s.reading s.type_name.now s.set.now s.file.now
+      (λ pool m a. (way : Shown) × IsShownAs (IsReadOf contents is_steady files (full.bytes + 1) s.set.now) s pool m form way
+      × AllFramesBy (OfFiles contents is_steady files s.file.now) way s.file.now pool m a) s.reading s.type_name.now s.set.now s.file.now
 
   -- what it prints before that is known
   abbrev pub AllBegunOf : FrameForm → Source → List ℕ → Type 0
   AllBegunOf form s text =
       (text ≡ [])
       ⊎ ((set : List ℕ) × (pool : Types) × (m : ℕ) × IsReadOf contents is_steady files (full.bytes + 1) s.set.now (Some set)
-      × HasType s.reading s.type_name.now set pool m × AllBegunBy (OfFiles contents is_steady files s.file.now) form pool m text)
+      × HasType s.reading s.type_name.now set pool m
+      × ((way : Shown) × IsShownAs (IsReadOf contents is_steady files (full.bytes + 1) s.set.now) s pool m form way
+      × AllBegunBy (OfFiles contents is_steady files s.file.now) way pool m text))
 
   -- what `types` answers
   abbrev pub TypesOf : Reading → List ℕ → Option (List ℕ) → Answer → Type 0
@@ -218,7 +238,7 @@ module _ {F : Type 0} (contents : F → Option FileMap) (is_steady : F → Bool)
   RightOf (Check source) a = MessageOf form.Check source a
   RightOf (Show floats source) a = MessageOf (form.Listing floats) source a
   RightOf (Canon to source) a = MessageOf (canonical_form to) source a
-  RightOf (Json layout source) a = MessageOf (form.Json layout) source a
+  RightOf (Json layout source) a = JsonOf layout source a
   RightOf (FromJson out source) a = JsonReadOf out.now source a
   RightOf (Frames form source) a = StreamOf form source a
   RightOf (AllFrames form source) a = AllFramesOf form source a

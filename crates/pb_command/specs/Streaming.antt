@@ -16,14 +16,13 @@ use Rattle.pb_json.specs.declared.error.JsonError.{JsonError}
 use Rattle.pb_json.specs.declared.error.JsonError.TheVariants as json_error
 use Rattle.pb_files.specs.Answer.{Answer, stopped, broken, done}
 use Rattle.pb_command.specs.Answers.{FramesAt, RefusedFrameAt, FramesBegunAt, AnyFrames, AnyRefusal}
-use Rattle.pb_command.specs.FramesAnswer.{AreFrameLines, FramesAnswer}
+use Rattle.pb_command.specs.FramesAnswer.{AreFrameLines, FramesAnswer, are_json}
 use Rattle.pb_files.specs.Refusal.{ByRefusal}
 use Rattle.pb_listing.specs.Putting.{PutsSome}
 use Rattle.pb_output.specs.Sink.{Puts}
 use Rattle.pb_files.specs.Known.{OfInput}
 use Rattle.pb_output.specs.declared.sink.Sink.{Sink}
-use Rattle.pb_command.specs.declared.command.FrameForm.{FrameForm}
-use Rattle.pb_command.specs.declared.command.FrameForm.TheVariants.{Json}
+use Rattle.pb_command.specs.declared.shown.Shown.{Shown}
 use Rattle.pb_command.specs.declared.frames.Next.{Next}
 use Rattle.pb_command.specs.declared.frames.Next.TheVariants.{Put, End, Refused}
 use Rattle.pb_files.specs.declared.report.Refusal.{Refusal}
@@ -43,8 +42,8 @@ IsToldOfFormless index json_error.Memory e = e ≡ refusal.Memory
 IsToldOfFormless index json_error.Output e = e ≡ refusal.Memory
 
 -- it is to be printed as JSON, and a part of its message has no JSON form, or there was no memory for it
-abbrev pub IsFormless : FrameForm → ℕ → Dynamic → Refusal → Type 0
-IsFormless form index m e = (form ≡ Json) × ((error : JsonError) × RefusedAs m error × IsToldOfFormless index error e)
+abbrev pub IsFormless : Shown → ℕ → Dynamic → Refusal → Type 0
+IsFormless form index m e = (are_json form ≡ true) × ((error : JsonError) × RefusedAs m error × IsToldOfFormless index error e)
 
 -- ONE FRAME MORE
 
@@ -63,12 +62,12 @@ pub record RefusesFrame {I : Type 0} (left : I → Option (List ℕ)) (is_steady
   pub failed : is_steady old.input ≡ true → error ≢ decode.Device
 
 -- the bytes are the lines of the frame that a reader read
-abbrev pub AreReadLines : {I : Type 0} → FrameForm → ℕ → Stream I → Stream I → Message → List ℕ → Type 0
+abbrev pub AreReadLines : {I : Type 0} → Shown → ℕ → Stream I → Stream I → Message → List ℕ → Type 0
 AreReadLines form index old new m s = AreFrameLines form old.pool old.kind index old.taken (new.taken - old.taken) m s
 
 -- the frame that was read is refused, since its message has no JSON form
 abbrev pub RefusesRead :
-    {I : Type 0} (left : I → Option (List ℕ)) (is_steady : I → Bool) (form : FrameForm) (index : ℕ) (old new : Stream I) (e : Refusal) → Type 0
+    {I : Type 0} (left : I → Option (List ℕ)) (is_steady : I → Bool) (form : Shown) (index : ℕ) (old new : Stream I) (e : Refusal) → Type 0
 RefusesRead left is_steady form index old new e =
     (m : Message) × ReadsFrame left is_steady old new m × IsFormless form index (record { pool = old.pool; kind = old.kind; body = m }) e
 
@@ -80,7 +79,7 @@ RefusesNext left is_steady old index path e = (error : DecodeError) × RefusesFr
 -- the lines of the next frame were put; or nothing is left, or what is left is refused
 abbrev pub PutsNext :
     {D I : Type 0} (written : D → Option (List ℕ)) (failures : D → ℕ) (left : I → Option (List ℕ)) (is_steady : I → Bool) (old new : D) (a b : Sink)
-    (before after : Stream I) (form : FrameForm) (index : ℕ) (path : Bor (List ℕ)) → Next → Type 0
+    (before after : Stream I) (form : Shown) (index : ℕ) (path : Bor (List ℕ)) → Next → Type 0
 PutsNext written failures left is_steady old new a b before after form index path Put =
     (m : Message) × ReadsFrame left is_steady before after m × PutsSome written failures old new a b (AreReadLines form index before after m)
 PutsNext written failures left is_steady old new a b before after form index path End =
@@ -92,19 +91,19 @@ PutsNext written failures left is_steady old new a b before after form index pat
 
 module _ {I : Type 0} (left : I → Option (List ℕ)) (is_steady : I → Bool) (input : I) where
   -- what comes of the frames of an input
-  abbrev pub FramesIn : FrameForm → List ℕ → Types → ℕ → Answer → Type 0
+  abbrev pub FramesIn : Shown → List ℕ → Types → ℕ → Answer → Type 0
   FramesIn form path =
       FramesAnswer (λ pool m text. AnyFrames form pool m text × OfInput left is_steady input (λ content. FramesAt content form pool m text))
       (λ pool m count text r. AnyRefusal form pool m count text r × OfInput left is_steady input (λ content. RefusedFrameAt content form pool m count text r))
       (λ pool m text. AnyFrames form pool m text × OfInput left is_steady input (λ content. ⊥)) path
 
   -- what is printed of them before that is known
-  abbrev pub FramesBegunIn : FrameForm → Types → ℕ → List ℕ → Type 0
+  abbrev pub FramesBegunIn : Shown → Types → ℕ → List ℕ → Type 0
   FramesBegunIn form pool m text = AnyFrames form pool m text × OfInput left is_steady input (λ content. FramesBegunAt content form pool m text)
 
   -- the lines of frames were put, up to the end or to why what follows is refused, or up to where the output had failed
   abbrev pub PutsFrames :
-      {D : Type 0} (written : D → Option (List ℕ)) (failures : D → ℕ) (old new : D) (a b : Sink) (form : FrameForm) (path : List ℕ) (pool : Types) (m : ℕ)
+      {D : Type 0} (written : D → Option (List ℕ)) (failures : D → ℕ) (old new : D) (a b : Sink) (form : Shown) (path : List ℕ) (pool : Types) (m : ℕ)
       → Option Refusal → Type 0
   PutsFrames written failures old new a b form path pool m None =
       (text : List ℕ) × Puts written failures old new a b text

@@ -16,9 +16,11 @@ ghost use Rattle.pb_command.specs.Steps.{AllBegunAtPath, AllBegunOf, AllFramesAt
 use crate::afterwards::{Afterwards, part_with};
 use crate::command::{FrameForm, Source};
 use crate::frames::put_frame;
-use pb_files::{Files, OUTPUT, Refusal, find_type, open_file};
+use crate::shown::Shown;
+use pb_files::{Files, OUTPUT, Refusal, find_named_type, find_type, open_file};
 use pb_frames::{NextFrame, Reason, next_frame};
 use pb_json::JsonError;
+use pb_listing::FloatForm;
 use pb_output::Sink;
 use pb_schema::{MessageId, Pool};
 use pb_wire::{FailurePlan, Input, Limits, MemOutput, Output, ReadFault};
@@ -28,7 +30,7 @@ use std::alloc::{AllocError, Global};
 #[derive(Drop)]
 struct Stream<'p, 'a> {
     alloc: Global,
-    form: FrameForm,
+    form: Shown<'p>,
     pool: &'p Pool,
     message_type: MessageId,
     path: &'a str,
@@ -70,6 +72,30 @@ pub fn all_frames<'a, F: Files, O: Output>(
     ensures kept { KeepsFailures F.failures files.old files.new result }
     ensures unfailing { F.is_steady files.old ≡ true → F.failures files.new ≡ F.failures files.old }
 {
+    match form {
+        FrameForm::Listing(floats) => {
+            all_frames_listed(alloc, afterwards, floats, source, files, out)
+        }
+        FrameForm::Json => all_frames_json(alloc, afterwards, source, files, out),
+    }
+}
+
+/// Lists the messages of a file.
+fn all_frames_listed<'a, F: Files, O: Output>(
+    alloc: Global,
+    afterwards: Afterwards,
+    floats: FloatForm,
+    source: &Source<'a>,
+    files: &mut F,
+    out: &mut O,
+) -> Result<(), Refusal<'a>>
+    ensures comes { Comes (Sent O.written O.failures out.old out.new) (Cut O.written O.failures out.old out.new)
+        (IsSaved F.contents files.old files.new) (IsUnsaved F.contents F.failures files.old files.new)
+        (AllFramesOf F.contents F.is_steady files.old (FrameForm.Listing floats) source.now)
+        (AllBegunOf F.contents F.is_steady files.old (FrameForm.Listing floats) source.now) result }
+    ensures kept { KeepsFailures F.failures files.old files.new result }
+    ensures unfailing { F.is_steady files.old ≡ true → F.failures files.new ≡ F.failures files.old }
+{
     let (pool, message_type) = find_type(
         alloc,
         source.reading,
@@ -77,15 +103,46 @@ pub fn all_frames<'a, F: Files, O: Output>(
         source.type_name,
         files,
     )?;
-    let answer = all_frames_at(alloc, form, &pool, message_type, source.file, files, out);
+    let shown = Shown::Listing(floats);
+    let answer = all_frames_at(alloc, shown, &pool, message_type, source.file, files, out);
     part_with(pool, afterwards);
+    answer
+}
+
+/// Writes the messages of a file as JSON, with the names that the set gives to fields.
+fn all_frames_json<'a, F: Files, O: Output>(
+    alloc: Global,
+    afterwards: Afterwards,
+    source: &Source<'a>,
+    files: &mut F,
+    out: &mut O,
+) -> Result<(), Refusal<'a>>
+    ensures comes { Comes (Sent O.written O.failures out.old out.new) (Cut O.written O.failures out.old out.new)
+        (IsSaved F.contents files.old files.new) (IsUnsaved F.contents F.failures files.old files.new)
+        (AllFramesOf F.contents F.is_steady files.old FrameForm.Json source.now)
+        (AllBegunOf F.contents F.is_steady files.old FrameForm.Json source.now) result }
+    ensures kept { KeepsFailures F.failures files.old files.new result }
+    ensures unfailing { F.is_steady files.old ≡ true → F.failures files.new ≡ F.failures files.old }
+{
+    let named = find_named_type(alloc, source.reading, source.set, source.type_name, files)?;
+    let shown = Shown::Json(&named.names);
+    let answer = all_frames_at(
+        alloc,
+        shown,
+        &named.pool,
+        named.message_type,
+        source.file,
+        files,
+        out,
+    );
+    part_with(named, afterwards);
     answer
 }
 
 /// Shows the messages of a type that the file at a path holds.
 fn all_frames_at<'a, F: Files, O: Output>(
     alloc: Global,
-    form: FrameForm,
+    form: Shown<'_>,
     pool: &Pool,
     message_type: MessageId,
     path: &'a str,
@@ -95,8 +152,8 @@ fn all_frames_at<'a, F: Files, O: Output>(
     requires { message_type.0 < length pool.now.messages }
     ensures comes { Comes (Sent O.written O.failures out.old out.new) (Cut O.written O.failures out.old out.new)
         (IsSaved F.contents files.old files.new) (IsUnsaved F.contents F.failures files.old files.new)
-        (AllFramesAtPath F.contents F.is_steady files.old form pool.now message_type.0 path.entry.now)
-        (AllBegunAtPath F.contents F.is_steady files.old form pool.now message_type.0 path.entry.now) result }
+        (AllFramesAtPath F.contents F.is_steady files.old form.entry pool.now message_type.0 path.entry.now)
+        (AllBegunAtPath F.contents F.is_steady files.old form.entry pool.now message_type.0 path.entry.now) result }
     ensures kept { KeepsFailures F.failures files.old files.new result }
     ensures unfailing { F.is_steady files.old ≡ true → F.failures files.new ≡ F.failures files.old }
 {

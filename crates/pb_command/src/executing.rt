@@ -17,7 +17,7 @@ use crate::compile::compile;
 use crate::form::Form;
 use crate::frames::frames;
 use crate::from_json::from_json;
-use crate::message::message;
+use crate::message::{json, message};
 use crate::raw::raw;
 use crate::types::types;
 use pb_files::{Files, Refusal};
@@ -118,14 +118,7 @@ pub(crate) fn perform<'a, F: Files, O: Output>(
             files,
             out,
         ),
-        Command::Json { layout, source } => message(
-            alloc,
-            afterwards,
-            Form::Json(*layout),
-            source,
-            files,
-            out,
-        ),
+        Command::Json { layout, source } => json(alloc, afterwards, *layout, source, files, out),
         Command::FromJson { out: to, source } => from_json(alloc, afterwards, source, to, files),
         Command::Frames { form, source } => frames(alloc, afterwards, *form, source, files, out),
         Command::AllFrames { form, source } => all_frames(
@@ -144,7 +137,7 @@ pub(crate) fn perform<'a, F: Files, O: Output>(
 }
 
 /// Where canonical bytes go.
-fn form_of(to: Option<&str>) -> Form<'_>
+fn form_of<'a>(to: Option<&'a str>) -> Form<'a, 'static>
     ensures { result ≡ canonical_form to.entry }
 {
     match to {

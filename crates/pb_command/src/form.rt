@@ -17,21 +17,21 @@ ghost use Rattle.pb_command.specs.Steps.{Comes, IsNothing, NoFile, WritesLine};
 
 use pb_encode::{EncodeError, encode};
 use pb_files::{Files, OUTPUT, Refusal};
-use pb_json::{JsonError, JsonForm, Layout, Names, put_json};
+use pb_json::{JsonError, JsonForm, JsonNames, Layout, Names, put_json};
 use pb_listing::{FloatForm, write_message_as};
 use pb_output::Sink;
 use pb_value::DynamicMessage;
 use pb_wire::{DeviceFault, Output, write_all};
 
 /// What is made of a message.
-#[derive(Clone, Copy, Debug, PartialEq, Eq)]
-pub enum Form<'a> {
+#[derive(Clone, Copy, Debug)]
+pub enum Form<'a, 'n> {
     /// A line that says that it is one.
     Check,
     /// Its listing, with floats in a form.
     Listing(FloatForm),
-    /// Its JSON text, and a line feed.
-    Json(Layout),
+    /// Its JSON text, with these names of fields, and a line feed.
+    Json(Layout, &'n JsonNames),
     /// Its canonical bytes, as a line of hexadecimal.
     Canonical,
     /// Its canonical bytes, in the file of a path.
@@ -40,7 +40,7 @@ pub enum Form<'a> {
 
 /// Makes it of a message: on standard output, or in a file.
 pub fn make<'a, F: Files, O: Output>(
-    form: Form<'a>,
+    form: Form<'a, '_>,
     message: &DynamicMessage<'_>,
     files: &mut F,
     out: &mut O,
@@ -54,7 +54,7 @@ pub fn make<'a, F: Files, O: Output>(
     match form {
         Form::Check => print_ok(out),
         Form::Listing(floats) => print_listing(floats, message, out),
-        Form::Json(layout) => print_json(layout, message, out),
+        Form::Json(layout, names) => print_json(layout, names, message, out),
         Form::Canonical => print_canonical(message, out),
         Form::CanonicalFile(path) => save_canonical(message, path, files),
     }
@@ -86,13 +86,14 @@ fn print_listing<'a, O: Output>(
 
 fn print_json<'a, O: Output>(
     layout: Layout,
+    names: &JsonNames,
     message: &DynamicMessage<'_>,
     out: &mut O,
 ) -> Result<(), Refusal<'a>>
     ensures { Comes (Sent O.written O.failures out.old out.new) (Cut O.written O.failures out.old out.new) NoFile (λ _. ⊥)
-        (JsonAnswer layout message.now) IsNothing result }
+        (JsonAnswer layout names.entry message.now) IsNothing result }
 {
-    match write_json_line(layout, message, out) {
+    match write_json_line(layout, names, message, out) {
         Ok(()) => Ok(()),
         Err(JsonError::Refused(refusal)) => Err(Refusal::Json {
             path: refusal.path,
@@ -106,13 +107,14 @@ fn print_json<'a, O: Output>(
 /// Writes the JSON text of a message, and a line feed.
 fn write_json_line<O: Output>(
     layout: Layout,
+    names: &JsonNames,
     message: &DynamicMessage<'_>,
     out: &mut O,
 ) -> Result<(), JsonError>
-    ensures { WritesLine O.written O.failures out.old out.new layout message.now result }
+    ensures { WritesLine O.written O.failures out.old out.new layout names.entry message.now result }
 {
     let mut sink = Sink::new();
-    if let Err(error) = put_json_line(&mut sink, out, layout, message) {
+    if let Err(error) = put_json_line(&mut sink, out, layout, names, message) {
         return Err(error);
     }
     match sink.finish(out) {
@@ -126,13 +128,14 @@ pub(crate) fn put_json_line<O: Output>(
     sink: &mut Sink,
     out: &mut O,
     layout: Layout,
+    names: &JsonNames,
     message: &DynamicMessage<'_>,
 ) -> Result<(), JsonError>
-    ensures put { OnOk result (PutsSome O.written O.failures out.old out.new sink.old sink.new (IsJsonLine layout message.now)) }
+    ensures put { OnOk result (PutsSome O.written O.failures out.old out.new sink.old sink.new (IsJsonLine layout names.entry message.now)) }
     ensures failed { IfErr result (λ e. RefusedAs message.now e × (out.new ≡ out.old) × (sink.new ≡ sink.old)) }
 {
     let form = JsonForm {
-        names: Names::LowerCamel,
+        names: Names::Given(names),
         layout,
     };
     match put_json(sink, out, message.alloc(), &message.view(), form) {

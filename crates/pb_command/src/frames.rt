@@ -3,7 +3,7 @@
 ghost use Rattle.std.specs.Prelude.{◌≡◌, ◌<◌, false, length, true, IfErr, OnOk};
 ghost use Rattle.pb_wire.specs.Limits.{full};
 ghost use Rattle.pb_files.specs.FileMap.{IsSaved, IsUnsaved};
-ghost use Rattle.pb_command.specs.FramesAnswer.{AreFrameLines, frame_line};
+ghost use Rattle.pb_command.specs.FramesAnswer.{AreFrameLines, are_json, frame_line};
 ghost use Rattle.pb_json.specs.Answers.{RefusedAs};
 ghost use Rattle.pb_listing.specs.Putting.{PutsSome};
 ghost use Rattle.pb_output.specs.Sending.{Cut, Sent};
@@ -15,8 +15,9 @@ ghost use Rattle.pb_files.specs.Refusal.{KeepsFailures};
 use crate::afterwards::{Afterwards, part_with};
 use crate::command::{FrameForm, Source};
 use crate::form::put_json_line;
+use crate::shown::Shown;
 use pb_decode::DecodeError;
-use pb_files::{Files, OUTPUT, Refusal, find_type, open_file};
+use pb_files::{Files, OUTPUT, Refusal, find_named_type, find_type, open_file};
 use pb_json::{JsonError, Layout};
 use pb_listing::{FloatForm, put_listing_as};
 use pb_output::Sink;
@@ -52,16 +53,69 @@ pub fn frames<'a, F: Files, O: Output>(
     ensures kept { KeepsFailures F.failures files.old files.new result }
     ensures unfailing { F.is_steady files.old ≡ true → F.failures files.new ≡ F.failures files.old }
 {
+    match form {
+        FrameForm::Listing(floats) => listed_frames(alloc, afterwards, floats, source, files, out),
+        FrameForm::Json => json_frames(alloc, afterwards, source, files, out),
+    }
+}
+
+/// Lists the messages of a file.
+fn listed_frames<'a, F: Files, O: Output>(
+    alloc: Global,
+    afterwards: Afterwards,
+    floats: FloatForm,
+    source: &Source<'a>,
+    files: &mut F,
+    out: &mut O,
+) -> Result<(), Refusal<'a>>
+    ensures comes { Comes (Sent O.written O.failures out.old out.new) (Cut O.written O.failures out.old out.new)
+        (IsSaved F.contents files.old files.new) (IsUnsaved F.contents F.failures files.old files.new)
+        (StreamOf F.contents F.is_steady files.old (FrameForm.Listing floats) source.now)
+        (StreamBegun F.contents F.is_steady files.old (FrameForm.Listing floats) source.now) result }
+    ensures kept { KeepsFailures F.failures files.old files.new result }
+    ensures unfailing { F.is_steady files.old ≡ true → F.failures files.new ≡ F.failures files.old }
+{
     let (pool, kind) = find_type(alloc, source.reading, source.set, source.type_name, files)?;
-    let answer = frames_at(alloc, form, &pool, kind, source.file, files, out);
+    let shown = Shown::Listing(floats);
+    let answer = frames_at(alloc, shown, &pool, kind, source.file, files, out);
     part_with(pool, afterwards);
+    answer
+}
+
+/// Writes the messages of a file as JSON, with the names that the set gives to fields.
+fn json_frames<'a, F: Files, O: Output>(
+    alloc: Global,
+    afterwards: Afterwards,
+    source: &Source<'a>,
+    files: &mut F,
+    out: &mut O,
+) -> Result<(), Refusal<'a>>
+    ensures comes { Comes (Sent O.written O.failures out.old out.new) (Cut O.written O.failures out.old out.new)
+        (IsSaved F.contents files.old files.new) (IsUnsaved F.contents F.failures files.old files.new)
+        (StreamOf F.contents F.is_steady files.old FrameForm.Json source.now)
+        (StreamBegun F.contents F.is_steady files.old FrameForm.Json source.now) result }
+    ensures kept { KeepsFailures F.failures files.old files.new result }
+    ensures unfailing { F.is_steady files.old ≡ true → F.failures files.new ≡ F.failures files.old }
+{
+    let named = find_named_type(alloc, source.reading, source.set, source.type_name, files)?;
+    let shown = Shown::Json(&named.names);
+    let answer = frames_at(
+        alloc,
+        shown,
+        &named.pool,
+        named.message_type,
+        source.file,
+        files,
+        out,
+    );
+    part_with(named, afterwards);
     answer
 }
 
 /// Shows the messages of a type that the file at a path holds.
 fn frames_at<'a, F: Files, O: Output>(
     alloc: Global,
-    form: FrameForm,
+    form: Shown<'_>,
     pool: &Pool,
     message_type: MessageId,
     path: &'a str,
@@ -71,8 +125,8 @@ fn frames_at<'a, F: Files, O: Output>(
     requires { message_type.0 < length pool.now.messages }
     ensures comes { Comes (Sent O.written O.failures out.old out.new) (Cut O.written O.failures out.old out.new)
         (IsSaved F.contents files.old files.new) (IsUnsaved F.contents F.failures files.old files.new)
-        (StreamAt F.contents F.is_steady files.old form pool.now message_type.0 path.entry.now)
-        (StreamBegunAt F.contents F.is_steady files.old form pool.now message_type.0 path.entry.now) result }
+        (StreamAt F.contents F.is_steady files.old form.entry pool.now message_type.0 path.entry.now)
+        (StreamBegunAt F.contents F.is_steady files.old form.entry pool.now message_type.0 path.entry.now) result }
     ensures kept { KeepsFailures F.failures files.old files.new result }
     ensures unfailing { F.is_steady files.old ≡ true → F.failures files.new ≡ F.failures files.old }
 {
@@ -83,7 +137,7 @@ fn frames_at<'a, F: Files, O: Output>(
 
 /// Writes the lines of the frames that are left, and then reports why what follows them is refused, if it is.
 fn write_frames<'a, I: Input + Drop, O: Output>(
-    form: FrameForm,
+    form: Shown<'_>,
     reader: &mut DelimitedReader<'_, I>,
     path: &'a str,
     out: &mut O,
@@ -92,8 +146,8 @@ fn write_frames<'a, I: Input + Drop, O: Output>(
     requires open { reader.old.finished ≡ false }
     requires full { reader.old.limits ≡ full }
     ensures { Comes (Sent O.written O.failures out.old out.new) (Cut O.written O.failures out.old out.new) NoFile (λ _. ⊥)
-        (FramesIn I.left I.is_steady reader.old.input form path.entry.now reader.old.pool reader.old.kind)
-        (FramesBegunIn I.left I.is_steady reader.old.input form reader.old.pool reader.old.kind) result }
+        (FramesIn I.left I.is_steady reader.old.input form.entry path.entry.now reader.old.pool reader.old.kind)
+        (FramesBegunIn I.left I.is_steady reader.old.input form.entry reader.old.pool reader.old.kind) result }
 {
     let mut sink = Sink::new();
     let stop = put_frames(&mut sink, out, form, reader, path);
@@ -110,7 +164,7 @@ fn write_frames<'a, I: Input + Drop, O: Output>(
 fn put_frames<'a, I: Input + Drop, O: Output>(
     sink: &mut Sink,
     out: &mut O,
-    form: FrameForm,
+    form: Shown<'_>,
     reader: &mut DelimitedReader<'_, I>,
     path: &'a str,
 ) -> Option<Refusal<'a>>
@@ -118,7 +172,7 @@ fn put_frames<'a, I: Input + Drop, O: Output>(
     requires open { reader.old.finished ≡ false }
     requires full { reader.old.limits ≡ full }
     ensures { PutsFrames I.left I.is_steady reader.old.input O.written O.failures out.old out.new sink.old sink.new
-        form path.entry.now reader.old.pool reader.old.kind result }
+        form.entry path.entry.now reader.old.pool reader.old.kind result }
 {
     for index in 0..u64::MAX {
         if sink.has_failed() {
@@ -137,13 +191,13 @@ fn put_frames<'a, I: Input + Drop, O: Output>(
 fn put_next<'a, I: Input + Drop, O: Output>(
     sink: &mut Sink,
     out: &mut O,
-    form: FrameForm,
+    form: Shown<'_>,
     index: u64,
     reader: &mut DelimitedReader<'_, I>,
     path: &'a str,
 ) -> Next<'a>
     requires { reader.old.finished ≡ false }
-    ensures { PutsNext O.written O.failures I.left I.is_steady out.old out.new sink.old sink.new reader.old reader.new form index path.entry result }
+    ensures { PutsNext O.written O.failures I.left I.is_steady out.old out.new sink.old sink.new reader.old reader.new form.entry index path.entry result }
 {
     let offset = reader.taken();
     match reader.next() {
@@ -164,22 +218,22 @@ fn put_next<'a, I: Input + Drop, O: Output>(
 pub(crate) fn put_frame<O: Output>(
     sink: &mut Sink,
     out: &mut O,
-    form: FrameForm,
+    form: Shown<'_>,
     index: u64,
     offset: u64,
     size: u64,
     message: &DynamicMessage<'_>,
 ) -> Result<(), JsonError>
     ensures put { OnOk result (PutsSome O.written O.failures out.old out.new sink.old sink.new
-        (AreFrameLines form message.now.pool message.now.kind index offset size message.now.body)) }
-    ensures failed { IfErr result (λ e. (form ≡ FrameForm.Json) × RefusedAs message.now e × (out.new ≡ out.old) × (sink.new ≡ sink.old)) }
+        (AreFrameLines form.entry message.now.pool message.now.kind index offset size message.now.body)) }
+    ensures failed { IfErr result (λ e. (are_json form.entry ≡ true) × RefusedAs message.now e × (out.new ≡ out.old) × (sink.new ≡ sink.old)) }
 {
     match form {
-        FrameForm::Listing(floats) => {
+        Shown::Listing(floats) => {
             put_listed(sink, out, floats, index, offset, size, message);
             Ok(())
         }
-        FrameForm::Json => put_json_line(sink, out, Layout::Compact, message),
+        Shown::Json(names) => put_json_line(sink, out, Layout::Compact, names, message),
     }
 }
 
@@ -194,7 +248,7 @@ fn put_listed<O: Output>(
     message: &DynamicMessage<'_>,
 )
     ensures { PutsSome O.written O.failures out.old out.new sink.old sink.new
-        (AreFrameLines (FrameForm.Listing floats) message.now.pool message.now.kind index offset size message.now.body) }
+        (AreFrameLines (Shown.Listing floats) message.now.pool message.now.kind index offset size message.now.body) }
 {
     put_frame_line(sink, out, index, offset, size);
     put_listing_as(sink, out, 1, message, floats);

@@ -6,7 +6,7 @@ ghost use Rattle.pb_files.specs.Answer.{refused};
 ghost use Rattle.pb_files.specs.FileMap.{IsSaved, IsUnsaved};
 ghost use Rattle.pb_files.specs.Refusal.{KeepsFailures, Refuses};
 ghost use Rattle.pb_files.specs.Report.{json_text_line};
-ghost use Rattle.pb_json_read.specs.Answers.{IsReadAs, IsRefusedWith};
+ghost use Rattle.pb_json_read.specs.Answers.{IsReadBy, IsRefusedBy};
 ghost use Rattle.pb_json_read.specs.Faults.{name_of, out_of_memory};
 ghost use Rattle.pb_json_read.specs.declared.error.JsonReadError.{JsonReadError as ReadError};
 ghost use Rattle.pb_command.specs.FromJsonAnswer.{rules_by, too_long_line};
@@ -15,9 +15,8 @@ ghost use Rattle.pb_command.specs.Steps.{Comes, IsNothing, JsonReadAt, JsonReadO
 use crate::afterwards::{Afterwards, part_with};
 use crate::command::Source;
 use crate::form::save_canonical;
-use pb_files::{Files, Reading, Refusal, find_type, read_file};
-use pb_json_read::{JsonReadCause, JsonReadError, JsonRules, read_json};
-use pb_schema::{MessageId, Pool};
+use pb_files::{Files, NamedType, Reading, Refusal, find_named_type, read_file};
+use pb_json_read::{JsonReadCause, JsonReadError, JsonRules, read_json_by};
 use pb_value::DynamicMessage;
 use pb_wire::Limits;
 use std::alloc::Global;
@@ -36,16 +35,10 @@ pub fn from_json<'a, F: Files>(
     ensures kept { KeepsFailures F.failures files.old files.new result }
     ensures unfailing { F.is_steady files.old ≡ true → F.takes_writes files.old ≡ true → F.failures files.new ≡ F.failures files.old }
 {
-    let (pool, message_type) = find_type(
-        alloc,
-        source.reading,
-        source.set,
-        source.type_name,
-        files,
-    )?;
+    let named = find_named_type(alloc, source.reading, source.set, source.type_name, files)?;
     let rules = rules_of(source.reading);
-    let answer = from_json_at(alloc, rules, &pool, message_type, source.file, out, files);
-    part_with(pool, afterwards);
+    let answer = from_json_at(alloc, rules, &named, source.file, out, files);
+    part_with(named, afterwards);
     answer
 }
 
@@ -59,25 +52,25 @@ fn rules_of(reading: Reading) -> JsonRules
     }
 }
 
-/// The same of a message type.
+/// The same of a message type, with the names that are given to fields.
 fn from_json_at<'a, F: Files>(
     alloc: Global,
     rules: JsonRules,
-    pool: &Pool,
-    message_type: MessageId,
+    named: &NamedType,
     path: &'a str,
     out: &'a str,
     files: &mut F,
 ) -> Result<(), Refusal<'a>>
-    requires { message_type.0 < length pool.now.messages }
+    requires { named.now.message_type.0 < length named.now.pool.messages }
     ensures comes { Comes (λ text. text ≡ []) (λ _. ⊥)
         (IsSaved F.contents files.old files.new) (IsUnsaved F.contents F.failures files.old files.new)
-        (JsonReadAt F.contents F.is_steady files.old rules out.entry.now pool.now message_type.0 path.entry.now) IsNothing result }
+        (JsonReadAt F.contents F.is_steady files.old rules named.now.names out.entry.now named.now.pool named.now.message_type.0 path.entry.now)
+        IsNothing result }
     ensures kept { KeepsFailures F.failures files.old files.new result }
     ensures unfailing { F.is_steady files.old ≡ true → F.takes_writes files.old ≡ true → F.failures files.new ≡ F.failures files.old }
 {
     let text = read_file(alloc, Limits::FULL, path, files)?;
-    let message = read_text(alloc, rules, pool, message_type, text.as_slice())?;
+    let message = read_text(alloc, rules, named, text.as_slice())?;
     save_canonical(&message, out, files)
 }
 
@@ -85,16 +78,15 @@ fn from_json_at<'a, F: Files>(
 fn read_text<'p, 'a>(
     alloc: Global,
     rules: JsonRules,
-    pool: &'p Pool,
-    message_type: MessageId,
+    named: &'p NamedType,
     text: &[u8],
 ) -> Result<DynamicMessage<'p>, Refusal<'a>>
-    requires { message_type.0 < length pool.now.messages }
-    ensures of_type { IfOk result (λ m. (m.pool ≡ pool.now) × (m.kind ≡ message_type.0)) }
+    requires { named.now.message_type.0 < length named.now.pool.messages }
+    ensures of_type { IfOk result (λ m. (m.pool ≡ named.now.pool) × (m.kind ≡ named.now.message_type.0)) }
     ensures short { IfOk result (λ m. length text.now ≤ full.bytes) }
-    ensures read { IfOk result (λ m. IsReadAs pool.now rules message_type.0 text.now m.body) }
+    ensures read { IfOk result (λ m. IsReadBy named.now.pool rules named.now.names named.now.message_type.0 text.now m.body) }
     ensures refused { IfErr result (Refuses (λ a. ((full.bytes < length text.now) × (a ≡ refused too_long_line))
-        ⊎ ((e : ReadError) × (length text.now ≤ full.bytes) × IsRefusedWith pool.now rules message_type.0 text.now e
+        ⊎ ((e : ReadError) × (length text.now ≤ full.bytes) × IsRefusedBy named.now.pool rules named.now.names named.now.message_type.0 text.now e
         × (a ≡ refused (json_text_line e.byte (name_of e.cause)))))) }
 {
     if text.len() > Limits::FULL.max_bytes() as usize {
@@ -103,7 +95,14 @@ fn read_text<'p, 'a>(
             cause: "InputTooLarge",
         });
     }
-    match read_json(alloc, pool, message_type, text, rules) {
+    match read_json_by(
+        alloc,
+        &named.pool,
+        named.message_type,
+        text,
+        rules,
+        &named.names,
+    ) {
         Ok(message) => Ok(message),
         Err(error) => Err(refusal_of(error)),
     }

@@ -16,6 +16,7 @@ mod from_json;
 mod gathering;
 mod message;
 mod raw;
+mod shown;
 mod sources;
 mod types;
 

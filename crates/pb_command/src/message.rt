@@ -3,14 +3,15 @@
 ghost use Rattle.std.specs.Prelude.{◌≡◌, ◌<◌, length, true};
 ghost use Rattle.pb_files.specs.FileMap.{IsSaved, IsUnsaved};
 ghost use Rattle.pb_output.specs.Sending.{Cut, Sent};
-ghost use Rattle.pb_command.specs.Steps.{Comes, IsNothing, MessageAt, MessageOf};
+ghost use Rattle.pb_command.specs.Steps.{Comes, IsNothing, JsonOf, MessageAt, MessageOf};
 ghost use Rattle.pb_files.specs.Refusal.{KeepsFailures};
 
 use crate::afterwards::{Afterwards, part_with};
 use crate::by_type::read_message;
 use crate::command::Source;
 use crate::form::{Form, make};
-use pb_files::{Files, Refusal, find_type};
+use pb_files::{Files, Refusal, find_named_type, find_type};
+use pb_json::Layout;
 use pb_schema::{MessageId, Pool};
 use pb_wire::Output;
 use std::alloc::Global;
@@ -19,7 +20,7 @@ use std::alloc::Global;
 pub fn message<'a, F: Files, O: Output>(
     alloc: Global,
     afterwards: Afterwards,
-    form: Form<'a>,
+    form: Form<'a, '_>,
     source: &Source<'a>,
     files: &mut F,
     out: &mut O,
@@ -45,11 +46,41 @@ pub fn message<'a, F: Files, O: Output>(
     answer
 }
 
+/// Writes the message of a file as JSON, with the names that the set gives to fields.
+pub fn json<'a, F: Files, O: Output>(
+    alloc: Global,
+    afterwards: Afterwards,
+    layout: Layout,
+    source: &Source<'a>,
+    files: &mut F,
+    out: &mut O,
+) -> Result<(), Refusal<'a>>
+    ensures comes { Comes (Sent O.written O.failures out.old out.new) (Cut O.written O.failures out.old out.new)
+        (IsSaved F.contents files.old files.new) (IsUnsaved F.contents F.failures files.old files.new)
+        (JsonOf F.contents F.is_steady files.old layout source.now) IsNothing result }
+    ensures kept { KeepsFailures F.failures files.old files.new result }
+    ensures unfailing { F.is_steady files.old ≡ true → F.takes_writes files.old ≡ true → F.failures files.new ≡ F.failures files.old }
+{
+    let named = find_named_type(alloc, source.reading, source.set, source.type_name, files)?;
+    let answer = message_at(
+        alloc,
+        afterwards,
+        Form::Json(layout, &named.names),
+        &named.pool,
+        named.message_type,
+        source.file,
+        files,
+        out,
+    );
+    part_with(named, afterwards);
+    answer
+}
+
 /// Makes it of the message of a type that the file at a path holds.
 fn message_at<'a, F: Files, O: Output>(
     alloc: Global,
     afterwards: Afterwards,
-    form: Form<'a>,
+    form: Form<'a, '_>,
     pool: &Pool,
     message_type: MessageId,
     path: &'a str,

@@ -17,7 +17,7 @@ pub returns-in-Canon-clause-comes : goal.returns-in-Canon-clause-comes
 returns-in-Canon-clause-comes g c = rw c.in-Canon.is (rw c.form_of.ensures at c.message-in-Canon.ensures.comes)
 
 pub returns-in-Json-clause-comes : goal.returns-in-Json-clause-comes
-returns-in-Json-clause-comes g c = rw c.in-Json.is c.message-in-Json.ensures.comes
+returns-in-Json-clause-comes g c = rw c.in-Json.is c.json.ensures.comes
 
 pub returns-in-Frames-clause-comes : goal.returns-in-Frames-clause-comes
 returns-in-Frames-clause-comes g c = rw c.in-Frames.is c.frames.ensures.comes

@@ -13,7 +13,7 @@ returns-in-Json-clause-comes g c =
     let cut = Cut g.O.Output.written g.O.Output.failures c.args.out.now c.print_json.new.out in
     let contents = g.F.Files.contents in
     let files = c.args.files.now in
-    let right = JsonAnswer c.in-Json.layout c.args.message.now in
+    let right = JsonAnswer c.in-Json.layout c.in-Json.names c.args.message.now in
     rw c.in-Json.is
     (comes_map out out cut cut NoFile (IsSaved contents files files) (λ _. ⊥) (IsUnsaved contents g.F.Files.failures files files) right right IsNothing
     IsNothing c.print_json.result (λ text h. h) (λ text h. h) (no_file_kept contents files files (keeps_same (contents files))) (λ device h. absurd h)

@@ -6,7 +6,7 @@ use Rattle.pb_command.proofs.form.print_json.Goals as goal
 
 pub returns-in-Ok : goal.returns-in-Ok
 returns-in-Ok g c =
-    line_comes g.O.Output.written g.O.Output.failures c.args.out.now c.write_json_line.new.out c.args.layout c.args.message.now c.in-Ok.ensures
+    line_comes g.O.Output.written g.O.Output.failures c.args.out.now c.write_json_line.new.out c.args.layout c.args.names c.args.message.now c.in-Ok.ensures
 
 pub returns-in-Err-Refused : goal.returns-in-Err-Refused
 returns-in-Err-Refused g c =
@@ -19,5 +19,5 @@ returns-in-Err-Refused g c =
 
 pub returns-in-Err-Output : goal.returns-in-Err-Output
 returns-in-Err-Output g c =
-    cut_comes g.O.Output.written g.O.Output.failures c.args.out.now c.write_json_line.new.out c.args.layout c.args.message.now _ refl
+    cut_comes g.O.Output.written g.O.Output.failures c.args.out.now c.write_json_line.new.out c.args.layout c.args.names c.args.message.now _ refl
     (rw c.in-Err-Output.field-0-is at c.in-Err-Output.ensures)
