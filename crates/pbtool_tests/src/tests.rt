@@ -9,6 +9,7 @@ mod early;
 mod explain;
 mod explain_apart;
 mod from_json;
+mod given_names;
 mod json;
 mod json_frames;
 mod keep_going;
