@@ -28,7 +28,8 @@ const ROWS: &str = r#"
 /// Runs words over the set `s` and a file `f`, and gives what is in the file `o` after that.
 fn run_on(alloc: Global, words: &[&str], file: &[u8]) -> Result<(Run, Option<String>), Fail> {
     let set = hex::decode(alloc, SET)?;
-    let mut files = files_of(alloc, &[("s", &set), ("f", file)], NONE)?;
+    let file = Vec::from_slice(alloc, file)?;
+    let mut files = files_of(alloc, &[("s", &set), ("f", &file)], NONE)?;
     let run = run_words(alloc, words, &mut files, NONE)?;
     let written = match files.bytes_at("o") {
         Some(bytes) => Some(hex::encode(alloc, bytes)?),
