@@ -43,8 +43,12 @@ fn is_answered(alloc: Global, row: &str) -> Result<bool, Fail> {
     let (digits, json) = row.split_once('|').ok_or("no JSON")?;
     let message = hex::decode(alloc, digits)?;
     let (printed, _none) = run_on(alloc, &["json", "s", "g.M", "f"], &message)?;
+    let size = message.len();
+    if size > 127 {
+        return Err(Fail::new("no length of one byte"));
+    }
     let mut stream = Vec::new(alloc);
-    stream.push(message.len() as u8)?;
+    stream.push(size as u8)?;
     stream.extend_from_slice(&message)?;
     let (framed, _none) = run_on(alloc, &["frames", "--json", "s", "g.M", "f"], &stream)?;
     let words = ["frames", "--json", "--keep-going", "s", "g.M", "f"];
