@@ -13,6 +13,7 @@ pub mod Unknown
 pub mod WireType
 pub mod Reading
 pub mod Token
+pub mod Scan
 pub mod Limits
 pub mod Writable
 pub mod CauseName

@@ -26,6 +26,7 @@ mod limits;
 mod memory;
 mod open_groups;
 mod reading;
+mod scan;
 pub mod token;
 mod transfer;
 mod unknown;
@@ -41,6 +42,10 @@ pub use judging::judge_raw;
 pub use limits::{Limits, MAX_BYTES, MAX_DEPTH};
 pub use memory::{FailurePlan, MemInput, MemOutput};
 pub use reading::read_raw;
+pub use scan::{
+    Number, Scanned, Tag, before_end, left_after, scan_fixed32, scan_fixed64, scan_length,
+    scan_number, scan_tag, scan_varint,
+};
 pub use transfer::{ReadFault, WriteFault, read_up_to, write_all};
 pub use unknown::Unknown;
 pub use varint::{VarintBytes, put_varint, read_varint};

@@ -16,6 +16,6 @@ mod growths;
 #[cfg(test)]
 mod rows;
 #[cfg(test)]
-mod tokens;
+mod scans;
 #[cfg(test)]
 mod walks;
