@@ -6,7 +6,7 @@ use crate::reply::{Reply, make_reply, make_too_large};
 use crate::stop::Stop;
 use pb_encode::{EncodeError, encode};
 use pb_schema::{MessageId, Pool};
-use pb_value::parts::{empty_body, put_field};
+use pb_value::bodies::{empty_body, put_field};
 use pb_value::{Content, DynamicMessage, ValueError};
 use std::alloc::Global;
 

@@ -3,7 +3,7 @@ use Rattle.std.proofs.Common.{◌≡◌, ◌≢◌, ℕ, List, refl}
 use Rattle.std.specs.Prelude.{IfSome, string_bytes}
 use Rattle.pb_wire.specs.Limits.{full}
 use Rattle.pb_wire.specs.Fault.{fault}
-use Rattle.pb_decl.specs.Decls.{DeclaredFile}
+use Rattle.pb_declarations.specs.Decls.{DeclaredFile}
 use Rattle.pb_descr.specs.Lenient.{IsUnreadLeniently}
 use Rattle.pb_descr.specs.Sets.{IsUnread}
 use Rattle.pb_descr.specs.declared.error.DescrError.{DescrError}

@@ -11,8 +11,8 @@ use Rattle.pb_wire.proofs.Unique.{same_records}
 use Rattle.pb_schema.specs.Context.{a_message, schema_of}
 use Rattle.pb_value.specs.Data.{Message}
 use Rattle.pb_value.specs.Value.{value}
-use Rattle.pb_decl.specs.Decls.{DeclaredFile}
-use Rattle.pb_decl.specs.One.{ExactlyOne}
+use Rattle.pb_declarations.specs.Decls.{DeclaredFile}
+use Rattle.pb_declarations.specs.One.{ExactlyOne}
 use Rattle.pb_descr.specs.Causes.{set_causes}
 use Rattle.pb_descr.specs.Omitted.{omitted_in}
 use Rattle.pb_descr.specs.Pool.{the_set, descriptor_types}

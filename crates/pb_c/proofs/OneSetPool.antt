@@ -1,8 +1,8 @@
 -- The bytes of a set make one pool, or have one fault, however the set is read.
 use Rattle.std.proofs.Common.{◌≡◌, List, ap, subst}
 use Rattle.pb_schema.specs.Types.{Types}
-use Rattle.pb_decl.specs.Decls.{DeclaredFile}
-use Rattle.pb_decl.specs.One.{ExactlyOne}
+use Rattle.pb_declarations.specs.Decls.{DeclaredFile}
+use Rattle.pb_declarations.specs.One.{ExactlyOne}
 use Rattle.pb_descr.specs.Sets.{SetFault}
 use Rattle.pb_link.specs.Linking.{Links}
 use Rattle.pb_link.proofs.OnePool.{one_pool}

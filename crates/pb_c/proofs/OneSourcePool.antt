@@ -1,7 +1,7 @@
 -- Sources make one pool, or have one fault.
 use Rattle.std.proofs.Common.{◌≡◌, ℕ, zero, suc, List, [], ◌∷◌, refl, ap, subst, sym, ◌∙◌}
 use Rattle.pb_schema.specs.Types.{Types}
-use Rattle.pb_decl.specs.Decls.{DeclaredFile}
+use Rattle.pb_declarations.specs.Decls.{DeclaredFile}
 use Rattle.pb_tokens.specs.Fault.{fault}
 use Rattle.pb_tokens.specs.declared.fault.SourceCause.{SourceCause}
 use Rattle.pb_tokens.specs.declared.fault.SourceFault.{SourceFault}

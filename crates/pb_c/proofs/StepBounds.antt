@@ -11,7 +11,7 @@ use Rattle.pb_wire.specs.declared.fault.RawError.TheVariants as raw
 use Rattle.pb_wire.proofs.PathBounds.{bounded, leveled, text_path}
 use Rattle.pb_schema.specs.Types.{Types}
 use Rattle.pb_schema.proofs.StepLemmas.{message_uses_levels, nests_once}
-use Rattle.pb_decl.specs.Decls.{DeclaredFile}
+use Rattle.pb_declarations.specs.Decls.{DeclaredFile}
 use Rattle.pb_descr.specs.Pool.{descriptor_types, the_set}
 use Rattle.pb_descr.specs.Sets.{SetFault}
 use Rattle.pb_decode.specs.Push.{IsFaultOf}

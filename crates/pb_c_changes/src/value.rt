@@ -11,7 +11,7 @@ ghost use Rattle.pb_c_changes.specs.Values.{value_said};
 use pb_c_values::{
     BYTES, DOUBLE, ENUM, FLOAT, MESSAGE, Miss, PlainValue, int32_said, key_of, uint32_said,
 };
-use pb_value::parts::empty_body;
+use pb_value::bodies::empty_body;
 use pb_value::{MapKey, Value};
 use std::alloc::Global;
 

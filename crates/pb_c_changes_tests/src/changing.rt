@@ -3,7 +3,7 @@
 use super::schema::Schema;
 use pb_c_changes::{PlainChange, Put, Unchanged, change};
 use pb_c_values::PlainValue;
-use pb_samples::body_of;
+use pb_test_types::body_of;
 use std::alloc::Global;
 use std::test::Fail;
 

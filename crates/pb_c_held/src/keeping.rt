@@ -15,7 +15,7 @@ use crate::held::Held;
 use pb_decode::decode;
 use pb_schema::{MessageId, Pool};
 use pb_value::Body;
-use pb_value::parts::empty_body;
+use pb_value::bodies::empty_body;
 use pb_wire::Limits;
 use std::alloc::{AllocError, Global};
 use std::mem;

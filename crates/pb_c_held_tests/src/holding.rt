@@ -6,7 +6,7 @@ use super::schema::Schema;
 use pb_c_held::{Held, bytes_held, bytes_to_hold, canonical_bytes, plain_held, take_body};
 use pb_c_values::PlainValue;
 use pb_canonical::is_canonical;
-use pb_samples::body_of;
+use pb_test_types::body_of;
 use pb_value::Body;
 use std::alloc::Global;
 use std::test::Fail;

@@ -5,7 +5,7 @@ use pb_c_values::{
     Miss, PlainValue, bytes_at, fields_at, key_at, key_bytes, key_value, oneof_at, unknown_at,
     value_at,
 };
-use pb_samples::body_of;
+use pb_test_types::body_of;
 use pb_value::DynamicMessage;
 use std::alloc::Global;
 use std::test::Fail;

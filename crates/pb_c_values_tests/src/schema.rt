@@ -2,8 +2,8 @@
 
 ghost use Rattle.std.specs.Prelude.{◌<◌, length};
 
-use pb_samples::{EnumRow, FieldRow, PACKED, TypeRow, UNPACKED, pool_of};
 use pb_schema::{Kind, MessageId, Pool, Shape};
+use pb_test_types::{EnumRow, FieldRow, PACKED, TypeRow, UNPACKED, pool_of};
 use pb_value::{Body, DynamicMessage, ValueError};
 use std::alloc::Global;
 use std::test::Fail;

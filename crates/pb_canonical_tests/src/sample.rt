@@ -23,8 +23,8 @@ ghost use Rattle.std.specs.Prelude.{◌<◌, length};
 
 use pb_canonical::is_canonical;
 use pb_decode::{DecodeError, decode};
-use pb_samples::{EnumRow, FIELDS_OF_T, FieldRow, FileRow, PACKED, TypeRow, UNPACKED, pool_of};
 use pb_schema::{EnumId, Kind, MessageId, Pool, Shape};
+use pb_test_types::{EnumRow, FIELDS_OF_T, FieldRow, FileRow, PACKED, TypeRow, UNPACKED, pool_of};
 use pb_value::DynamicMessage;
 use pb_wire::Limits;
 use std::alloc::Global;

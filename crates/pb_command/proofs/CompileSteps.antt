@@ -4,7 +4,7 @@ use Rattle.std.proofs.KnownBytes.{Appends-nil}
 use Rattle.std.specs.List.{AllByRecursion}
 use Rattle.std.specs.Prelude.{Result}
 use Rattle.pb_value.specs.Data.{message_depth}
-use Rattle.pb_decl.specs.Decls.{DeclaredFile}
+use Rattle.pb_declarations.specs.Decls.{DeclaredFile}
 use Rattle.pb_descr.specs.Sets.{set_bytes}
 use Rattle.pb_descr.specs.Writing.{set_body}
 use Rattle.pb_rules.specs.Faults.{IsUnlinked}

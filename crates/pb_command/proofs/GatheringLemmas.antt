@@ -1,6 +1,6 @@
 -- Gathering by parts, and what comes of the files that are open.
 use Rattle.std.proofs.Common.{◌≡◌, ◌⊎◌, ℕ, List, [], ◌∷◌, ◌++◌, true, refl, sym, inl, inr, subst}
-use Rattle.pb_decl.specs.Decls.{DeclaredFile}
+use Rattle.pb_declarations.specs.Decls.{DeclaredFile}
 use Rattle.pb_command.specs.Gathering.{Gathered, Gathers, Origin, Outcome, Trouble, gathered, stopped_at, imported, given, none_left, known, left_out, read, refused_inside, refused_here, is_known, with_file, IsLeftOut}
 use Rattle.pb_command.specs.Reaching.{Moves, OpenFile, RefusesImport, closed, passed, entered, opened}
 

@@ -2,9 +2,9 @@
 use Rattle.std.proofs.Common.{◌≡◌, ◌+◌, ◌<◌, ℕ, List, [], ◌∷◌, ◌++◌, length, get_or, take, drop, Bool, true, Option, None, Some, refl, sym, inl, inr, subst}
 use Rattle.std.specs.Prelude.{Result, Ok, Err, IfErr, IfOk, MatchOption}
 use Rattle.std.specs.Borrow.{Bor}
-use Rattle.pb_decl.specs.Decls.{DeclaredFile}
-use Rattle.pb_decl.specs.View.{file_view}
-use Rattle.pb_decl.specs.declared.decl.FileDecl.{FileDecl}
+use Rattle.pb_declarations.specs.Decls.{DeclaredFile}
+use Rattle.pb_declarations.specs.View.{file_view}
+use Rattle.pb_declarations.specs.declared.decl.FileDecl.{FileDecl}
 use Rattle.pb_files.specs.Answer.{Answer}
 use Rattle.pb_command.specs.CompileAnswer.{texts_of, told_of}
 use Rattle.pb_files.specs.FileMap.{FileMap, KeepsMap}

@@ -6,7 +6,7 @@ use Rattle.pb_wire.specs.Limits.{full}
 use Rattle.pb_schema.specs.Context.{a_message, schema_of}
 use Rattle.pb_schema.specs.Types.{Types}
 use Rattle.pb_value.specs.Data.{Message}
-use Rattle.pb_decl.specs.Decls.{DeclaredFile}
+use Rattle.pb_declarations.specs.Decls.{DeclaredFile}
 use Rattle.pb_descr.specs.Omitted.{OmittedView}
 use Rattle.pb_descr.specs.Pool.{descriptor_types, the_set}
 use Rattle.pb_descr.specs.Sets.{IsSetText}

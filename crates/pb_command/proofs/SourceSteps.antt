@@ -2,7 +2,7 @@
 use Rattle.std.proofs.Common.{◌≡◌, ◌+◌, ◌⊎◌, ℕ, List, [], ◌∷◌, Bool, true, Option, None, Some, take, refl, sym, ap, inl, inr, subst}
 use Rattle.std.specs.Prelude.{IfSome, option_map}
 use Rattle.pb_wire.specs.Limits.{full}
-use Rattle.pb_decl.specs.Decls.{DeclaredFile}
+use Rattle.pb_declarations.specs.Decls.{DeclaredFile}
 use Rattle.pb_tokens.specs.Fault.{out_of_memory}
 use Rattle.pb_tokens.specs.declared.fault.SourceCause.{SourceCause}
 use Rattle.pb_tokens.specs.declared.fault.SourceCause.TheVariants as cause

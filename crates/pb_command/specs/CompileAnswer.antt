@@ -1,7 +1,7 @@
 -- What `compile` answers: its sources are there and are sources, link, and as a set have at most 2^31 - 1 bytes.
 use Rattle.std.specs.Prelude.{◌≡◌, ◌<◌, ◌≤◌, ◌^◌, ℕ, List, ◌∷◌, Option, length, map}
 use Rattle.std.specs.Borrow.{Bor}
-use Rattle.pb_decl.specs.Decls.{DeclaredFile}
+use Rattle.pb_declarations.specs.Decls.{DeclaredFile}
 use Rattle.pb_descr.specs.Sets.{set_bytes}
 use Rattle.pb_rules.specs.Faults.{LinkFault}
 use Rattle.pb_link.specs.EnumMaps.{ListsEnumMaps}

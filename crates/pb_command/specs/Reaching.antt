@@ -1,12 +1,12 @@
 -- The state while sources are gathered: the files whose imports are being reached, and the steps that reach them. No public contract rests on it.
 use Rattle.std.specs.Prelude.{◌≡◌, ◌⊎◌, ℕ, List, [], ◌∷◌, ◌++◌, true, false, Option, Some, None, map, reverse, drop, string_bytes}
-use Rattle.pb_decl.specs.Decls.{DeclaredFile}
-use Rattle.pb_decl.specs.View.{file_view}
-use Rattle.pb_decl.specs.declared.decl.FileDecl.{FileDecl}
+use Rattle.pb_declarations.specs.Decls.{DeclaredFile}
+use Rattle.pb_declarations.specs.View.{file_view}
+use Rattle.pb_declarations.specs.declared.decl.FileDecl.{FileDecl}
 use Rattle.pb_files.specs.Answer.{Answer}
 use Rattle.pb_command.specs.CompileAnswer.{told_of}
 use Rattle.pb_command.specs.Gathering.{Gathered, Trouble, Origin, imported, IsTaken, IsLeftOut, is_known, with_name, with_file}
-use Rattle.pb_sets.specs.NameSets.{names_in}
+use Rattle.pb_graphs.specs.NameSets.{names_in}
 use Rattle.pb_command.specs.declared.gathering.Gathering.{Gathering}
 use Rattle.pb_command.specs.declared.gathering.Open.{Open}
 

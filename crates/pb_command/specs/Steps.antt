@@ -14,7 +14,7 @@ use Rattle.pb_json.specs.declared.error.JsonError.{JsonError}
 use Rattle.pb_json.specs.declared.error.JsonError.TheVariants as json_error
 use Rattle.pb_json.specs.declared.form.Layout.{Layout}
 use Rattle.pb_json_read.specs.declared.rules.JsonRules.{JsonRules}
-use Rattle.pb_decl.specs.Decls.{DeclaredFile}
+use Rattle.pb_declarations.specs.Decls.{DeclaredFile}
 use Rattle.pb_files.specs.Answer.{Answer, stopped, broken, device_failed, IsPrinted}
 use Rattle.pb_command.specs.Answers.{FaultAt, TextAt, FramesAt, RefusedFrameAt, FramesBegunAt, AnyFrames, AnyRefusal, canonical_form}
 use Rattle.pb_command.specs.AllFrames.{AllBegunBy, AllFramesBy}

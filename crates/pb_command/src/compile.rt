@@ -2,7 +2,7 @@
 
 ghost use Rattle.std.specs.Prelude.{◌≡◌, ◌≤◌, ◌<◌, ◌^◌, [], length, map, IfOk, IfErr, true};
 ghost use Rattle.pb_descr.specs.Sets.{set_bytes};
-ghost use Rattle.pb_decl.specs.View.{file_view};
+ghost use Rattle.pb_declarations.specs.View.{file_view};
 ghost use Rattle.pb_descr.specs.Writing.{set_body};
 ghost use Rattle.pb_value.specs.Data.{message_depth};
 ghost use Rattle.pb_files.specs.Answer.{refused};

@@ -3,8 +3,8 @@
 ghost use Rattle.std.specs.Prelude.{◌≡◌, ◌++◌, [], ◌∷◌, map, true, false, option_map, IfOk, IfErr, OnOk};
 ghost use Rattle.std.specs.List.{list_any};
 ghost use Rattle.std.specs.Str.{bytes_eq};
-ghost use Rattle.pb_sets.specs.NameSets.{names_in};
-ghost use Rattle.pb_decl.specs.View.{file_view};
+ghost use Rattle.pb_graphs.specs.NameSets.{names_in};
+ghost use Rattle.pb_declarations.specs.View.{file_view};
 ghost use Rattle.pb_command.specs.CompileAnswer.{places_of, texts_of, told_of};
 ghost use Rattle.pb_files.specs.FileMap.{KeepsMap};
 ghost use Rattle.pb_command.specs.Gathering.{Gathered, Trouble, gathered, given, imported, nothing_yet, with_file};
@@ -16,7 +16,7 @@ use crate::command::Roots;
 use crate::sources::{leaves_root, read_given, read_source};
 use pb_descr::FileDecl;
 use pb_files::{Files, Refusal};
-use pb_sets::name_set::NameSet;
+use pb_graphs::name_set::NameSet;
 use std::alloc::{AllocError, Global};
 
 /// A file whose imports are being reached.

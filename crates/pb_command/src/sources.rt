@@ -1,7 +1,7 @@
 //! Sources, read from files under roots.
 
 ghost use Rattle.std.specs.Prelude.{◌≡◌, ◌+◌, ◌⊎◌, true, ℕ, None, option_map, string_bytes, IfOk, IfErr, IsErrOf, MatchOption, OnOk};
-ghost use Rattle.pb_decl.specs.View.{file_view};
+ghost use Rattle.pb_declarations.specs.View.{file_view};
 ghost use Rattle.pb_tokens.specs.Fault.{out_of_memory};
 ghost use Rattle.pb_tokens.specs.declared.fault.SourceCause.{SourceCause};
 ghost use Rattle.pb_wire.specs.Limits.{full};

@@ -1,7 +1,7 @@
 -- The pairs where a walk begins, added one by one.
 use Rattle.std.proofs.Common.{◌≡◌, ◌+◌, ◌<◌, inl, inr, ⊎_elim, ℕ, List, [], ◌∷◌, ◌++◌, length, take, None, sym, ap, subst, arith, Contains, length-append}
 use Rattle.std.proofs.lemmas.List.Elements.{Contains-push, Contains-push_cases, Contains-append_left}
-use Rattle.pb_sets.proofs.ContainsLemmas.{Contains-none}
+use Rattle.pb_graphs.proofs.ContainsLemmas.{Contains-none}
 use Rattle.pb_schema.specs.Types.{Types}
 use Rattle.pb_compat.specs.declared.difference.Step.{Step}
 use Rattle.pb_compat.specs.declared.pairs.Pairs.{Pairs}

@@ -2,7 +2,7 @@
 use Rattle.std.proofs.Common.{◌≡◌, ℕ, List, ◌∷◌, Bool, true, false, not, ◌&&◌, Option, Some, None, refl, sym, ◌∙◌, ap, subst, Contains}
 use Rattle.std.specs.Prelude.{◌++◌, if◌then◌else◌}
 use Rattle.std.specs.Option.{option_to_list}
-use Rattle.pb_sets.proofs.ContainsLemmas.{Contains-first}
+use Rattle.pb_graphs.proofs.ContainsLemmas.{Contains-first}
 use Rattle.pb_schema.specs.Types.{FieldView, Types, message_fields, field_numbered}
 use Rattle.pb_compat.specs.declared.difference.Difference.{Difference}
 use Rattle.pb_compat.specs.declared.difference.Severity.{Severity}

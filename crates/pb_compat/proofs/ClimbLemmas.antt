@@ -5,7 +5,7 @@ use Rattle.std.specs.declared.alloc.AllocError.{AllocError}
 use Rattle.std.specs.declared.alloc.Global.{Global}
 use Rattle.std.proofs.lemmas.Bool.Decides.{nat_tests}
 use Rattle.std.proofs.lemmas.Option.{slice_get_within}
-use Rattle.pb_sets.proofs.ContainsLemmas.{Contains-one}
+use Rattle.pb_graphs.proofs.ContainsLemmas.{Contains-one}
 use Rattle.pb_schema.specs.Rules.{IsPool}
 use Rattle.pb_schema.specs.Types.{FieldView, Types, message_fields, field_numbered}
 use Rattle.pb_value.specs.Data.{Message, message_depth}

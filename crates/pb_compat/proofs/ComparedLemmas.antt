@@ -7,7 +7,7 @@ use Rattle.std.proofs.lemmas.Option.{slice_get_within}
 use Rattle.std.proofs.lemmas.Bool.{cases_lt}
 use Rattle.std.proofs.lemmas.List.Elements.{Contains-append_left}
 use Rattle.std.proofs.lemmas.List.{take_all}
-use Rattle.pb_sets.proofs.ContainsLemmas.{Contains-first, Contains-one}
+use Rattle.pb_graphs.proofs.ContainsLemmas.{Contains-first, Contains-one}
 use Rattle.pb_schema.specs.Types.{Types}
 use Rattle.pb_schema.specs.Names.{AllDiffer}
 use Rattle.pb_compat.specs.declared.difference.Step.{Step}

@@ -3,7 +3,7 @@ use Rattle.std.proofs.Common.{◌≡◌, ℕ, Bool, true, false, cond, List, [],
 use Rattle.std.specs.Prelude.{option_and_then}
 use Rattle.std.proofs.lemmas.Bool.Decides.{Decides-eqb}
 use Rattle.std.proofs.lemmas.List.Sorted.{Contains-permutation}
-use Rattle.pb_sets.proofs.ContainsLemmas.{Contains-first, Contains-later}
+use Rattle.pb_graphs.proofs.ContainsLemmas.{Contains-first, Contains-later}
 use Rattle.pb_schema.specs.Types.{FieldView, Types, message_fields, field_numbered}
 use Rattle.pb_schema.specs.Kinds.{message_of_kind}
 use Rattle.pb_compat.specs.Pairs.{pair_of, message_at, AreRising}

@@ -4,7 +4,7 @@ use Rattle.std.specs.Prelude.{flat_map}
 use Rattle.std.specs.List.{AllByRecursion, list_any}
 use Rattle.std.proofs.lemmas.List.Elements.{Contains-append_left, Contains-append_right}
 use Rattle.std.proofs.lemmas.List.Sorted.{Contains-permutation}
-use Rattle.pb_sets.proofs.ContainsLemmas.{Contains-none, Contains-cases}
+use Rattle.pb_graphs.proofs.ContainsLemmas.{Contains-none, Contains-cases}
 use Rattle.pb_schema.specs.Types.{FieldView, Types, message_fields, field_numbered}
 use Rattle.pb_schema.specs.Rules.{IsPool}
 use Rattle.pb_compat.specs.declared.difference.ComparedTypes.{ComparedTypes}

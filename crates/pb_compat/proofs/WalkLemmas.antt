@@ -4,7 +4,7 @@ use Rattle.std.specs.Prelude.{slice_get, IsSomeAnd}
 use Rattle.std.proofs.lemmas.List.{append-nil}
 use Rattle.std.proofs.lemmas.Option.{slice_get_within}
 use Rattle.std.proofs.lemmas.List.Elements.{Contains-push, Contains-push_cases, Contains-append_left}
-use Rattle.pb_sets.proofs.ContainsLemmas.{Contains-none}
+use Rattle.pb_graphs.proofs.ContainsLemmas.{Contains-none}
 use Rattle.pb_schema.specs.Types.{Types}
 use Rattle.pb_schema.proofs.NameSetLemmas.{AllDiffer-push}
 use Rattle.pb_compat.specs.declared.difference.Step.{Step}

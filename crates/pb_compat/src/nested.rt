@@ -11,7 +11,7 @@ ghost use Rattle.pb_compat.specs.declared.difference.ComparedTypes.{ComparedType
 use crate::difference::ComparedTypes;
 use crate::witnesses::{any_key, body_of, content_of, witness_body};
 use pb_schema::{MessageId, Pool};
-use pb_value::parts::from_well_formed;
+use pb_value::bodies::from_well_formed;
 use pb_value::{Body, DynamicMessage, Value};
 use std::alloc::{AllocError, Global};
 

@@ -14,7 +14,7 @@ ghost use Rattle.pb_compat.specs.Scalars.{declares_others, holds_number as holds
 
 use crate::scalars::{holds_number, undeclared, values_of};
 use pb_schema::{EnumId, Kind, Pool};
-use pb_value::parts::empty_body;
+use pb_value::bodies::empty_body;
 use pb_value::{MapKey, Value};
 use std::alloc::{AllocError, Global};
 

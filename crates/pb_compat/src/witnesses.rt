@@ -20,7 +20,7 @@ use crate::fields::{keeps_shape, keeps_values};
 use crate::oneofs::share_oneof;
 use crate::samples::{any_value, key_of, lost_value};
 use pb_schema::{Field, Kind, MessageId, Pool, Shape};
-use pb_value::parts::{empty_body, from_well_formed};
+use pb_value::bodies::{empty_body, from_well_formed};
 use pb_value::{Body, Content, DynamicMessage, MapKey, Value};
 use std::alloc::{AllocError, Global};
 use std::collections::BTreeMap;

@@ -23,7 +23,7 @@ use pb_parts::error::NoMemory;
 use pb_parts::tokens::step::Step;
 use pb_schema::{MessageId, Pool};
 use pb_value::DynamicMessage;
-use pb_value::parts::empty_body;
+use pb_value::bodies::empty_body;
 use pb_whole::build;
 use pb_wire::{Cause, Limits};
 use std::alloc::Global;

@@ -23,10 +23,10 @@ ghost use Rattle.std.specs.Prelude.{◌<◌, length};
 
 use pb_decode::{DecodeError, PushDecoder, decode, validate};
 use pb_parts::error::NoMemory;
-use pb_samples::{
+use pb_schema::{EnumId, Kind, MessageId, Pool, Shape};
+use pb_test_types::{
     EnumRow, FIELDS_OF_F, FIELDS_OF_T, FieldRow, FileRow, PACKED, TypeRow, UNPACKED, pool_of,
 };
-use pb_schema::{EnumId, Kind, MessageId, Pool, Shape};
 use pb_value::DynamicMessage;
 use pb_whole::build;
 use pb_wire::Limits;

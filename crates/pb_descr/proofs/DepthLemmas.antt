@@ -4,9 +4,9 @@ use Rattle.pb_schema.proofs.AddLemmas.{take_past}
 use Rattle.pb_value.specs.Data.{Datum, datums_of, datums_depth, levels_of, Holding, holding_depth, Fields, fields_depth, message_depth}
 use Rattle.pb_descr.specs.declared.error.WriteSetError.{WriteSetError}
 use Rattle.pb_descr.specs.declared.error.WriteSetError.TheVariants.{TooDeep, TooLarge, Memory}
-use Rattle.pb_decl.specs.declared.decl.MessageDecl.{MessageDecl}
-use Rattle.pb_decl.specs.Decls.{DeclaredMessage, message, messages_of, inner_of, DeclaredFile}
-use Rattle.pb_decl.specs.View.{message_view}
+use Rattle.pb_declarations.specs.declared.decl.MessageDecl.{MessageDecl}
+use Rattle.pb_declarations.specs.Decls.{DeclaredMessage, message, messages_of, inner_of, DeclaredFile}
+use Rattle.pb_declarations.specs.View.{message_view}
 use Rattle.pb_descr.specs.Writing.{with_field, fields_with, a_list, message_contents, message_body, message_bodies, file_contents, file_body, set_body}
 use Rattle.pb_descr.specs.Sets.{CutAt}
 

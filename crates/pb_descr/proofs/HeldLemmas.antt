@@ -6,7 +6,7 @@ use Rattle.std.specs.declared.cmp.Ordering.TheVariants.{Less, Equal, Greater}
 use Rattle.std.specs.Ordering.{nat_cmp, match_ordering}
 use Rattle.pb_value.specs.Data.{Datum, scalar, message as one_message, Datums, no_datums, datum, Holding, one, list, map as a_map, Fields, no_fields, field, body, get_field, levels_of, datums_depth, holding_depth, fields_depth}
 use Rattle.pb_descr.specs.declared.cause.DeclCause.{DeclCause}
-use Rattle.pb_decl.specs.Decls.{message, DeclaredMessages, more_messages, messages_of}
+use Rattle.pb_declarations.specs.Decls.{message, DeclaredMessages, more_messages, messages_of}
 use Rattle.pb_value.specs.View.{value_view, values_view}
 use Rattle.pb_value.specs.declared.body.Value.{Value}
 use Rattle.pb_descr.specs.Held.{fields_in, elements, list_held, data_at}

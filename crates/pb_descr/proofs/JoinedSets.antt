@@ -21,7 +21,7 @@ use Rattle.pb_value.proofs.StepLemmas.{get_field-fields_held}
 use Rattle.pb_value.proofs.KnownLemmas.{known-append}
 use Rattle.pb_value.proofs.JoinLemmas.{list_values-append}
 use Rattle.pb_value.proofs.JoinedTexts.{AreRecords-append, AllSound-append}
-use Rattle.pb_decl.specs.Decls.{DeclaredFile}
+use Rattle.pb_declarations.specs.Decls.{DeclaredFile}
 use Rattle.pb_descr.specs.declared.cause.DeclCause.{DeclCause}
 use Rattle.pb_descr.specs.Pool.{many, message, the_set, descriptor_types}
 use Rattle.pb_descr.specs.Held.{elements, list_held, data_at}

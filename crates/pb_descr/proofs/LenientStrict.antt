@@ -18,7 +18,7 @@ use Rattle.pb_value.proofs.ChangeLemmas.{by_order, AreFields-drop_field, RisesFr
 use Rattle.pb_value.proofs.PartLemmas.{held_at}
 use Rattle.pb_value.proofs.RoundTrip.{canonical_text}
 use Rattle.pb_value.proofs.ValueLemmas.{derived_is_well_formed}
-use Rattle.pb_decl.specs.Decls.{DeclaredFile}
+use Rattle.pb_declarations.specs.Decls.{DeclaredFile}
 use Rattle.pb_descr.specs.declared.cause.DeclCause.{DeclCause}
 use Rattle.pb_descr.specs.Pool.{the_set, descriptor_types, message, many}
 use Rattle.pb_descr.specs.Reading.{files_in, is_proto2}

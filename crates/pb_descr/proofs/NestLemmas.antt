@@ -3,11 +3,11 @@ use Rattle.std.proofs.Common.{◌≡◌, ℕ, ℤ, pos, zero, suc, ◌+◌, ◌<
 use Rattle.std.proofs.lemmas.List.{take_more, map-append}
 use Rattle.std.specs.List.{AllByRecursion}
 use Rattle.pb_value.specs.Data.{Datum, levels_of, datums_of, datums_depth, Holding, Fields, fields_depth, message_depth}
-use Rattle.pb_decl.specs.declared.decl.TypeCode.{TypeCode}
-use Rattle.pb_decl.specs.Decls.{DeclaredField, DeclaredEnum, DeclaredMessage, message, DeclaredMessages, no_messages, more_messages, messages_of, DeclaredMethod, DeclaredService, DeclaredFile}
-use Rattle.pb_decl.specs.TypeNumbers.{number_of_type}
+use Rattle.pb_declarations.specs.declared.decl.TypeCode.{TypeCode}
+use Rattle.pb_declarations.specs.Decls.{DeclaredField, DeclaredEnum, DeclaredMessage, message, DeclaredMessages, no_messages, more_messages, messages_of, DeclaredMethod, DeclaredService, DeclaredFile}
+use Rattle.pb_declarations.specs.TypeNumbers.{number_of_type}
 use Rattle.pb_descr.specs.Writing.{with_field, fields_with, a_text, a_number, a_mark, a_list, a_message, options_with, optional, packed_options, field_contents, field_body, range_body, value_body, text_datum, int_datum, enum_contents, enum_body, oneof_body, message_contents, message_body, message_bodies, method_contents, method_body, service_contents, service_body, package_text, syntax_text, file_contents, file_body, set_body}
-use Rattle.pb_decl.specs.Nests.{nests, all_nest}
+use Rattle.pb_declarations.specs.Nests.{nests, all_nest}
 use Rattle.pb_descr.proofs.DepthLemmas.{option_depth, list_depth}
 
 -- ---- what stands in a message, each no deeper than a bound

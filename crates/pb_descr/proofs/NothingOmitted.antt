@@ -20,7 +20,7 @@ use Rattle.pb_value.proofs.ChangeLemmas.{by_order}
 use Rattle.pb_value.proofs.PartLemmas.{held_at}
 use Rattle.pb_value.proofs.ShapeSteps.{put_same}
 use Rattle.pb_value.proofs.ValueLemmas.{derived_is_well_formed}
-use Rattle.pb_decl.specs.Decls.{DeclaredFile}
+use Rattle.pb_declarations.specs.Decls.{DeclaredFile}
 use Rattle.pb_descr.specs.Pool.{the_set, the_file, descriptor_types, message}
 use Rattle.pb_descr.specs.Held.{text_in, one_held, fields_in, elements, list_held, data_at, text_at, name_at}
 use Rattle.pb_descr.specs.Reading.{files_in, is_proto2}

@@ -12,12 +12,12 @@ use Rattle.pb_schema.specs.Context.{a_message, schema_of}
 use Rattle.pb_value.specs.Data.{Message}
 use Rattle.pb_value.specs.Value.{value}
 use Rattle.pb_descr.specs.declared.cause.DeclCause.{DeclCause}
-use Rattle.pb_decl.specs.Decls.{DeclaredFile}
+use Rattle.pb_declarations.specs.Decls.{DeclaredFile}
 use Rattle.pb_descr.specs.Pool.{the_set, descriptor_types}
 use Rattle.pb_descr.specs.Reading.{files_in}
 use Rattle.pb_descr.specs.Causes.{set_causes}
 use Rattle.pb_descr.specs.Sets.{IsSetText, IsSetOf, SetFault, HasSetFault}
-use Rattle.pb_decl.specs.One.{ExactlyOne}
+use Rattle.pb_declarations.specs.One.{ExactlyOne}
 use Rattle.pb_descr.proofs.ReadLemmas.{silent_or_told, same_cause}
 
 module _ (limits : Bounds) (b : List ℕ) (bytes : All IsByte b) where

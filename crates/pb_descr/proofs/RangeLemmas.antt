@@ -18,22 +18,22 @@ use Rattle.pb_schema.specs.Kinds.{closed_enum}
 use Rattle.pb_schema.specs.Scalar.{boolean}
 use Rattle.pb_value.specs.WellFormed.{datums_declared, RisesFrom, oneof_at, oneof_of, HasOneMemberEach, HasNoMember, IsOfShape, IsHeld, holds_declared, IsDatum, AreDatums, AreFields, CanStand, IsBody, IsWellFormed}
 use Rattle.pb_value.specs.Data.{Datum, scalar, datums_of, datums_depth, levels_of, Holding, one, list, Fields, no_fields, field, message_depth}
-use Rattle.pb_decl.specs.declared.decl.TypeCode.{TypeCode}
-use Rattle.pb_decl.specs.declared.decl.TypeCode.TheVariants as code
-use Rattle.pb_decl.specs.Decls.{DeclaredField, DeclaredEnum, MessageHead, DeclaredMessage, message, DeclaredMessages, no_messages, more_messages, messages_of, DeclaredMethod, DeclaredService, DeclaredFile}
-use Rattle.pb_decl.specs.Nests.{nests, all_nest}
-use Rattle.pb_decl.specs.View.{field_view, numbered_view, enum_view, message_view, method_view, service_view, file_view}
-use Rattle.pb_decl.specs.declared.decl.FieldDecl.{FieldDecl}
-use Rattle.pb_decl.specs.declared.decl.EnumDecl.{EnumDecl}
-use Rattle.pb_decl.specs.declared.decl.MessageDecl.{MessageDecl, out-MessageDecl}
-use Rattle.pb_decl.specs.declared.decl.MethodDecl.{MethodDecl}
-use Rattle.pb_decl.specs.declared.decl.ServiceDecl.{ServiceDecl}
-use Rattle.pb_decl.specs.declared.decl.FileDecl.{FileDecl}
-use Rattle.pb_decl.specs.TypeNumbers.{number_of_type}
+use Rattle.pb_declarations.specs.declared.decl.TypeCode.{TypeCode}
+use Rattle.pb_declarations.specs.declared.decl.TypeCode.TheVariants as code
+use Rattle.pb_declarations.specs.Decls.{DeclaredField, DeclaredEnum, MessageHead, DeclaredMessage, message, DeclaredMessages, no_messages, more_messages, messages_of, DeclaredMethod, DeclaredService, DeclaredFile}
+use Rattle.pb_declarations.specs.Nests.{nests, all_nest}
+use Rattle.pb_declarations.specs.View.{field_view, numbered_view, enum_view, message_view, method_view, service_view, file_view}
+use Rattle.pb_declarations.specs.declared.decl.FieldDecl.{FieldDecl}
+use Rattle.pb_declarations.specs.declared.decl.EnumDecl.{EnumDecl}
+use Rattle.pb_declarations.specs.declared.decl.MessageDecl.{MessageDecl, out-MessageDecl}
+use Rattle.pb_declarations.specs.declared.decl.MethodDecl.{MethodDecl}
+use Rattle.pb_declarations.specs.declared.decl.ServiceDecl.{ServiceDecl}
+use Rattle.pb_declarations.specs.declared.decl.FileDecl.{FileDecl}
+use Rattle.pb_declarations.specs.TypeNumbers.{number_of_type}
 use Rattle.pb_descr.specs.Pool.{descriptor_types, message as message_kind, many, the_set}
 use Rattle.pb_descr.specs.Ranges.{IsInt32, IsFieldInRange, IsRangeInRange, IsValueInRange, IsEnumInRange, IsHeadInRange, IsMessageInRange, AreMessagesInRange, IsMethodInRange, IsServiceInRange, IsFileInRange}
 use Rattle.pb_descr.specs.Writing.{fields_with, with_field, a_text, a_number, a_mark, a_list, a_message, options_with, optional, packed_options, field_contents, field_body, range_contents, range_body, value_contents, value_body, text_datum, int_datum, enum_contents, enum_body, oneof_body, message_contents, message_body, message_bodies, method_contents, method_body, service_contents, service_body, package_text, syntax_text, file_contents, file_body, set_body}
-use Rattle.pb_decl.proofs.ViewLemmas.{message_view-parts}
+use Rattle.pb_declarations.proofs.ViewLemmas.{message_view-parts}
 use Rattle.pb_descr.proofs.DepthLemmas.{inner_below, messages_below, files_below}
 use Rattle.pb_descr.proofs.WrittenFits.{all_declared}
 

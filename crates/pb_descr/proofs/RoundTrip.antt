@@ -12,14 +12,14 @@ use Rattle.std.specs.Cmp.{nat_cmp_is, ranked}
 use Rattle.std.specs.Option.{option_map_or}
 use Rattle.pb_schema.specs.Scalar.{boolean}
 use Rattle.pb_value.specs.Data.{Datum, scalar, datums_of, Holding, one, Fields, no_fields, field, get_field}
-use Rattle.pb_decl.specs.declared.decl.TypeCode.{TypeCode}
-use Rattle.pb_decl.specs.declared.decl.TypeCode.TheVariants as code
-use Rattle.pb_decl.specs.Decls.{DeclaredField, DeclaredEnum, MessageHead, DeclaredMessage, message, DeclaredMessages, no_messages, more_messages, DeclaredMethod, DeclaredService, DeclaredFile}
+use Rattle.pb_declarations.specs.declared.decl.TypeCode.{TypeCode}
+use Rattle.pb_declarations.specs.declared.decl.TypeCode.TheVariants as code
+use Rattle.pb_declarations.specs.Decls.{DeclaredField, DeclaredEnum, MessageHead, DeclaredMessage, message, DeclaredMessages, no_messages, more_messages, DeclaredMethod, DeclaredService, DeclaredFile}
 use Rattle.pb_descr.specs.Held.{one_held, list_held, int_in, bool_in, fields_in, bool_at, elements, text_in}
-use Rattle.pb_decl.specs.TypeNumbers.{type_of_number}
+use Rattle.pb_declarations.specs.TypeNumbers.{type_of_number}
 use Rattle.pb_descr.specs.Reading.{enum_in, service_in, head_in, message_in, messages_at, messages_in, messages_listed, file_in, files_in, field_in, value_in, range_in, method_in, oneof_in}
 use Rattle.pb_descr.specs.Contents.{is_rising}
-use Rattle.pb_decl.specs.TypeNumbers.{number_of_type}
+use Rattle.pb_declarations.specs.TypeNumbers.{number_of_type}
 use Rattle.pb_descr.specs.Writing.{field_contents, enum_contents, message_contents, method_contents, service_contents, file_contents, options_with, text_datum, int_datum, enum_body, service_body, message_body, message_bodies, package_text, syntax_text, file_body, set_body, with_field, fields_with, field_body, value_body, range_body, method_body, oneof_body, a_list, a_mark, a_text, a_number, optional, packed_options}
 
 -- what stands at a number of a list

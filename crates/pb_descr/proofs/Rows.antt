@@ -3,10 +3,10 @@ use Rattle.std.proofs.Common.{◌≡◌, ℕ, ℤ, pos, List, [], ◌∷◌, tru
 use Rattle.std.specs.Prelude.{codes}
 use Rattle.pb_wire.specs.Varint.{shortest, shortest_within}
 use Rattle.pb_wire.specs.Inside.{records_spelled, front_within, first_varint, after_varint, named_length}
-use Rattle.pb_decl.specs.declared.decl.TypeCode.TheVariants as code
+use Rattle.pb_declarations.specs.declared.decl.TypeCode.TheVariants as code
 use Rattle.pb_descr.specs.declared.cause.DeclCause.{DeclCause}
 use Rattle.pb_descr.specs.declared.cause.DeclCause.TheVariants as cause
-use Rattle.pb_decl.specs.Decls.{DeclaredField, message as declared_message, messages_of, DeclaredFile}
+use Rattle.pb_declarations.specs.Decls.{DeclaredField, message as declared_message, messages_of, DeclaredFile}
 use Rattle.pb_schema.specs.Scalar.{int32, text}
 use Rattle.pb_value.specs.Data.{Datum, scalar, message, no_datums, datum, one, list, Fields, no_fields, field, Message, body}
 use Rattle.pb_value.specs.Value.{value, value_within}

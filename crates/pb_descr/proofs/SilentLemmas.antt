@@ -11,14 +11,14 @@ use Rattle.std.proofs.lemmas.Bool.Decides.{Decides-eqb}
 use Rattle.pb_value.specs.Data.{Datum, Holding, Fields}
 use Rattle.pb_descr.specs.declared.cause.DeclCause.{DeclCause}
 use Rattle.pb_descr.specs.declared.cause.DeclCause.TheVariants as cause
-use Rattle.pb_decl.specs.declared.decl.TypeCode.{TypeCode}
-use Rattle.pb_decl.specs.declared.decl.TypeCode.TheVariants as code
-use Rattle.pb_decl.specs.Decls.{DeclaredField, DeclaredEnum, MessageHead, DeclaredMessage, message, DeclaredMessages, no_messages, more_messages, DeclaredMethod, DeclaredService, DeclaredFile}
+use Rattle.pb_declarations.specs.declared.decl.TypeCode.{TypeCode}
+use Rattle.pb_declarations.specs.declared.decl.TypeCode.TheVariants as code
+use Rattle.pb_declarations.specs.Decls.{DeclaredField, DeclaredEnum, MessageHead, DeclaredMessage, message, DeclaredMessages, no_messages, more_messages, DeclaredMethod, DeclaredService, DeclaredFile}
 use Rattle.pb_descr.specs.Held.{fields_in, list_held, one_held, int_in, text_in, data_at, int_at, text_at}
 use Rattle.pb_descr.specs.Reading.{label_at, is_proto2}
 use Rattle.pb_descr.specs.Contents.{is_rising}
 use Rattle.pb_descr.specs.Causes.{when, is_label, has_bad_type, is_group, name_causes, type_causes, proto2_causes, field_causes, named_causes, listed_causes, has_any, head_causes, message_causes, messages_at_causes, has_known_syntax, file_head_causes, file_causes, causes_from, set_causes}
-use Rattle.pb_decl.specs.TypeNumbers.{number_of_type}
+use Rattle.pb_declarations.specs.TypeNumbers.{number_of_type}
 use Rattle.pb_descr.specs.Writing.{field_contents, field_body, value_body, enum_contents, enum_body, oneof_body, message_contents, message_body, message_bodies, method_body, service_contents, service_body, syntax_text, file_contents, file_body, set_body, fields_with, a_list, a_number, optional}
 use Rattle.pb_descr.proofs.HeldLemmas.{messages_at_causes-data, message_causes-fields}
 use Rattle.pb_descr.proofs.RoundTrip.{option_at, get_with, held_back, file_back}

@@ -8,7 +8,7 @@ use Rattle.pb_value.specs.Cause.{unless, message_cause, FailsWith}
 use Rattle.pb_value.specs.WellFormed.{IsWellFormed}
 use Rattle.pb_value.specs.declared.error.ValueError.TheVariants.{TooDeep}
 use Rattle.pb_value.proofs.RoundTrip.{canonical_text}
-use Rattle.pb_decl.specs.Decls.{DeclaredFile}
+use Rattle.pb_declarations.specs.Decls.{DeclaredFile}
 use Rattle.pb_descr.specs.Pool.{the_set, descriptor_types}
 use Rattle.pb_descr.specs.Causes.{set_causes}
 use Rattle.pb_descr.specs.Writing.{set_body}

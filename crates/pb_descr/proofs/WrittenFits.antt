@@ -14,9 +14,9 @@ use Rattle.pb_value.specs.Judge.{is_value_of, are_values_of}
 use Rattle.pb_value.specs.Cause.{or_else, unless, shape_at, at_field, with_member, stored_cause, datum_cause, datums_cause, held_cause, fields_cause, body_cause, message_cause}
 use Rattle.pb_value.specs.declared.error.ValueError.{ValueError}
 use Rattle.pb_value.specs.declared.error.ValueError.TheVariants.{WrongKind, NoSuchValue, TooDeep}
-use Rattle.pb_decl.specs.Decls.{DeclaredField, DeclaredEnum, MessageHead, DeclaredMessage, message, DeclaredMessages, no_messages, more_messages, DeclaredMethod, DeclaredService, DeclaredFile}
+use Rattle.pb_declarations.specs.Decls.{DeclaredField, DeclaredEnum, MessageHead, DeclaredMessage, message, DeclaredMessages, no_messages, more_messages, DeclaredMethod, DeclaredService, DeclaredFile}
 use Rattle.pb_descr.specs.Pool.{descriptor_types, message as message_kind, many, the_set}
-use Rattle.pb_decl.specs.TypeNumbers.{number_of_type}
+use Rattle.pb_declarations.specs.TypeNumbers.{number_of_type}
 use Rattle.pb_descr.specs.Writing.{fields_with, with_field, a_text, a_number, a_mark, a_list, a_message, options_with, optional, packed_options, field_contents, field_body, range_contents, range_body, value_contents, value_body, text_datum, int_datum, enum_contents, enum_body, oneof_body, message_contents, message_body, message_bodies, method_contents, method_body, service_contents, service_body, package_text, syntax_text, file_contents, file_body, set_body}
 
 -- no member of a oneof is set

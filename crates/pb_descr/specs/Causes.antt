@@ -11,7 +11,7 @@ use Rattle.pb_value.specs.Data.{map as a_map, Fields, no_fields, field, Message,
 use Rattle.pb_descr.specs.declared.cause.DeclCause.{DeclCause}
 use Rattle.pb_descr.specs.declared.cause.DeclCause.TheVariants as cause
 use Rattle.pb_descr.specs.Held.{fields_in, data_at, text_at, int_at, name_at}
-use Rattle.pb_decl.specs.TypeNumbers.{type_of_number}
+use Rattle.pb_declarations.specs.TypeNumbers.{type_of_number}
 use Rattle.pb_descr.specs.Reading.{label_at, is_proto2}
 
 abbrev pub when : Bool → DeclCause → List DeclCause

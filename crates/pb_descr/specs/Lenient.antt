@@ -5,7 +5,7 @@ use Rattle.pb_wire.specs.Fault.{fault}
 use Rattle.pb_wire.specs.Grammar.{HasFault}
 use Rattle.pb_schema.specs.Context.{a_message, schema_of}
 use Rattle.pb_value.specs.Data.{Message}
-use Rattle.pb_decl.specs.Decls.{DeclaredFile}
+use Rattle.pb_declarations.specs.Decls.{DeclaredFile}
 use Rattle.pb_descr.specs.declared.error.DescrError.{DescrError}
 use Rattle.pb_descr.specs.declared.error.DescrError.TheVariants as descr
 use Rattle.pb_descr.specs.Pool.{the_set, descriptor_types}

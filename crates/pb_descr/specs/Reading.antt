@@ -5,9 +5,9 @@ use Rattle.std.specs.Ordering.{int_eq, nat_cmp, match_ordering}
 use Rattle.std.specs.Str.{bytes_eq}
 use Rattle.pb_value.specs.Data.{Datum, scalar, message as one_message, Datums, no_datums, datum, Holding, one}
 use Rattle.pb_value.specs.Data.{list, map as a_map, Fields, no_fields, field, Message, body, fields_of}
-use Rattle.pb_decl.specs.TypeNumbers.{type_of_number}
-use Rattle.pb_decl.specs.Decls.{DeclaredField, DeclaredEnum, MessageHead, DeclaredMessage, message, DeclaredMessages}
-use Rattle.pb_decl.specs.Decls.{no_messages, more_messages, DeclaredMethod, DeclaredService, DeclaredFile}
+use Rattle.pb_declarations.specs.TypeNumbers.{type_of_number}
+use Rattle.pb_declarations.specs.Decls.{DeclaredField, DeclaredEnum, MessageHead, DeclaredMessage, message, DeclaredMessages}
+use Rattle.pb_declarations.specs.Decls.{no_messages, more_messages, DeclaredMethod, DeclaredService, DeclaredFile}
 use Rattle.pb_descr.specs.Held.{fields_in, data_at, text_at, int_at, bool_at, inside_at, texts_at, ints_at, name_at, number_at, mark_at}
 
 -- starts and ends

@@ -13,7 +13,7 @@ use Rattle.pb_descr.specs.declared.error.DescrError.{DescrError}
 use Rattle.pb_descr.specs.declared.error.DescrError.TheVariants as descr
 use Rattle.pb_descr.specs.declared.error.WriteSetError.{WriteSetError}
 use Rattle.pb_descr.specs.declared.error.WriteSetError.TheVariants.{TooDeep, TooLarge, Memory}
-use Rattle.pb_decl.specs.Decls.{DeclaredFile}
+use Rattle.pb_declarations.specs.Decls.{DeclaredFile}
 use Rattle.pb_descr.specs.Pool.{the_set, descriptor_types}
 use Rattle.pb_descr.specs.Reading.{files_in}
 use Rattle.pb_descr.specs.Causes.{set_causes}

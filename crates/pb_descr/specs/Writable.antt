@@ -1,7 +1,7 @@
 -- Which real files can be written as a set.
 use Rattle.std.specs.Prelude.{ℕ, ◌≤◌, ◌<◌, ◌^◌, List, length}
 use Rattle.pb_value.specs.Data.{message_depth}
-use Rattle.pb_decl.specs.Decls.{DeclaredFile}
+use Rattle.pb_declarations.specs.Decls.{DeclaredFile}
 use Rattle.pb_descr.specs.Sets.{set_bytes}
 use Rattle.pb_descr.specs.Writing.{set_body}
 

@@ -2,9 +2,9 @@
 use Rattle.std.specs.Prelude.{ℕ, ℤ, pos, List, [], ◌∷◌, codes, map, Bool, true, false, if◌then◌else◌, Option, Some, None}
 use Rattle.pb_schema.specs.Scalar.{int32, boolean, text}
 use Rattle.pb_value.specs.Data.{Datum, scalar, message as one_message, datums_of, Holding, one, list, Fields, no_fields, field, Message, body}
-use Rattle.pb_decl.specs.TypeNumbers.{number_of_type}
-use Rattle.pb_decl.specs.Decls.{DeclaredField, DeclaredEnum, MessageHead, DeclaredMessage, message, DeclaredMessages}
-use Rattle.pb_decl.specs.Decls.{no_messages, more_messages, DeclaredMethod, DeclaredService, DeclaredFile}
+use Rattle.pb_declarations.specs.TypeNumbers.{number_of_type}
+use Rattle.pb_declarations.specs.Decls.{DeclaredField, DeclaredEnum, MessageHead, DeclaredMessage, message, DeclaredMessages}
+use Rattle.pb_declarations.specs.Decls.{no_messages, more_messages, DeclaredMethod, DeclaredService, DeclaredFile}
 
 abbrev pub with_field : ℕ → Option Holding → Fields → Fields
 with_field n None fs = fs

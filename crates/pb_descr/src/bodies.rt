@@ -3,14 +3,14 @@
 ghost use Rattle.std.specs.Prelude.{◌≡◌, pos, map, option_map, string_bytes, IfOk};
 ghost use Rattle.pb_value.specs.Data.{Datum};
 ghost use Rattle.pb_value.specs.View.{content_view, value_view};
-ghost use Rattle.pb_decl.specs.View.{field_view, numbered_view, enum_view, method_view, service_view};
-ghost use Rattle.pb_decl.specs.TypeNumbers.{number_of_type};
+ghost use Rattle.pb_declarations.specs.View.{field_view, numbered_view, enum_view, method_view, service_view};
+ghost use Rattle.pb_declarations.specs.TypeNumbers.{number_of_type};
 ghost use Rattle.pb_descr.specs.Writing.{a_list, optional, a_text, a_number, packed_options, options_with, text_datum};
 ghost use Rattle.pb_descr.specs.Writing.{int_datum, range_body, value_body, oneof_body, field_body, enum_body, method_body, service_body};
 
 use crate::contents::{list, mark, message, number, text};
 use crate::declaring::{OPTIONAL, REPEATED};
-use pb_decl::{EnumDecl, FieldDecl, MethodDecl, ServiceDecl};
+use pb_declarations::{EnumDecl, FieldDecl, MethodDecl, ServiceDecl};
 use pb_value::{Content, Value};
 use std::alloc::{AllocError, Global};
 

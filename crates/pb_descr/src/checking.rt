@@ -10,7 +10,7 @@ ghost use Rattle.pb_descr.specs.Causes.{field_causes, listed_causes, head_causes
 use crate::cause::DeclCause;
 use crate::declaring::{OPTIONAL, REPEATED, is_proto2, label_at};
 use crate::held::{int_at, name_at, text_at, values_at};
-use pb_decl::TypeCode;
+use pb_declarations::TypeCode;
 use pb_value::Value;
 
 /// The label of a field that has to be there.

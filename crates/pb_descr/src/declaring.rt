@@ -4,16 +4,18 @@ ghost use Rattle.std.specs.Prelude.{◌≡◌, ℤ, ℕ, List, map, filter_map, 
 ghost use Rattle.pb_value.specs.Data.{Datum};
 ghost use Rattle.pb_value.specs.View.{value_view};
 ghost use Rattle.pb_descr.specs.Held.{fields_in, data_at, text_in, int_in, text_at, int_at};
-ghost use Rattle.pb_decl.specs.Decls.{DeclaredField, DeclaredEnum, DeclaredMethod, DeclaredService, DeclaredFile};
-ghost use Rattle.pb_decl.specs.View.{field_view, numbered_view, enum_view, message_view, method_view, service_view, file_view};
-ghost use Rattle.pb_decl.specs.TypeNumbers.{type_of_number};
+ghost use Rattle.pb_declarations.specs.Decls.{DeclaredField, DeclaredEnum, DeclaredMethod, DeclaredService, DeclaredFile};
+ghost use Rattle.pb_declarations.specs.View.{field_view, numbered_view, enum_view, message_view, method_view, service_view, file_view};
+ghost use Rattle.pb_declarations.specs.TypeNumbers.{type_of_number};
 ghost use Rattle.pb_descr.specs.Reading.{range_in, label_at, field_in, value_in, enum_in};
 ghost use Rattle.pb_descr.specs.Reading.{oneof_in, message_in, method_in, service_in, is_proto2, file_in};
 
 use crate::held::{
     bool_inside, int_at, int_in, mark_at, name_at, number_at, text_at, text_in, values_at,
 };
-use pb_decl::{EnumDecl, FieldDecl, FileDecl, MessageDecl, MethodDecl, ServiceDecl, TypeCode};
+use pb_declarations::{
+    EnumDecl, FieldDecl, FileDecl, MessageDecl, MethodDecl, ServiceDecl, TypeCode,
+};
 use pb_value::Value;
 use std::alloc::{AllocError, Global};
 

@@ -4,8 +4,8 @@ ghost use Rattle.std.specs.Prelude.{◌≡◌, ◌↔◌, ℕ, [], List, All, ma
 ghost use Rattle.pb_wire.specs.Limits.{Bounds, full};
 ghost use Rattle.pb_wire.specs.Ranges.{IsByte, AreBytes};
 ghost use Rattle.pb_schema.specs.Rules.{IsPool};
-ghost use Rattle.pb_decl.specs.Decls.{DeclaredFile};
-ghost use Rattle.pb_decl.specs.View.{file_view};
+ghost use Rattle.pb_declarations.specs.Decls.{DeclaredFile};
+ghost use Rattle.pb_declarations.specs.View.{file_view};
 ghost use Rattle.pb_descr.specs.Pool.{descriptor_types};
 ghost use Rattle.pb_descr.specs.Reading.{files_in};
 ghost use Rattle.pb_descr.specs.Causes.{set_causes};
@@ -18,10 +18,10 @@ ghost use Rattle.pb_descr.specs.NothingOmitted.{HasNoSuchPart};
 ghost use Rattle.pb_descr.specs.Writable.{IsWithinLimits};
 ghost use Rattle.pb_descr.specs.declared.cause.DeclCause.{DeclCause};
 ghost use Rattle.pb_descr.specs.declared.error.DescrError.TheVariants as descr;
-ghost use Rattle.pb_decl.specs.One.{ExactlyOne};
+ghost use Rattle.pb_declarations.specs.One.{ExactlyOne};
 
 use crate::ranges::read_files;
-use pb_decl::FileDecl;
+use pb_declarations::FileDecl;
 
 /// What files are written as declares these files. Where it can be written and shows no cause, its canonical bytes are a set of these
 /// files. The types of descriptor sets are a pool.

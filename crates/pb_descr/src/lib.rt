@@ -39,7 +39,9 @@ pub use cause::DeclCause;
 pub use error::{DescrError, WriteSetError};
 pub use lenient::{LenientSet, read_set_lenient};
 pub use omitted::{Omitted, OmittedPart};
-pub use pb_decl::{EnumDecl, FieldDecl, FileDecl, MessageDecl, MethodDecl, ServiceDecl, TypeCode};
+pub use pb_declarations::{
+    EnumDecl, FieldDecl, FileDecl, MessageDecl, MethodDecl, ServiceDecl, TypeCode,
+};
 pub use pool::descriptor_pool;
 pub use reading::read_set;
 pub use writing::write_set;

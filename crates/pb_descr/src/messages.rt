@@ -4,16 +4,16 @@ ghost use Rattle.std.specs.Prelude.{◌≡◌, ◌≤◌, map, option_map, IfOk,
 ghost use Rattle.std.specs.List.{AllByRecursion};
 ghost use Rattle.pb_value.specs.Data.{levels_of, datums_depth, datums_of, message_depth};
 ghost use Rattle.pb_value.specs.View.{content_view, value_view, body_view};
-ghost use Rattle.pb_decl.specs.Decls.{inner_of, messages_of};
-ghost use Rattle.pb_decl.specs.Nests.{nests, all_nest};
-ghost use Rattle.pb_decl.specs.View.{message_view, file_view};
+ghost use Rattle.pb_declarations.specs.Decls.{inner_of, messages_of};
+ghost use Rattle.pb_declarations.specs.Nests.{nests, all_nest};
+ghost use Rattle.pb_declarations.specs.View.{message_view, file_view};
 ghost use Rattle.pb_descr.specs.Writing.{a_list, package_text, syntax_text, message_body, message_bodies, file_body, set_body};
 ghost use Rattle.pb_descr.specs.Sets.{CutAt};
 
 use crate::bodies::{enums, fields, list_of, oneofs, options, ranges, texts};
 use crate::contents::{body, list, message, text};
 use crate::error::WriteSetError;
-use pb_decl::{FileDecl, MessageDecl};
+use pb_declarations::{FileDecl, MessageDecl};
 use pb_value::{Body, Content, Value};
 use std::alloc::{AllocError, Global};
 

@@ -2,13 +2,13 @@
 
 ghost use Rattle.std.specs.Prelude.{◌≤◌, map, IfSome};
 ghost use Rattle.std.specs.List.{AllByRecursion};
-ghost use Rattle.pb_decl.specs.Decls.{messages_of};
-ghost use Rattle.pb_decl.specs.Nests.{nests, all_nest};
-ghost use Rattle.pb_decl.specs.View.{field_view, numbered_view, enum_view, message_view, file_view};
+ghost use Rattle.pb_declarations.specs.Decls.{messages_of};
+ghost use Rattle.pb_declarations.specs.Nests.{nests, all_nest};
+ghost use Rattle.pb_declarations.specs.View.{field_view, numbered_view, enum_view, message_view, file_view};
 ghost use Rattle.pb_descr.specs.Ranges.{IsInt32, IsFieldInRange, IsRangeInRange, IsValueInRange, IsEnumInRange};
 ghost use Rattle.pb_descr.specs.Ranges.{IsMessageInRange, IsFileInRange};
 
-use pb_decl::{EnumDecl, FieldDecl, FileDecl, MessageDecl};
+use pb_declarations::{EnumDecl, FieldDecl, FileDecl, MessageDecl};
 
 /// What has numbers, which are in range once they are read.
 trait Ranged {

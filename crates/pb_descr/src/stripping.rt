@@ -11,7 +11,7 @@ ghost use Rattle.pb_descr.specs.Without.{message_without, inner_without, holding
 
 use crate::declaring::{is_proto2, label_at};
 use crate::held::{bool_inside, int_at, number_at, values_at};
-use pb_value::parts::take_field;
+use pb_value::bodies::take_field;
 use pb_value::{Body, Content, Value};
 
 /// The label of a field that has to be there.

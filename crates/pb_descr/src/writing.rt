@@ -5,7 +5,7 @@ ghost use Rattle.pb_wire.specs.Limits.{full};
 ghost use Rattle.pb_value.specs.Data.{message_depth};
 ghost use Rattle.pb_value.specs.WellFormed.{IsWellFormed};
 ghost use Rattle.pb_descr.specs.Pool.{the_set, descriptor_types};
-ghost use Rattle.pb_decl.specs.View.{file_view};
+ghost use Rattle.pb_declarations.specs.View.{file_view};
 ghost use Rattle.pb_descr.specs.Causes.{set_causes};
 ghost use Rattle.pb_descr.specs.Writing.{set_body};
 ghost use Rattle.pb_descr.specs.Sets.{CutAt, IsSetOf, IsUnwritten, IsWritable, set_bytes};
@@ -14,7 +14,7 @@ ghost use Rattle.pb_descr.specs.declared.error.WriteSetError.TheVariants.{TooDee
 use crate::error::WriteSetError;
 use crate::messages::set_body;
 use crate::pool::{SET, descriptor_pool};
-use pb_decl::FileDecl;
+use pb_declarations::FileDecl;
 use pb_encode::{EncodeError, encode};
 use pb_schema::Pool;
 use pb_value::{DynamicMessage, ValueError};

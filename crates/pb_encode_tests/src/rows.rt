@@ -4,8 +4,8 @@
 use super::schema::pool;
 use super::writing::{is_cut, is_cut_at_each_byte, is_written, is_written_or_memory};
 use pb_encode::EncodeError;
-use pb_samples::body_of;
 use pb_schema::Pool;
+use pb_test_types::body_of;
 use pb_value::{Content, DynamicMessage, Value};
 use pb_wire::put_varint;
 use std::alloc::{AllocError, Global};

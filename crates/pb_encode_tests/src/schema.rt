@@ -18,10 +18,10 @@
 //! optional C k = 4; repeated C l = 5 [packed = true]; oneof o { C m = 6; group V = 536870911 { optional int32 x = 1; } }
 //! repeated C r = 9; map<int32, Q> p = 10; repeated group H = 16 { optional int32 x = 1; optional C k = 2; optional Q c = 3; } }
 
-use pb_samples::{
+use pb_schema::{EnumId, Kind, MessageId, Pool, Shape};
+use pb_test_types::{
     EnumRow, FIELDS_OF_F, FIELDS_OF_T, FieldRow, FileRow, PACKED, TypeRow, UNPACKED, pool_of,
 };
-use pb_schema::{EnumId, Kind, MessageId, Pool, Shape};
 use std::alloc::Global;
 use std::test::Fail;
 

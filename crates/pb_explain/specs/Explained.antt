@@ -5,8 +5,8 @@ use Rattle.pb_explain.specs.Expected.{expected_line}
 use Rattle.pb_explain.specs.Steps.{AreStepLines}
 use Rattle.pb_explain.specs.Window.{window_lines}
 use Rattle.pb_explain.specs.declared.fault.Refused.{Refused}
-use Rattle.pb_explain.specs.declared.parts.Given.{Given}
-use Rattle.pb_explain.specs.declared.parts.Parent.{Parent}
+use Rattle.pb_explain.specs.declared.steps.Given.{Given}
+use Rattle.pb_explain.specs.declared.steps.Parent.{Parent}
 
 -- which byte of which frame it is
 abbrev pub frame_text : ℕ → ℕ → ℕ → List ℕ

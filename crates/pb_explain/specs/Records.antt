@@ -8,7 +8,7 @@ use Rattle.pb_wire.specs.Sound.{Sound}
 use Rattle.pb_wire.specs.Spell.{Spells}
 use Rattle.pb_wire.specs.declared.fault.PathStep.{PathStep}
 use Rattle.pb_explain.specs.declared.find.Found.{Found}
-use Rattle.pb_explain.specs.declared.parts.Span.{Span}
+use Rattle.pb_explain.specs.declared.steps.Span.{Span}
 
 -- The record of a step begins at p, after these records of what it is in: its tag has the number and this wire type, which ends no group. The tag ends at q.
 pub record IsStepAt (s : PathStep) (before : List Record) (w : ℕ) (p q : Place) : Type 0 where

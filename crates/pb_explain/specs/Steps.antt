@@ -11,10 +11,10 @@ use Rattle.pb_schema.specs.Types.{FieldView, Types, field_numbered, message_fiel
 use Rattle.pb_listing.specs.TypesListing.{kind_text}
 use Rattle.pb_explain.specs.Records.{IsFoundIn, payload_in, span_in}
 use Rattle.pb_explain.specs.declared.find.Found.{Found}
-use Rattle.pb_explain.specs.declared.parts.Given.{Given}
-use Rattle.pb_explain.specs.declared.parts.Parent.{Parent}
-use Rattle.pb_explain.specs.declared.parts.Parent.TheVariants.{Untyped, Message, Entry}
-use Rattle.pb_explain.specs.declared.parts.Span.{Span}
+use Rattle.pb_explain.specs.declared.steps.Given.{Given}
+use Rattle.pb_explain.specs.declared.steps.Parent.{Parent}
+use Rattle.pb_explain.specs.declared.steps.Parent.TheVariants.{Untyped, Message, Entry}
+use Rattle.pb_explain.specs.declared.steps.Span.{Span}
 
 -- the field of a number in a message type
 abbrev pub field_of : Types → ℕ → ℕ → Option FieldView

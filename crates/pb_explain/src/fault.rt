@@ -5,7 +5,7 @@ ghost use Rattle.pb_output.specs.Sink.{Puts};
 ghost use Rattle.pb_explain.specs.Explained.{IsExplained, frame_text, site_line};
 
 use crate::expected::put_expected;
-use crate::parts::{Given, Parent, put_steps};
+use crate::steps::{Given, Parent, put_steps};
 use crate::window::put_window;
 use pb_output::Sink;
 use pb_schema::Pool;

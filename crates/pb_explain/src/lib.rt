@@ -6,10 +6,10 @@
 mod expected;
 mod fault;
 mod find;
-mod parts;
 mod source;
+mod steps;
 mod window;
 
 pub use fault::{Refused, put_fault};
-pub use parts::{Given, Parent};
 pub use source::{Line, line_at, put_source_line};
+pub use steps::{Given, Parent};

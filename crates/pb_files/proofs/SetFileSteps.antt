@@ -3,7 +3,7 @@ use Rattle.std.proofs.Common.{◌≡◌, ◌≤◌, ◌+◌, ◌⊎◌, ℕ, Lis
 use Rattle.std.specs.Borrow.{Bor}
 use Rattle.std.specs.Io.KnownBytes.{Consumes}
 use Rattle.pb_wire.specs.Limits.{full}
-use Rattle.pb_decl.specs.Decls.{DeclaredFile}
+use Rattle.pb_declarations.specs.Decls.{DeclaredFile}
 use Rattle.pb_descr.specs.Lenient.{IsLenientSetOf}
 use Rattle.pb_descr.specs.Omitted.{OmittedView}
 use Rattle.pb_descr.specs.Sets.{IsSetOf}

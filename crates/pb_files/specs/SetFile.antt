@@ -8,7 +8,7 @@ use Rattle.pb_schema.specs.Names.{message_names}
 use Rattle.pb_schema.specs.Tables.{place_of}
 use Rattle.pb_schema.specs.Types.{Types}
 use Rattle.pb_value.specs.Data.{Message}
-use Rattle.pb_decl.specs.Decls.{DeclaredFile}
+use Rattle.pb_declarations.specs.Decls.{DeclaredFile}
 use Rattle.pb_descr.specs.Causes.{set_causes}
 use Rattle.pb_descr.specs.Lenient.{IsUnreadLeniently}
 use Rattle.pb_descr.specs.Omitted.{OmittedView, omitted_in}

@@ -2,7 +2,7 @@
 
 ghost use Rattle.std.specs.Prelude.{◌≡◌, ◌+◌, ◌++◌, ◌<◌, true, ℕ, List, Option, Some, length, map, IfOk, IfErr};
 ghost use Rattle.pb_wire.specs.Limits.{full};
-ghost use Rattle.pb_decl.specs.View.{file_view};
+ghost use Rattle.pb_declarations.specs.View.{file_view};
 ghost use Rattle.pb_descr.specs.Omitted.{omitted_view};
 ghost use Rattle.pb_json_names.specs.Names.{AreNamesOf};
 ghost use Rattle.pb_files.specs.FileMap.{KeepsMap};

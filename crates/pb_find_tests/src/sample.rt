@@ -17,8 +17,8 @@ ghost use Rattle.std.specs.Prelude.{◌<◌, length};
 
 use pb_decode::{DecodeError, decode, validate};
 use pb_find::{ScalarRef, find};
-use pb_samples::{EnumRow, FIELDS_OF_T, FieldRow, FileRow, PACKED, TypeRow, pool_of};
 use pb_schema::{EnumId, Kind, MessageId, Pool, Shape};
+use pb_test_types::{EnumRow, FIELDS_OF_T, FieldRow, FileRow, PACKED, TypeRow, pool_of};
 use pb_value::DynamicMessage;
 use pb_wire::Limits;
 use std::alloc::Global;

@@ -10,7 +10,7 @@ use Rattle.pb_json_text.specs.View.{Named, form_view}
 use Rattle.pb_json_text.specs.declared.value.JsonMember.{JsonMember}
 use Rattle.pb_json_text.specs.Texts.{IsJson, HasFault}
 use Rattle.pb_json_text.specs.declared.fault.JsonCause.{JsonCause}
-use Rattle.pb_json_read.specs.declared.parts.Parts.{Parts}
+use Rattle.pb_json_read.specs.declared.construction.Parts.{Parts}
 use Rattle.pb_json_read.specs.declared.rules.JsonRules.{JsonRules}
 use Rattle.pb_json_read.specs.declared.error.JsonReadCause.TheVariants.{TooDeep}
 use Rattle.pb_json_read.specs.declared.error.JsonReadError.{JsonReadError}

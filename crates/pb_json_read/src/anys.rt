@@ -11,10 +11,10 @@ ghost use Rattle.pb_json_read.specs.Names.{field_meant as meant};
 ghost use Rattle.pb_json_read.specs.Reads.{AnyOf, BytesOf, InAnyOf, ReadsAnyObject, ReadsBeside, ReadsMember, ReadsMemberBeside};
 ghost use Rattle.pb_json_read.specs.Steps.{Made, nothing};
 
+use crate::construction::Parts;
 use crate::context::Context;
 use crate::encoded::{any_body, any_fields, encoded, held_message, value_field};
 use crate::error::JsonReadError;
-use crate::parts::Parts;
 use crate::passing::unknown_name;
 use crate::tags::{find_tag, is_tag, read_untagged, url_meant};
 use pb_json::well_known::{is_plain, well_known};

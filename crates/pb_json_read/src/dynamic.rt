@@ -11,10 +11,10 @@ ghost use Rattle.pb_json_read.specs.Forms.{ReadsAlone};
 ghost use Rattle.pb_json_read.specs.Reads.{DeepOf, DynamicOf, NestedOf};
 ghost use Rattle.pb_json_read.specs.Steps.{Made, ReadsSingle};
 
+use crate::construction::alone;
 use crate::context::Context;
 use crate::error::{JsonReadCause, JsonReadError, refused};
 use crate::forms::{field_for, is_sole};
-use crate::parts::alone;
 use crate::plain::read_plain;
 use pb_json::well_known::well_known;
 use pb_json_text::JsonValue;

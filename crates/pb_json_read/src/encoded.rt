@@ -12,13 +12,13 @@ ghost use Rattle.pb_json_read.specs.Faults.{out_of_memory};
 ghost use Rattle.pb_json_read.specs.Steps.{given};
 ghost use Rattle.pb_json_read.specs.WellKnown.{takes};
 
+use crate::construction::Parts;
 use crate::depth::within_depth;
 use crate::error::JsonReadError;
 use crate::forms::is_single;
-use crate::parts::Parts;
 use pb_encode::{EncodeError, encode};
 use pb_schema::{Field, Kind, MessageId, Pool, Shape};
-use pb_value::parts::take_field;
+use pb_value::bodies::take_field;
 use pb_value::{Body, Content, Value};
 use std::alloc::{AllocError, Global};
 

@@ -16,9 +16,9 @@ ghost use Rattle.pb_json_read.specs.Forms.{mask_message, time_message, time_part
 ghost use Rattle.pb_json_read.specs.Steps.{given, nothing, with_held};
 ghost use Rattle.pb_json_read.specs.WellKnown.{both_times, field_for, is_dynamic, is_sole, paths_field, string_meant, takes, texts, time_fields};
 
+use crate::construction::Parts;
 use crate::context::Context;
 use crate::error::JsonReadError;
-use crate::parts::Parts;
 use pb_json::well_known::WellKnown;
 use pb_json_scalars::{Time, read_duration, read_mask, read_timestamp};
 use pb_json_text::{JsonForm, JsonValue};

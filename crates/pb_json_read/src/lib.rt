@@ -3,6 +3,7 @@
 
 mod absent;
 mod anys;
+mod construction;
 mod contents;
 mod context;
 mod depth;
@@ -15,7 +16,6 @@ mod lists;
 mod maps;
 mod messages;
 mod names;
-mod parts;
 mod passing;
 mod plain;
 mod rules;

@@ -11,10 +11,10 @@ ghost use Rattle.pb_json_read.specs.Faults.{out_of_memory};
 ghost use Rattle.pb_json_read.specs.Reads.{ReadsEntries, ReadsMap, ReadsMemberEntry, ReadsMemberUnder};
 ghost use Rattle.pb_json_read.specs.Steps.{with_entry};
 
+use crate::construction::Entries;
 use crate::context::Context;
 use crate::error::{JsonReadCause, JsonReadError, refused};
 use crate::keys::read_key;
-use crate::parts::Entries;
 use pb_json_text::{JsonForm, JsonMember, JsonValue};
 use pb_schema::Kind;
 use pb_value::{MapKey, Value};

@@ -11,11 +11,11 @@ ghost use Rattle.pb_json_read.specs.Reads.{ReadsMember, ReadsMemberHeld, ReadsMe
 ghost use Rattle.pb_json_read.specs.Steps.{Made, nothing};
 
 use crate::absent::is_absent;
+use crate::construction::Parts;
 use crate::context::Context;
 use crate::error::{JsonReadCause, JsonReadError, refused};
 use crate::forms::{read_field_mask, read_point, read_span};
 use crate::names::field_meant;
-use crate::parts::Parts;
 use crate::passing::unknown_name;
 use pb_json::well_known::{WellKnown, well_known};
 use pb_json_text::{JsonForm, JsonMember, JsonValue};

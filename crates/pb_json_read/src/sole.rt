@@ -9,9 +9,9 @@ ghost use Rattle.pb_json_read.specs.Answers.{Answers};
 ghost use Rattle.pb_json_read.specs.Forms.{ReadsAlone};
 ghost use Rattle.pb_json_read.specs.Reads.{FlatOf, SoleOf};
 
+use crate::construction::alone;
 use crate::context::Context;
 use crate::error::{JsonReadCause, JsonReadError, refused};
-use crate::parts::alone;
 use crate::plain::read_plain_one;
 use pb_json_text::JsonValue;
 use pb_schema::{Field, Kind, MessageId, Shape};

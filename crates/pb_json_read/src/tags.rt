@@ -13,7 +13,7 @@ use pb_json::anys::type_meant;
 use pb_json_text::{JsonForm, JsonMember, JsonValue};
 use pb_schema::{MessageId, Pool};
 use pb_value::Body;
-use pb_value::parts::empty_body;
+use pb_value::bodies::empty_body;
 use std::alloc::Global;
 
 /// Whether a member of this name gives the type.

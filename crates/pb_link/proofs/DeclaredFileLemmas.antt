@@ -10,7 +10,7 @@ use Rattle.pb_schema.specs.Types.{FileView, Types}
 use Rattle.pb_schema.specs.Names.{AllDiffer}
 use Rattle.pb_schema.specs.Rules.{IsPool}
 use Rattle.pb_schema.proofs.NameTreeLemmas.{name_at-get}
-use Rattle.pb_decl.specs.Decls.{DeclaredFile}
+use Rattle.pb_declarations.specs.Decls.{DeclaredFile}
 use Rattle.pb_names.specs.Sees.{file_named, file_of, files_of}
 use Rattle.pb_link.specs.ToDecls.{file_name, declared_file, decls_of}
 

@@ -12,7 +12,7 @@ use Rattle.pb_schema.specs.Types.{FileView, Types}
 use Rattle.pb_schema.specs.Rules.{IsPool}
 use Rattle.pb_schema.proofs.NameSetLemmas.{All-at}
 use Rattle.pb_schema.proofs.NameTreeLemmas.{get-contains, get-name_at}
-use Rattle.pb_decl.specs.Decls.{DeclaredFile}
+use Rattle.pb_declarations.specs.Decls.{DeclaredFile}
 use Rattle.pb_rules.specs.declared.cause.LinkCause.TheVariants as cause
 use Rattle.pb_names.specs.Declarations.{Item, a_file, a_message, a_field, a_oneof, an_enum, a_value, a_service, a_method, Declaration, file_declared, files_declared}
 use Rattle.pb_rules.specs.Rules.{World, is_import_index, imports_are_there}

@@ -16,7 +16,7 @@ use Rattle.pb_schema.specs.declared.types.FileInfo.{FileInfo}
 use Rattle.pb_schema.specs.Names.{name_at}
 use Rattle.pb_schema.specs.View.{file_view}
 use Rattle.pb_schema.specs.Types.{FieldView, FileView, Types}
-use Rattle.pb_decl.specs.Decls.{DeclaredField, DeclaredMessage}
+use Rattle.pb_declarations.specs.Decls.{DeclaredField, DeclaredMessage}
 use Rattle.pb_link.specs.declared.declaring.nesting.Inside.{Inside}
 use Rattle.pb_link.specs.ToDecls.{shares_numbers, declared_field, declared_fields, is_optional_view, entry_of_field, entry_message}
 use Rattle.pb_link.specs.Nested.{Insides, inside_view, ChangesAt}

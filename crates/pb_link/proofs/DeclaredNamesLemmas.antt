@@ -10,7 +10,7 @@ use Rattle.pb_schema.specs.Names.{in_scope, entry_name, message_name, declared_b
 use Rattle.pb_schema.specs.Types.{FieldView, MessageView, EnumView, Types, is_proto2}
 use Rattle.pb_schema.specs.Rules.{IsPool}
 use Rattle.pb_schema.proofs.NameLemmas.{scope_of-names}
-use Rattle.pb_decl.specs.Decls.{MessageHead, message, DeclaredMessages, messages_of}
+use Rattle.pb_declarations.specs.Decls.{MessageHead, message, DeclaredMessages, messages_of}
 use Rattle.pb_names.specs.Declarations.{a_field, a_oneof, a_value, Declaration, is_named, is_synthetic, full_name, fields_of, oneofs_of, head_row, messages_declared, enum_declared, declarations}
 use Rattle.pb_rules.specs.Rules.{key_name, value_name}
 use Rattle.pb_link.specs.ToDecls.{numbered, declared_fields, declared_head, declared_enum, is_optional_view, synthetic_names, entry_of_field, decls_of}

@@ -5,7 +5,7 @@ use Rattle.std.specs.List.{AllByRecursion, flat_map, enumerate_from}
 use Rattle.std.proofs.lemmas.List.{length-map}
 use Rattle.pb_schema.specs.Types.{MessageView, EnumView, FileView, Types}
 use Rattle.pb_schema.specs.Rules.{IsPool}
-use Rattle.pb_decl.specs.Decls.{messages_of}
+use Rattle.pb_declarations.specs.Decls.{messages_of}
 use Rattle.pb_names.specs.Declarations.{a_file, Declaration, messages_declared, enums_declared, file_declared, files_declared, declarations}
 use Rattle.pb_rules.specs.Rules.{World, item_of}
 use Rattle.pb_rules.specs.Link.{IsWorldOf}

@@ -1,7 +1,7 @@
 -- What a place among the declarations of a pool's types holds: a message of the pool, an enum of it, or neither.
 use Rattle.std.specs.Prelude.{◌≡◌, ℕ, false, Some, slice_get}
 use Rattle.pb_schema.specs.Types.{MessageView, EnumView, Types}
-use Rattle.pb_decl.specs.Decls.{DeclaredMessages}
+use Rattle.pb_declarations.specs.Decls.{DeclaredMessages}
 use Rattle.pb_names.specs.Declarations.{a_message, an_enum, Declaration}
 use Rattle.pb_rules.specs.Rules.{World, is_enum, is_message_type}
 use Rattle.pb_link.specs.PoolOf.{message_index, enum_index, parent_type}

@@ -15,7 +15,7 @@ use Rattle.pb_schema.specs.Kinds.{is_packable}
 use Rattle.pb_schema.specs.Names.{AllDiffer, message_names, name_at}
 use Rattle.pb_schema.specs.Types.{FieldView, MessageView, EnumView, Types, is_proto2}
 use Rattle.pb_schema.specs.Rules.{IsPool, IsFieldNumber, MayBePacked}
-use Rattle.pb_decl.specs.Decls.{DeclaredField}
+use Rattle.pb_declarations.specs.Decls.{DeclaredField}
 use Rattle.pb_names.specs.Declarations.{Item, a_field, Declaration, head_of}
 use Rattle.pb_rules.specs.Rules.{World, is_field_number, is_packable_code}
 use Rattle.pb_names.specs.MarkRules.{oneof_of_field_is_right}

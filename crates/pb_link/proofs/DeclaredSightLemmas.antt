@@ -5,7 +5,7 @@ use Rattle.std.specs.List.{enumerate_from, cons_option}
 use Rattle.pb_schema.specs.Types.{FileView, Types}
 use Rattle.pb_schema.specs.Imports.{imports_of, Reaches, directly, further, IsSeen}
 use Rattle.pb_schema.specs.Rules.{IsPool}
-use Rattle.pb_decl.specs.Decls.{DeclaredFile}
+use Rattle.pb_declarations.specs.Decls.{DeclaredFile}
 use Rattle.pb_names.specs.Sees.{file_named, import_at, file_of, files_of, public_file_of, public_files_of, Sees, itself, imported, onward}
 use Rattle.pb_rules.specs.Rules.{World}
 use Rattle.pb_rules.specs.Link.{IsWorldOf}

@@ -7,7 +7,7 @@ use Rattle.std.proofs.lemmas.Bool.{false≢true}
 use Rattle.std.proofs.lemmas.Bool.Decides.{nat_tests}
 use Rattle.std.proofs.lemmas.Option.{none-some}
 use Rattle.std.proofs.lemmas.Slice.Eq.{bytes_eq-Decides}
-use Rattle.pb_decl.specs.Decls.{DeclaredField, MessageHead, DeclaredMessages}
+use Rattle.pb_declarations.specs.Decls.{DeclaredField, MessageHead, DeclaredMessages}
 use Rattle.pb_rules.specs.declared.cause.LinkCause.TheVariants as cause
 use Rattle.pb_names.specs.Declarations.{Item, a_message, a_field, Declaration, full_name}
 use Rattle.pb_names.specs.Lookup.{Found, found, not_found, not_visible, not_a_type, looked_up}

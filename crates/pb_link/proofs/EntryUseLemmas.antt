@@ -12,7 +12,7 @@ use Rattle.pb_schema.specs.Kinds.{is_of_proto2}
 use Rattle.pb_schema.specs.Names.{in_scope, entry_name}
 use Rattle.pb_schema.specs.Types.{FieldView, MessageView, Types}
 use Rattle.pb_schema.specs.Rules.{IsPool}
-use Rattle.pb_decl.specs.Decls.{no_messages}
+use Rattle.pb_declarations.specs.Decls.{no_messages}
 use Rattle.pb_names.specs.Declarations.{a_message, a_field, Declaration, is_named, simple_name}
 use Rattle.pb_rules.specs.Rules.{World, passes, item_of, is_not_entry, is_found_at, uses, is_one_map_field, has_one_use, is_key_code, is_part, is_value_part, is_no_entry, are_key_and_value, has_key_and_value, key_name, value_name, is_map_right}
 use Rattle.pb_rules.specs.Link.{IsWorldOf}

@@ -7,7 +7,7 @@ use Rattle.pb_schema.specs.declared.types.Shape.{Shape}
 use Rattle.pb_schema.specs.declared.types.Shape.TheVariants as shape
 use Rattle.pb_schema.specs.Types.{FieldView, MessageView, EnumView, FileView, Types}
 use Rattle.pb_schema.specs.Rules.{IsPool}
-use Rattle.pb_decl.specs.Decls.{DeclaredEnum, DeclaredMessage, messages_of}
+use Rattle.pb_declarations.specs.Decls.{DeclaredEnum, DeclaredMessage, messages_of}
 use Rattle.pb_link.specs.ToDecls.{is_parent, is_outermost, messages_in, enums_in, outermost_messages, outermost_enums, declared_enum, declared_message, declared_file, decls_of, entry_of_field}
 use Rattle.pb_link.specs.Heads.{enums_in as enums_declared_in, enums_among, declared_enums}
 use Rattle.pb_link.proofs.EnumWholeLemmas.{own_enums, outer_enums, enums_under, file_enums, in_files, whole_enums}

@@ -1,12 +1,12 @@
 -- Entries of maps that lose their mark, message by message.
 use Rattle.std.proofs.Common.{◌≡◌, ◌<◌, ◌≤◌, ◌+◌, ℕ, zero, suc, List, [], ◌∷◌, ◌++◌, length, take, drop, get_or, set, map, refl, sym, ap, ◌∙◌, subst, arith, rules, Bool, true, false, max, not, if◌then◌else◌, ◌&&◌, ◌||◌, string_bytes, Vec, Global}
 use Rattle.std.specs.List.{list_any, AllByRecursion}
-use Rattle.pb_decl.specs.Decls.{DeclaredMessage, message, DeclaredMessages, no_messages, more_messages, messages_of, DeclaredFile}
-use Rattle.pb_decl.specs.Nests.{nests, all_nest}
-use Rattle.pb_decl.specs.View.{field_view, enum_view, message_view, file_view}
-use Rattle.pb_decl.specs.declared.decl.MessageDecl.{MessageDecl, out-MessageDecl, roll-MessageDecl, the_lemmas as message_lemmas}
-use Rattle.pb_decl.specs.declared.decl.FileDecl.{FileDecl}
-use Rattle.pb_decl.proofs.ViewLemmas.{message_view-parts}
+use Rattle.pb_declarations.specs.Decls.{DeclaredMessage, message, DeclaredMessages, no_messages, more_messages, messages_of, DeclaredFile}
+use Rattle.pb_declarations.specs.Nests.{nests, all_nest}
+use Rattle.pb_declarations.specs.View.{field_view, enum_view, message_view, file_view}
+use Rattle.pb_declarations.specs.declared.decl.MessageDecl.{MessageDecl, out-MessageDecl, roll-MessageDecl, the_lemmas as message_lemmas}
+use Rattle.pb_declarations.specs.declared.decl.FileDecl.{FileDecl}
+use Rattle.pb_declarations.proofs.ViewLemmas.{message_view-parts}
 use Rattle.pb_names.specs.Declarations.{head_of}
 use Rattle.pb_rules.proofs.ExactLemmas.{one_world}
 use Rattle.pb_link.specs.Resolved.{resolved_files}

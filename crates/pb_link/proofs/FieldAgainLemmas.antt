@@ -12,7 +12,7 @@ use Rattle.pb_schema.specs.Kinds.{is_key_kind}
 use Rattle.pb_schema.specs.Names.{message_names, enum_names, name_at}
 use Rattle.pb_schema.specs.Types.{FieldView, MessageView, EnumView, Types, is_proto2}
 use Rattle.pb_schema.specs.Rules.{IsPool, NamesType, TypeIsSeen, HasKeyKind, MayBePacked, MayBeImplicit, MayStandIn, EnumIsRight}
-use Rattle.pb_decl.specs.Decls.{DeclaredField}
+use Rattle.pb_declarations.specs.Decls.{DeclaredField}
 use Rattle.pb_names.specs.Declarations.{full_name, head_of}
 use Rattle.pb_names.specs.Lookup.{looked_up}
 use Rattle.pb_rules.specs.Rules.{World, is_two, is_group, place_found, value_name}

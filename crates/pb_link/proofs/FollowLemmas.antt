@@ -7,7 +7,7 @@ use Rattle.std.proofs.lemmas.Option.{none-some}
 use Rattle.pb_schema.specs.Types.{MessageView, EnumView}
 use Rattle.pb_schema.specs.Nesting.{parent_of, IsWithin, itself, deeper}
 use Rattle.pb_schema.specs.Rules.{FollowsParent, EnumsStandInOrder, StandsBefore, EndsNoLater}
-use Rattle.pb_decl.specs.Decls.{DeclaredEnum, MessageHead, DeclaredMessages, DeclaredFile}
+use Rattle.pb_declarations.specs.Decls.{DeclaredEnum, MessageHead, DeclaredMessages, DeclaredFile}
 use Rattle.pb_names.specs.Declarations.{Item, a_file, a_message, a_field, a_oneof, an_enum, a_value, a_service, a_method, Declaration}
 use Rattle.pb_rules.specs.Rules.{World, item_of, is_message, is_message_type}
 use Rattle.pb_rules.specs.Link.{NothingFails, IsWorldOf}

@@ -7,7 +7,7 @@ use Rattle.pb_schema.specs.declared.types.Shape.{Shape}
 use Rattle.pb_schema.specs.declared.types.Shape.TheVariants as shape
 use Rattle.pb_schema.specs.Types.{FieldView, MessageView, FileView, Types}
 use Rattle.pb_schema.specs.Rules.{IsPool}
-use Rattle.pb_decl.specs.Decls.{MessageHead, DeclaredMessage, messages_of}
+use Rattle.pb_declarations.specs.Decls.{MessageHead, DeclaredMessage, messages_of}
 use Rattle.pb_link.specs.ToDecls.{numbered, messages_in, outermost_messages, declared_head, declared_message, declared_file, decls_of, entry_of_field}
 use Rattle.pb_link.specs.Heads.{heads_in, heads_among, declared_heads}
 use Rattle.pb_link.proofs.FlatLemmas.{under}

@@ -8,7 +8,7 @@ use Rattle.pb_schema.specs.Names.{is_word, message_name, declared_names, scope_o
 use Rattle.pb_schema.specs.Types.{MessageView, FileView, Types}
 use Rattle.pb_schema.specs.Rules.{IsPool, IsFree, MessageIsOfWords}
 use Rattle.pb_schema.proofs.NameTreeLemmas.{in_scope-some}
-use Rattle.pb_decl.specs.Decls.{DeclaredField, MessageHead, DeclaredMessages, DeclaredFile}
+use Rattle.pb_declarations.specs.Decls.{DeclaredField, MessageHead, DeclaredMessages, DeclaredFile}
 use Rattle.pb_names.specs.Declarations.{Item, a_file, a_message, a_field, a_oneof, an_enum, a_value, a_service, a_method, Declaration, is_named, full_name}
 use Rattle.pb_rules.specs.Rules.{World}
 use Rattle.pb_rules.specs.Link.{IsWorldOf}

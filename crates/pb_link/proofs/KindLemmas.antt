@@ -12,9 +12,9 @@ use Rattle.pb_schema.specs.Kinds.{is_key_kind}
 use Rattle.pb_schema.specs.Imports.{IsSeen}
 use Rattle.pb_schema.specs.Types.{FieldView, MessageView, EnumView, Types}
 use Rattle.pb_schema.specs.Rules.{KindsNameTypes, NamesType, TypesAreSeen, TypeIsSeen, KeysAreKeyKinds, HasKeyKind}
-use Rattle.pb_decl.specs.declared.decl.TypeCode.{TypeCode}
-use Rattle.pb_decl.specs.declared.decl.TypeCode.TheVariants as code
-use Rattle.pb_decl.specs.Decls.{DeclaredField, DeclaredEnum, MessageHead, DeclaredMessages, DeclaredFile}
+use Rattle.pb_declarations.specs.declared.decl.TypeCode.{TypeCode}
+use Rattle.pb_declarations.specs.declared.decl.TypeCode.TheVariants as code
+use Rattle.pb_declarations.specs.Decls.{DeclaredField, DeclaredEnum, MessageHead, DeclaredMessages, DeclaredFile}
 use Rattle.pb_names.specs.Sees.{files_of}
 use Rattle.pb_names.specs.Declarations.{Item, a_file, a_message, a_field, an_enum, Declaration, full_name, is_type, has_name}
 use Rattle.pb_names.specs.Lookup.{Found, found, not_found, not_visible, not_a_type, looked_up, type_found, type_named, decided_name, unless_found, every_file, is_no_type}

@@ -3,7 +3,7 @@ use Rattle.std.proofs.Common.{◌≡◌, List, map, length, sym, ap, ◌∙◌, 
 use Rattle.std.specs.Prelude.{Result, Ok, Err, IfOk, IfErr, MatchResult}
 use Rattle.std.proofs.lemmas.List.{length-map}
 use Rattle.pb_schema.specs.Types.{Types}
-use Rattle.pb_decl.specs.Decls.{DeclaredFile}
+use Rattle.pb_declarations.specs.Decls.{DeclaredFile}
 use Rattle.pb_rules.specs.declared.error.LinkError.{LinkError}
 use Rattle.pb_rules.specs.declared.error.LinkError.TheVariants.{Memory}
 use Rattle.pb_names.specs.View.{declaration_view, type_names_view}

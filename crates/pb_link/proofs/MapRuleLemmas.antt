@@ -15,7 +15,7 @@ use Rattle.pb_schema.specs.Kinds.{is_key_kind, is_of_proto2}
 use Rattle.pb_schema.specs.Names.{in_scope, entry_name}
 use Rattle.pb_schema.specs.Types.{FieldView, MessageView, Types}
 use Rattle.pb_schema.specs.Rules.{IsPool, NamesType, TypeIsSeen, HasKeyKind, MayBeValue}
-use Rattle.pb_decl.specs.Decls.{MessageHead, no_messages}
+use Rattle.pb_declarations.specs.Decls.{MessageHead, no_messages}
 use Rattle.pb_names.specs.Declarations.{a_message, a_field, Declaration}
 use Rattle.pb_names.specs.Lookup.{found, looked_up}
 use Rattle.pb_rules.specs.Rules.{World, lookups, is_entry, is_map_field, gives_name, is_used_rightly}

@@ -10,7 +10,7 @@ use Rattle.pb_schema.specs.declared.types.Kind.{Kind}
 use Rattle.pb_schema.specs.declared.types.Kind.TheVariants as kind
 use Rattle.pb_schema.specs.Names.{in_scope}
 use Rattle.pb_schema.specs.Rules.{FileNamesDiffer, NumbersDiffer, FieldNumbersDiffer, ImplicitAreScalars, MayBeImplicit}
-use Rattle.pb_decl.specs.Decls.{DeclaredField, MessageHead, DeclaredMessages, DeclaredFile}
+use Rattle.pb_declarations.specs.Decls.{DeclaredField, MessageHead, DeclaredMessages, DeclaredFile}
 use Rattle.pb_rules.specs.declared.cause.LinkCause.TheVariants as cause
 use Rattle.pb_names.specs.Declarations.{a_file, a_message, a_field, Declaration, files_declared, file_declared}
 use Rattle.pb_names.specs.Sees.{file_of, files_of}

@@ -15,7 +15,7 @@ use Rattle.pb_schema.specs.declared.types.Kind.TheVariants as kind
 use Rattle.pb_schema.specs.Types.{MessageView, EnumView}
 use Rattle.pb_schema.specs.Names.{in_scope, entry_name, names_of_field, names_in_message, scope_of, declared_by_message, declared_by_enum, declared_names, packages_of}
 use Rattle.pb_schema.specs.Rules.{PackagesAreFree, IsFree, FullNamesDiffer}
-use Rattle.pb_decl.specs.Decls.{DeclaredField, DeclaredEnum, MessageHead, DeclaredMessages, DeclaredFile}
+use Rattle.pb_declarations.specs.Decls.{DeclaredField, DeclaredEnum, MessageHead, DeclaredMessages, DeclaredFile}
 use Rattle.pb_rules.specs.declared.cause.LinkCause.TheVariants as cause
 use Rattle.pb_names.specs.Sees.{file_of, files_of}
 use Rattle.pb_names.specs.Declarations.{Item, a_file, a_message, a_field, a_oneof, an_enum, a_value, a_service, a_method, Declaration, full_name, has_name, is_named, is_synthetic}

@@ -7,7 +7,7 @@ use Rattle.pb_schema.specs.declared.types.Shape.TheVariants as shape
 use Rattle.pb_schema.specs.Names.{is_word, in_scope, camel_case, package_of, name_at, entry_name, names_of_field, names_of_enum, message_name, message_names, scope_of, declared_by_message, declared_by_enum, declared_names, AllDiffer}
 use Rattle.pb_schema.specs.Types.{MessageView, FileView, Types}
 use Rattle.pb_schema.specs.Rules.{IsPool, AreWords, MessageIsOfWords, EnumIsOfWords, IsFree}
-use Rattle.pb_sets.proofs.ContainsLemmas.{Contains-first, Contains-later}
+use Rattle.pb_graphs.proofs.ContainsLemmas.{Contains-first, Contains-later}
 use Rattle.pb_schema.proofs.NameLemmas.{scope_of-names}
 use Rattle.pb_schema.proofs.NameTreeLemmas.{HasNoDot, same_scope, word_has_no_dot, in_scope-some}
 use Rattle.pb_names.specs.Declarations.{declarations}

@@ -11,7 +11,7 @@ use Rattle.pb_schema.specs.Types.{MessageView, EnumView, FileView, Types}
 use Rattle.pb_schema.specs.Nesting.{parent_of}
 use Rattle.pb_schema.specs.Rules.{IsPool}
 use Rattle.pb_schema.proofs.OrderLemmas.{parents_before}
-use Rattle.pb_decl.specs.Decls.{DeclaredMessage, DeclaredFile, message, messages_of}
+use Rattle.pb_declarations.specs.Decls.{DeclaredMessage, DeclaredFile, message, messages_of}
 use Rattle.pb_link.specs.declared.declaring.nesting.Inside.{Inside}
 use Rattle.pb_link.specs.ToDecls.{is_parent, is_outermost, numbered, messages_in, outermost_messages, declared_enum, declared_head, declared_message, declared_file, decls_of, entry_of_field}
 use Rattle.pb_link.specs.Nested.{Insides, inside_view, with_message, with_enum, ChangesAt, PlacesAt, whole_message, inside_message, inside_file, AreInside, AreNested}

@@ -11,7 +11,7 @@ use Rattle.pb_schema.specs.declared.types.Kind.TheVariants as kind
 use Rattle.pb_schema.specs.Names.{in_scope}
 use Rattle.pb_schema.specs.Types.{FieldView}
 use Rattle.pb_schema.specs.Rules.{MembersNameOneofs, NamesOneof, OneofsHaveMembers, HasMember, IsMemberOf, EachOneofHasMember}
-use Rattle.pb_decl.specs.Decls.{DeclaredField, MessageHead, DeclaredMessages, DeclaredFile}
+use Rattle.pb_declarations.specs.Decls.{DeclaredField, MessageHead, DeclaredMessages, DeclaredFile}
 use Rattle.pb_rules.specs.declared.cause.LinkCause.TheVariants as cause
 use Rattle.pb_names.specs.Declarations.{Item, a_file, a_message, a_field, a_oneof, is_member_of, is_synthetic}
 use Rattle.pb_rules.specs.Rules.{World, gives_name, is_two}

@@ -5,16 +5,16 @@ use Rattle.std.specs.List.{enumerate_from}
 use Rattle.std.specs.Str.{bytes_eq}
 use Rattle.std.proofs.lemmas.List.{drop_more, take_more, take_all, map-append}
 use Rattle.pb_schema.specs.declared.types.Kind.{Kind}
-use Rattle.pb_decl.specs.Decls.{DeclaredFile, MessageHead}
-use Rattle.pb_decl.specs.View.{field_view}
-use Rattle.pb_sets.specs.Reach.{next_of}
-use Rattle.pb_decl.specs.declared.decl.FieldDecl.{FieldDecl}
+use Rattle.pb_declarations.specs.Decls.{DeclaredFile, MessageHead}
+use Rattle.pb_declarations.specs.View.{field_view}
+use Rattle.pb_graphs.specs.Reach.{next_of}
+use Rattle.pb_declarations.specs.declared.decl.FieldDecl.{FieldDecl}
 use Rattle.pb_names.specs.Sees.{file_of}
 use Rattle.pb_rules.specs.Rules.{key_name}
 use Rattle.pb_names.specs.Declarations.{is_synthetic}
-use Rattle.pb_link.specs.Parts.{real_from, kind_of_number, kind_read, place_named, parts_read}
+use Rattle.pb_link.specs.Pools.{real_from, kind_of_number, kind_read, place_named, parts_read}
 use Rattle.pb_names.specs.declared.found.TypeNames.{TypeNames}
-use Rattle.pb_link.specs.declared.parts.tables.Tables.{Tables}
+use Rattle.pb_link.specs.declared.pools.tables.Tables.{Tables}
 
 -- the elements from an index on, as they are seen
 pub rest_more : {X Y : Type 0} (view : X → Y) (xs : List X) (i : ℕ) (x : X) → i < length xs → x ≡ get_or xs i x → map view (drop i xs) ≡ view x ∷ map view (drop (i + 1) xs)

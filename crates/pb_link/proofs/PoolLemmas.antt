@@ -1,7 +1,7 @@
 -- Linked declarations are a pool.
 use Rattle.std.proofs.Common.{List}
 use Rattle.pb_schema.specs.Rules.{FileRules, FieldRules}
-use Rattle.pb_decl.specs.Decls.{DeclaredFile}
+use Rattle.pb_declarations.specs.Decls.{DeclaredFile}
 use Rattle.pb_names.specs.Sees.{files_of}
 use Rattle.pb_rules.specs.Rules.{World}
 use Rattle.pb_rules.specs.Link.{NothingFails, IsWorldOf}

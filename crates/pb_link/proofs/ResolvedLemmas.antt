@@ -4,7 +4,7 @@ use Rattle.std.specs.Prelude.{option_and_then}
 use Rattle.std.specs.List.{enumerate_from}
 use Rattle.std.proofs.lemmas.List.{map-append}
 use Rattle.pb_schema.specs.Names.{in_scope}
-use Rattle.pb_decl.specs.Decls.{DeclaredField, DeclaredEnum, MessageHead, DeclaredMessage, message, DeclaredMessages, no_messages, more_messages, DeclaredMethod, DeclaredService, DeclaredFile}
+use Rattle.pb_declarations.specs.Decls.{DeclaredField, DeclaredEnum, MessageHead, DeclaredMessage, message, DeclaredMessages, no_messages, more_messages, DeclaredMethod, DeclaredService, DeclaredFile}
 use Rattle.pb_names.specs.Declarations.{Declaration, a_field, a_oneof, a_value, fields_of, oneofs_of, enum_declared, enums_declared, head_row, message_declared, messages_declared, methods_of, service_declared, services_declared, file_declared, files_declared, declarations}
 use Rattle.pb_names.specs.Lookup.{Found}
 use Rattle.pb_rules.specs.Rules.{World, lookups, lookups_if}

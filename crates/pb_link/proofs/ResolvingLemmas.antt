@@ -1,7 +1,7 @@
 -- The loops that resolve declarations: each of some in turn, by what is coming.
 use Rattle.std.proofs.Common.{◌≡◌, ℕ, ◌+◌, ◌<◌, ◌≤◌, List, [], ◌∷◌, ◌++◌, length, map, drop, get_or, refl, sym, ap, ◌∙◌, append_assoc, append-nil}
 use Rattle.std.proofs.lemmas.List.{map-append, drop_all}
-use Rattle.pb_decl.specs.Decls.{DeclaredEnum, DeclaredField, MessageHead, DeclaredMessage, message, more_messages, messages_of}
+use Rattle.pb_declarations.specs.Decls.{DeclaredEnum, DeclaredField, MessageHead, DeclaredMessage, message, more_messages, messages_of}
 use Rattle.pb_names.specs.Declarations.{Declaration, head_of}
 use Rattle.pb_names.specs.Lookup.{Found}
 use Rattle.pb_link.specs.Resolving.{each_read, each_behind, behind_one, behind_enum, behind_head, behind_message, behind_messages, head_read, message_read, messages_read}

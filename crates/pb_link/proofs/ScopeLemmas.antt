@@ -6,7 +6,7 @@ use Rattle.std.proofs.lemmas.Option.{none-some}
 use Rattle.pb_schema.specs.Types.{FileView, MessageView}
 use Rattle.pb_schema.specs.Nesting.{parent_of}
 use Rattle.pb_schema.specs.Names.{in_scope, package_of, name_in, file_at, scope_within}
-use Rattle.pb_decl.specs.Decls.{MessageHead, DeclaredMessages, DeclaredFile}
+use Rattle.pb_declarations.specs.Decls.{MessageHead, DeclaredMessages, DeclaredFile}
 use Rattle.pb_names.specs.Sees.{file_of, files_of}
 use Rattle.pb_names.specs.Declarations.{Item, a_file, a_message, a_field, a_oneof, an_enum, a_value, a_service, a_method, Declaration}
 use Rattle.pb_rules.specs.Rules.{World, item_of, is_message, is_message_type}

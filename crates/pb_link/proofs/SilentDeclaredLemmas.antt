@@ -12,7 +12,7 @@ use Rattle.pb_schema.specs.Names.{is_word, entry_name, names_of_field, message_n
 use Rattle.pb_schema.specs.Nesting.{parent_of, itself, deeper}
 use Rattle.pb_schema.specs.Types.{FieldView, MessageView, EnumView, FileView, Types, is_proto2, proto2_of}
 use Rattle.pb_schema.specs.Rules.{IsPool, AreWords, MessageIsOfWords, EnumIsOfWords, HasKeyKind, MayBeValue, MayStandIn}
-use Rattle.pb_decl.specs.Decls.{DeclaredMessage, messages_of}
+use Rattle.pb_declarations.specs.Decls.{DeclaredMessage, messages_of}
 use Rattle.pb_descr.specs.Causes.{set_causes}
 use Rattle.pb_descr.specs.Writing.{set_body}
 use Rattle.pb_descr.proofs.SilentLemmas.{IsNamed, has_type, IsSilentField, IsSilentEnum, IsSilentHead, IsSilentMessage, AreSilentMessages, IsSilentFile, silent_set}

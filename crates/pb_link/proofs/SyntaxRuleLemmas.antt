@@ -11,7 +11,7 @@ use Rattle.pb_schema.specs.Kinds.{message_of_kind, is_of_proto2}
 use Rattle.pb_schema.specs.Names.{in_scope, entry_name}
 use Rattle.pb_schema.specs.Types.{FieldView, MessageView, Types, is_proto2}
 use Rattle.pb_schema.specs.Rules.{IsPool, BeginsRight}
-use Rattle.pb_decl.specs.Decls.{DeclaredField, MessageHead}
+use Rattle.pb_declarations.specs.Decls.{DeclaredField, MessageHead}
 use Rattle.pb_rules.specs.declared.cause.LinkCause.TheVariants as cause
 use Rattle.pb_names.specs.Declarations.{Declaration}
 use Rattle.pb_rules.specs.Rules.{World, is_two, is_marked_optional, begins_right, is_enum, is_open, is_enum_right, passes_declared, lookups, key_name, value_name}

@@ -10,9 +10,9 @@ use Rattle.pb_schema.specs.Imports.{IsSeen}
 use Rattle.pb_schema.specs.Names.{message_names, enum_names, name_at}
 use Rattle.pb_schema.specs.Types.{MessageView, EnumView, Types, is_proto2}
 use Rattle.pb_schema.specs.Rules.{IsPool, NamesType, TypeIsSeen, EnumIsRight}
-use Rattle.pb_decl.specs.declared.decl.TypeCode.{TypeCode}
-use Rattle.pb_decl.specs.declared.decl.TypeCode.TheVariants as code
-use Rattle.pb_decl.specs.Decls.{DeclaredField, MessageHead}
+use Rattle.pb_declarations.specs.declared.decl.TypeCode.{TypeCode}
+use Rattle.pb_declarations.specs.declared.decl.TypeCode.TheVariants as code
+use Rattle.pb_declarations.specs.Decls.{DeclaredField, MessageHead}
 use Rattle.pb_rules.specs.declared.cause.LinkCause.TheVariants as cause
 use Rattle.pb_names.specs.Declarations.{Item, a_field, Declaration}
 use Rattle.pb_names.specs.Lookup.{found, not_found, not_visible, not_a_type, looked_up}

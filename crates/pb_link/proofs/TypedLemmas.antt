@@ -4,8 +4,8 @@ use Rattle.std.specs.Prelude.{is_some, slice_get}
 use Rattle.std.specs.List.{AllByRecursion, enumerate_from}
 use Rattle.std.proofs.lemmas.Bool.{false≢true}
 use Rattle.pb_schema.specs.Names.{in_scope}
-use Rattle.pb_decl.specs.declared.decl.TypeCode.{TypeCode}
-use Rattle.pb_decl.specs.Decls.{DeclaredField, MessageHead, DeclaredMessage, message, DeclaredMessages, no_messages, more_messages, DeclaredMethod, DeclaredService, DeclaredFile}
+use Rattle.pb_declarations.specs.declared.decl.TypeCode.{TypeCode}
+use Rattle.pb_declarations.specs.Decls.{DeclaredField, MessageHead, DeclaredMessage, message, DeclaredMessages, no_messages, more_messages, DeclaredMethod, DeclaredService, DeclaredFile}
 use Rattle.pb_rules.specs.declared.cause.LinkCause.TheVariants as cause
 use Rattle.pb_names.specs.Declarations.{Item, a_file, a_message, a_field, a_oneof, an_enum, a_value, a_service, a_method, Declaration, is_type, fields_of, oneofs_of, enums_declared, head_row, message_declared, messages_declared, methods_of, service_declared, services_declared, file_declared, files_declared, declarations}
 use Rattle.pb_names.specs.Lookup.{Found, found, not_found, not_visible, not_a_type, looked_up}

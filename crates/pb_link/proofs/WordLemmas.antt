@@ -9,7 +9,7 @@ use Rattle.pb_schema.specs.declared.types.Kind.{Kind}
 use Rattle.pb_schema.specs.declared.types.Kind.TheVariants as kind
 use Rattle.pb_schema.specs.Names.{in_scope, is_word, entry_name, names_of_field}
 use Rattle.pb_schema.specs.Rules.{AreWords, MessageIsOfWords, MessageNamesAreWords, EnumIsOfWords, EnumNamesAreWords}
-use Rattle.pb_decl.specs.Decls.{DeclaredField, MessageHead, DeclaredMessages, DeclaredFile}
+use Rattle.pb_declarations.specs.Decls.{DeclaredField, MessageHead, DeclaredMessages, DeclaredFile}
 use Rattle.pb_rules.specs.declared.cause.LinkCause.TheVariants as cause
 use Rattle.pb_names.specs.Declarations.{Item, a_message, a_field, a_oneof, an_enum, a_value, is_synthetic}
 use Rattle.pb_rules.specs.Rules.{World, name_is_right, gives_name, is_two}

@@ -2,7 +2,7 @@
 -- messages are left out.
 use Rattle.std.specs.Prelude.{List, [], ◌∷◌, ◌++◌, if◌then◌else◌}
 use Rattle.std.specs.List.{flat_map}
-use Rattle.pb_decl.specs.Decls.{DeclaredEnum, MessageHead, DeclaredMessage, message, DeclaredMessages, no_messages, more_messages, DeclaredFile}
+use Rattle.pb_declarations.specs.Decls.{DeclaredEnum, MessageHead, DeclaredMessage, message, DeclaredMessages, no_messages, more_messages, DeclaredFile}
 
 abbrev pub unless_entry : MessageHead → List MessageHead
 unless_entry head = if head.is_entry then [] else head ∷ []

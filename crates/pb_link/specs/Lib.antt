@@ -5,7 +5,7 @@ pub mod Declarable
 pub mod Nested
 pub mod Heads
 pub mod Law
-pub mod Parts
+pub mod Pools
 pub mod Resolved
 pub mod Resolving
 pub mod EnumMaps

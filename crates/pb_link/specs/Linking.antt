@@ -1,7 +1,7 @@
 -- What linking answers: the types that files make where every rule holds.
 use Rattle.std.specs.Prelude.{◌≡◌, List, map}
 use Rattle.pb_schema.specs.Types.{Types}
-use Rattle.pb_decl.specs.Decls.{DeclaredFile}
+use Rattle.pb_declarations.specs.Decls.{DeclaredFile}
 use Rattle.pb_names.specs.Declarations.{Declaration}
 use Rattle.pb_names.specs.Lookup.{Found}
 use Rattle.pb_rules.specs.Rules.{World, lookups}

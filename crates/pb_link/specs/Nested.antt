@@ -2,8 +2,8 @@
 use Rattle.std.specs.Prelude.{◌≡◌, None, ◌<◌, ℕ, List, [], ◌∷◌, ◌++◌, length, map, filter, drop, take}
 use Rattle.std.specs.Prelude.{reverse, ◌==◌, ◌&&◌, if◌then◌else◌, Option, Some, option_map, slice_get}
 use Rattle.pb_schema.specs.Types.{MessageView, EnumView, Types}
-use Rattle.pb_decl.specs.Decls.{DeclaredEnum, DeclaredMessage}
-use Rattle.pb_decl.specs.View.{enum_view, message_view}
+use Rattle.pb_declarations.specs.Decls.{DeclaredEnum, DeclaredMessage}
+use Rattle.pb_declarations.specs.View.{enum_view, message_view}
 use Rattle.pb_link.specs.declared.declaring.nesting.Inside.{Inside}
 use Rattle.pb_link.specs.ToDecls.{is_parent, is_outermost, numbered, declared_enum, declared_message}
 

@@ -11,9 +11,9 @@ use Rattle.pb_schema.specs.declared.types.Shape.TheVariants as shape
 use Rattle.pb_schema.specs.Kinds.{is_packable}
 use Rattle.pb_schema.specs.Names.{in_scope}
 use Rattle.pb_schema.specs.Types.{FieldView, MessageView, EnumView, Types}
-use Rattle.pb_decl.specs.declared.decl.TypeCode.{TypeCode}
-use Rattle.pb_decl.specs.declared.decl.TypeCode.TheVariants as code
-use Rattle.pb_decl.specs.Decls.{DeclaredField, MessageHead, DeclaredFile}
+use Rattle.pb_declarations.specs.declared.decl.TypeCode.{TypeCode}
+use Rattle.pb_declarations.specs.declared.decl.TypeCode.TheVariants as code
+use Rattle.pb_declarations.specs.Decls.{DeclaredField, MessageHead, DeclaredFile}
 use Rattle.pb_names.specs.Sees.{files_of}
 use Rattle.pb_names.specs.Declarations.{Item, a_file, a_message, a_field, a_oneof, an_enum, a_value, a_service, a_method, Declaration, full_name, is_synthetic}
 use Rattle.pb_names.specs.Lookup.{looked_up}

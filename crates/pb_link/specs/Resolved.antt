@@ -3,10 +3,10 @@
 use Rattle.std.specs.Prelude.{◌≡◌, ⊤, ℕ, List, ◌∷◌, map, true, Option, Some, None, IfSome, is_some, option_map, option_and_then, slice_get}
 use Rattle.std.specs.List.{AllByRecursion, enumerate_from}
 use Rattle.pb_schema.specs.Names.{in_scope}
-use Rattle.pb_decl.specs.declared.decl.TypeCode.{TypeCode}
-use Rattle.pb_decl.specs.declared.decl.TypeCode.TheVariants as code
-use Rattle.pb_decl.specs.Decls.{DeclaredField, MessageHead, DeclaredMessage, message, DeclaredMessages, no_messages}
-use Rattle.pb_decl.specs.Decls.{more_messages, DeclaredMethod, DeclaredService, DeclaredFile}
+use Rattle.pb_declarations.specs.declared.decl.TypeCode.{TypeCode}
+use Rattle.pb_declarations.specs.declared.decl.TypeCode.TheVariants as code
+use Rattle.pb_declarations.specs.Decls.{DeclaredField, MessageHead, DeclaredMessage, message, DeclaredMessages, no_messages}
+use Rattle.pb_declarations.specs.Decls.{more_messages, DeclaredMethod, DeclaredService, DeclaredFile}
 use Rattle.pb_names.specs.Declarations.{Item, a_file, a_message, a_field, a_oneof, an_enum, a_value, a_service, a_method, Declaration, full_name, is_type}
 use Rattle.pb_names.specs.Lookup.{Found, looked_up}
 use Rattle.pb_rules.specs.Rules.{World, place_found}

@@ -1,8 +1,8 @@
 -- How declarations are resolved from the types found for all type names, in declaration order, and what of that list is left after each.
 -- Words for the contracts of private functions; no public contract rests on them.
 use Rattle.std.specs.Prelude.{List, [], ◌∷◌, length, drop, map, Option, None}
-use Rattle.pb_decl.specs.Decls.{DeclaredField, DeclaredEnum, MessageHead, DeclaredMessage, message, DeclaredMessages}
-use Rattle.pb_decl.specs.Decls.{no_messages, more_messages, DeclaredMethod, DeclaredService, DeclaredFile}
+use Rattle.pb_declarations.specs.Decls.{DeclaredField, DeclaredEnum, MessageHead, DeclaredMessage, message, DeclaredMessages}
+use Rattle.pb_declarations.specs.Decls.{no_messages, more_messages, DeclaredMethod, DeclaredService, DeclaredFile}
 use Rattle.pb_names.specs.Declarations.{Declaration}
 use Rattle.pb_names.specs.Lookup.{Found}
 use Rattle.pb_link.specs.Resolved.{type_at, field_of_type, method_of_types}

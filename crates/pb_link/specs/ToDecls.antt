@@ -10,9 +10,9 @@ use Rattle.pb_schema.specs.declared.types.Shape.TheVariants as shape
 use Rattle.pb_schema.specs.Kinds.{is_packable, message_of_kind}
 use Rattle.pb_schema.specs.Names.{in_scope, entry_name, message_names, enum_names, name_at}
 use Rattle.pb_schema.specs.Types.{FieldView, MessageView, EnumView, FileView, Types, is_proto2}
-use Rattle.pb_decl.specs.declared.decl.TypeCode.{TypeCode}
-use Rattle.pb_decl.specs.declared.decl.TypeCode.TheVariants as code
-use Rattle.pb_decl.specs.Decls.{DeclaredField, DeclaredEnum, MessageHead, DeclaredMessage, message, no_messages, messages_of, DeclaredFile}
+use Rattle.pb_declarations.specs.declared.decl.TypeCode.{TypeCode}
+use Rattle.pb_declarations.specs.declared.decl.TypeCode.TheVariants as code
+use Rattle.pb_declarations.specs.Decls.{DeclaredField, DeclaredEnum, MessageHead, DeclaredMessage, message, no_messages, messages_of, DeclaredFile}
 use Rattle.pb_rules.specs.Rules.{key_name, value_name}
 
 -- KINDS

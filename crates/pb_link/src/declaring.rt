@@ -13,7 +13,7 @@ ghost use Rattle.pb_schema.specs.Types.{FileView};
 ghost use Rattle.pb_schema.specs.View.{file_view as view_of_file};
 ghost use Rattle.pb_schema.specs.Names.{name_at};
 ghost use Rattle.pb_schema.specs.Rules.{IsPool};
-ghost use Rattle.pb_decl.specs.View.{file_view};
+ghost use Rattle.pb_declarations.specs.View.{file_view};
 ghost use Rattle.pb_descr.specs.Causes.{set_causes};
 ghost use Rattle.pb_descr.specs.Sets.{IsSetOf, set_bytes};
 ghost use Rattle.pb_descr.specs.Writable.{IsWithinLimits};
@@ -24,7 +24,7 @@ ghost use Rattle.pb_link.specs.ToDecls.{numbered, declared_file, decls_of};
 ghost use Rattle.pb_link.specs.Nested.{inside_view, inside_file};
 
 use crate::declaring::nesting::{Inside, nested};
-use pb_decl::FileDecl;
+use pb_declarations::FileDecl;
 use pb_descr::laws::{set_back, writable};
 use pb_rules::LinkError;
 use pb_schema::{FileInfo, Pool};

@@ -28,7 +28,7 @@
 mod declaring;
 pub mod laws;
 mod linking;
-mod parts;
+mod pools;
 mod resolving;
 
 pub use declaring::to_decls;

@@ -10,15 +10,15 @@ mod types;
 mod upcoming;
 
 ghost use Rattle.std.specs.Prelude.{◌≡◌, ℕ, List, map, IfOk, IfErr, IsErrAnd, MatchResult};
-ghost use Rattle.pb_decl.specs.Decls.{DeclaredFile};
-ghost use Rattle.pb_decl.specs.View.{file_view};
+ghost use Rattle.pb_declarations.specs.Decls.{DeclaredFile};
+ghost use Rattle.pb_declarations.specs.View.{file_view};
 ghost use Rattle.pb_rules.specs.declared.cause.LinkCause.{LinkCause as CauseValue};
 ghost use Rattle.pb_rules.specs.declared.error.LinkError.TheVariants.{Memory};
 ghost use Rattle.pb_rules.specs.Faults.{LinkFault, IsUnlinked, TellsLinkFault};
 ghost use Rattle.pb_link.specs.Resolved.{Resolves};
 
 use crate::resolving::files::resolve_files;
-use pb_decl::FileDecl;
+use pb_declarations::FileDecl;
 use pb_rules::LinkError;
 use pb_rules::judged::judge_files;
 use std::alloc::Global;

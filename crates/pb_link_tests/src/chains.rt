@@ -1,7 +1,7 @@
 //! Long chains of files, each of which imports the next one publicly.
 
-use super::parts::put_record;
 use super::rows::answers;
+use super::set_bytes::put_record;
 use std::alloc::{AllocError, Global};
 use std::test::Fail;
 

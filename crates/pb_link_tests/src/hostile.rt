@@ -1,8 +1,8 @@
 //! Sets made to hurt: messages that nest deep, names of many words, many files, and many fields, ranges and reserved names in one message.
 
 use super::declarations::is_message;
-use super::parts::{put_number, put_record, with_record};
 use super::rows::{answers, files_answer};
+use super::set_bytes::{put_number, put_record, with_record};
 use pb_descr::{FieldDecl, FileDecl, MessageDecl, write_set};
 use pb_link::{LinkError, link, to_decls};
 use pb_schema::Pool;

@@ -14,10 +14,10 @@ mod hostile;
 #[cfg(test)]
 mod kinds;
 #[cfg(test)]
-mod parts;
-#[cfg(test)]
 mod resolved;
 #[cfg(test)]
 mod rows;
+#[cfg(test)]
+mod set_bytes;
 #[cfg(test)]
 mod sources;

@@ -4,7 +4,7 @@ use Rattle.std.specs.List.{All}
 use Rattle.std.proofs.lemmas.List.Elements.{All-contains}
 use Rattle.pb_names.specs.declared.components.Progress.{Progress}
 use Rattle.pb_names.specs.declared.components.Progress.TheVariants.{Unseen, Open, Numbered}
-use Rattle.pb_sets.specs.Reach.{next_of, Reached, begun, further}
+use Rattle.pb_graphs.specs.Reach.{next_of, Reached, begun, further}
 use Rattle.pb_names.specs.Components.{weight, unseen_work, number_of, NeverRise}
 
 not_numbered : Unseen ≡ Numbered → ⊥

@@ -15,14 +15,14 @@ use Rattle.pb_schema.specs.Types.{FileView}
 use Rattle.pb_schema.specs.Imports.{imports_of, Reaches, directly, further}
 use Rattle.pb_schema.proofs.LookupLemmas.{get_viewed}
 use Rattle.pb_schema.proofs.ImportLemmas.{next_files, reaches_from, reached_by}
-use Rattle.pb_decl.specs.Decls.{DeclaredFile}
-use Rattle.pb_decl.specs.View.{file_view}
-use Rattle.pb_decl.specs.declared.decl.FileDecl.{FileDecl}
+use Rattle.pb_declarations.specs.Decls.{DeclaredFile}
+use Rattle.pb_declarations.specs.View.{file_view}
+use Rattle.pb_declarations.specs.declared.decl.FileDecl.{FileDecl}
 use Rattle.pb_names.specs.Sees.{file_named, import_at, file_of, files_of, public_file_of, public_files_of, Sees, itself, imported, onward}
-use Rattle.pb_sets.specs.declared.flat.FlatGraph.{FlatGraph}
-use Rattle.pb_sets.specs.Flat.{lists_of, open_list, IsLaid, Grows}
-use Rattle.pb_sets.proofs.FlatLemmas.{grows_append}
-use Rattle.pb_sets.specs.Reach.{next_of, Reached, begun, further as led, IsGraph, is_marked}
+use Rattle.pb_graphs.specs.declared.flat.FlatGraph.{FlatGraph}
+use Rattle.pb_graphs.specs.Flat.{lists_of, open_list, IsLaid, Grows}
+use Rattle.pb_graphs.proofs.FlatLemmas.{grows_append}
+use Rattle.pb_graphs.specs.Reach.{next_of, Reached, begun, further as led, IsGraph, is_marked}
 use Rattle.pb_names.specs.Graphs.{target_at, joined_names, AreImports, LeadToFiles, KnowsSight, sees_by, is_file}
 use Rattle.pb_names.specs.declared.imports.Imports.{Imports}
 use Rattle.pb_names.specs.declared.sight.Sight.{Sight}

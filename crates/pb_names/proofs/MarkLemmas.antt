@@ -8,7 +8,7 @@ use Rattle.std.proofs.lemmas.List.Folds.{list_any_more}
 use Rattle.std.proofs.lemmas.Cmp.{int_eq_equiv}
 use Rattle.std.specs.List.{list_any, list_all}
 use Rattle.pb_names.specs.declared.marks.Marks.{Marks}
-use Rattle.pb_decl.specs.Decls.{DeclaredMessage, message}
+use Rattle.pb_declarations.specs.Decls.{DeclaredMessage, message}
 use Rattle.pb_names.specs.Declarations.{head_of, item_of_message}
 use Rattle.pb_names.specs.Marks.{marks_of}
 use Rattle.pb_names.specs.MarkRules.{is_message_range, message_ranges_overlap, none_overlap}

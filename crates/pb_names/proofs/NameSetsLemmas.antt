@@ -8,16 +8,16 @@ use Rattle.std.proofs.lemmas.Bool.{false≢true, cases_eq}
 use Rattle.std.proofs.lemmas.Slice.Eq.{bytes_eq-Decides}
 use Rattle.std.proofs.lemmas.List.{take_more}
 use Rattle.std.proofs.lemmas.List.Elements.{Contains-push, Contains-append_left, Contains-append_right, Contains-append_cases}
-use Rattle.pb_sets.proofs.ContainsLemmas.{Contains-none, Contains-one}
+use Rattle.pb_graphs.proofs.ContainsLemmas.{Contains-none, Contains-one}
 use Rattle.pb_schema.specs.Names.{packages_of, fronts_from, with_front, in_scope}
-use Rattle.pb_decl.specs.Decls.{DeclaredEnum, MessageHead, DeclaredMessage, message, DeclaredMessages, no_messages, more_messages, DeclaredMethod, DeclaredService, DeclaredFile}
+use Rattle.pb_declarations.specs.Decls.{DeclaredEnum, MessageHead, DeclaredMessage, message, DeclaredMessages, no_messages, more_messages, DeclaredMethod, DeclaredService, DeclaredFile}
 use Rattle.pb_names.specs.Declarations.{a_field, a_oneof, a_value, a_method, Declaration, fields_of, oneofs_of, values_of, enum_declared, enums_declared, head_row, message_declared, messages_declared, service_declared, services_declared, file_declared, files_declared, declarations}
 use Rattle.pb_names.specs.Lookup.{Seen, every_file, makes_package, is_package_name}
-use Rattle.pb_sets.specs.Reach.{is_marked, IsListed}
+use Rattle.pb_graphs.specs.Reach.{is_marked, IsListed}
 use Rattle.pb_names.specs.Graphs.{is_file, sees_by}
 use Rattle.pb_names.specs.NameSets.{is_in_set, AddsNames, packages_at, own_index, ArePackagesAt, AddsPackages, ArePackages}
-use Rattle.pb_sets.specs.declared.name_set.NameSet.{NameSet}
-use Rattle.pb_sets.specs.NameSets.{names_in, with_name}
+use Rattle.pb_graphs.specs.declared.name_set.NameSet.{NameSet}
+use Rattle.pb_graphs.specs.NameSets.{names_in, with_name}
 use Rattle.pb_names.specs.declared.sight.Sight.{Sight}
 use Rattle.pb_names.proofs.AnyLemmas.{or_cases, or_first, or_second, and_cases, and_both, any_there, there_any, same_test}
 

@@ -3,7 +3,7 @@ use Rattle.std.proofs.Common.{◌≡◌, ℕ, ◌+◌, ◌<◌, List, [], ◌∷
 use Rattle.std.specs.List.{enumerate_from}
 use Rattle.std.proofs.lemmas.List.{append_assoc, append-nil, take_more, map-append, length-map, length-take}
 use Rattle.pb_schema.specs.Names.{in_scope}
-use Rattle.pb_decl.specs.Decls.{DeclaredEnum, DeclaredMessage, message, DeclaredMessages, messages_of, DeclaredService, DeclaredFile}
+use Rattle.pb_declarations.specs.Decls.{DeclaredEnum, DeclaredMessage, message, DeclaredMessages, messages_of, DeclaredService, DeclaredFile}
 use Rattle.pb_names.specs.Declarations.{Declaration, head_of, head_row, enum_declared, enums_declared, message_declared, messages_declared, service_declared, services_declared, file_declared, files_declared}
 
 enumerate-append : {X : Type 0} (n : ℕ) (xs : List X) (x : X) → enumerate_from n (xs ++ x ∷ []) ≡ enumerate_from n xs ++ (n + length xs, x) ∷ []

@@ -1,10 +1,10 @@
 -- The parts of what a message stands for.
 use Rattle.std.proofs.Common.{◌≡◌, map, sym, ap}
 use Rattle.std.specs.Prelude.{string_bytes}
-use Rattle.pb_decl.specs.Decls.{messages_of}
-use Rattle.pb_decl.specs.View.{field_view, enum_view, message_view}
-use Rattle.pb_decl.specs.declared.decl.MessageDecl.{MessageDecl, out-MessageDecl}
-use Rattle.pb_decl.proofs.ViewLemmas.{message_view-parts}
+use Rattle.pb_declarations.specs.Decls.{messages_of}
+use Rattle.pb_declarations.specs.View.{field_view, enum_view, message_view}
+use Rattle.pb_declarations.specs.declared.decl.MessageDecl.{MessageDecl, out-MessageDecl}
+use Rattle.pb_declarations.proofs.ViewLemmas.{message_view-parts}
 use Rattle.pb_names.specs.Declarations.{head_of}
 use Rattle.pb_names.proofs.RowLemmas.{inner_of}
 

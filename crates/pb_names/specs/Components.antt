@@ -1,7 +1,7 @@
 -- Components of a graph by numbers: what a walk has to do, and what its numbers are looked at for.
 use Rattle.std.specs.Prelude.{◌≡◌, ◌<◌, ◌≤◌, ◌+◌, ℕ, List, [], ◌∷◌, length, All, vec_len}
 use Rattle.std.specs.List.{slice_index_or}
-use Rattle.pb_sets.specs.Reach.{next_of}
+use Rattle.pb_graphs.specs.Reach.{next_of}
 use Rattle.pb_names.specs.declared.components.Progress.{Progress}
 use Rattle.pb_names.specs.declared.components.Progress.TheVariants.{Unseen, Open, Numbered}
 use Rattle.pb_names.specs.declared.components.Walk.{Walk}

@@ -1,10 +1,10 @@
 -- Imports of files as graphs over their indexes.
 use Rattle.std.specs.Prelude.{◌≡◌, ◌↔◌, ℕ, ℤ, pos, negsuc, List, map, length, Bool, false, ◌==◌, ◌||◌, Option, Some, None, IsTrue, option_and_then, slice_get, vec_len}
-use Rattle.pb_decl.specs.Decls.{DeclaredFile}
+use Rattle.pb_declarations.specs.Decls.{DeclaredFile}
 use Rattle.std.specs.List.{enumerate_from, flat_map}
 use Rattle.pb_names.specs.Sees.{file_named, files_of, public_files_of}
-use Rattle.pb_sets.specs.Flat.{lists_of}
-use Rattle.pb_sets.specs.Reach.{next_of, Reached, IsGraph, is_marked, IsListed}
+use Rattle.pb_graphs.specs.Flat.{lists_of}
+use Rattle.pb_graphs.specs.Reach.{next_of, Reached, IsGraph, is_marked, IsListed}
 use Rattle.pb_names.specs.declared.imports.Imports.{Imports}
 use Rattle.pb_names.specs.declared.sight.Sight.{Sight}
 

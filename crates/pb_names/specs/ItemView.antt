@@ -1,6 +1,6 @@
 -- What is declared, as the row holds it.
 use Rattle.std.specs.Prelude.{string_bytes}
-use Rattle.pb_decl.specs.View.{field_view, numbered_view, enum_view, message_view, method_view, service_view, file_view}
+use Rattle.pb_declarations.specs.View.{field_view, numbered_view, enum_view, message_view, method_view, service_view, file_view}
 use Rattle.pb_names.specs.Declarations.{Item, a_file, a_field, a_oneof, an_enum, a_value, a_service, a_method, head_of, item_of_message}
 use Rattle.pb_names.specs.declared.item.Item.{Item as ItemValue}
 use Rattle.pb_names.specs.declared.item.Item.TheVariants as item

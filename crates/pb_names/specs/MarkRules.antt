@@ -5,7 +5,7 @@ use Rattle.std.specs.List.{list_any, list_all, enumerate_from}
 use Rattle.std.specs.Option.{option_map_or}
 use Rattle.std.specs.Ordering.{int_eq}
 use Rattle.std.specs.Str.{bytes_eq}
-use Rattle.pb_decl.specs.Decls.{DeclaredField, MessageHead}
+use Rattle.pb_declarations.specs.Decls.{DeclaredField, MessageHead}
 use Rattle.pb_names.specs.Declarations.{Item, a_file, a_message, a_field, a_oneof, an_enum, a_value, a_service, a_method, is_member_of, is_synthetic}
 
 -- NUMBERS

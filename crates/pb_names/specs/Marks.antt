@@ -1,7 +1,7 @@
 -- What the rules come to that rest on what is declared beside a declaration.
 use Rattle.std.specs.Prelude.{List, map}
 use Rattle.std.specs.List.{enumerate_from}
-use Rattle.pb_decl.specs.Decls.{DeclaredEnum, MessageHead}
+use Rattle.pb_declarations.specs.Decls.{DeclaredEnum, MessageHead}
 use Rattle.pb_names.specs.declared.marks.Marks.{Marks}
 use Rattle.pb_names.specs.Declarations.{Item, a_field, a_oneof, a_value, is_named}
 use Rattle.pb_names.specs.MarkRules.{number_is_free, is_not_reserved, is_oneof_right, ranges_are_right}

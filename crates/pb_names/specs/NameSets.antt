@@ -3,11 +3,11 @@ use Rattle.std.specs.Prelude.{◌≡◌, ℕ, List, [], ◌∷◌, ◌++◌, Boo
 use Rattle.std.specs.List.{list_any}
 use Rattle.std.specs.Str.{bytes_eq}
 use Rattle.pb_schema.specs.Names.{packages_of}
-use Rattle.pb_decl.specs.Decls.{DeclaredFile}
+use Rattle.pb_declarations.specs.Decls.{DeclaredFile}
 use Rattle.pb_names.specs.Declarations.{Declaration}
 use Rattle.pb_names.specs.Lookup.{Seen, is_package_name}
-use Rattle.pb_sets.specs.declared.name_set.NameSet.{NameSet}
-use Rattle.pb_sets.specs.NameSets.{names_in}
+use Rattle.pb_graphs.specs.declared.name_set.NameSet.{NameSet}
+use Rattle.pb_graphs.specs.NameSets.{names_in}
 
 abbrev pub is_in_set : NameSet → List ℕ → Bool
 is_in_set p name = list_any (bytes_eq name) (names_in p)

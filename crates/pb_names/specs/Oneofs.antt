@@ -1,7 +1,7 @@
 -- The oneofs of a message, by index.
 use Rattle.std.specs.Prelude.{◌≡◌, ℕ, ℤ, pos, negsuc, ◌<◌, nat_lt, List, length, Bool, false, ◌&&◌, if◌then◌else◌, Option, Some, None}
 use Rattle.std.specs.List.{slice_index_or, list_any}
-use Rattle.pb_decl.specs.Decls.{DeclaredField, MessageHead}
+use Rattle.pb_declarations.specs.Decls.{DeclaredField, MessageHead}
 use Rattle.pb_names.specs.Declarations.{is_member_of}
 use Rattle.pb_names.specs.MarkRules.{how_many}
 use Rattle.pb_names.specs.declared.marks.oneofs.Oneofs.{Oneofs}

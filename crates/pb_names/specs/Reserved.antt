@@ -3,7 +3,7 @@ use Rattle.std.specs.Prelude.{◌≡◌, ℕ, ◌≤◌, ◌<◌, ℤ, pos, ◌+
 use Rattle.std.specs.Int.{w32}
 use Rattle.std.specs.List.{list_any, list_all, slice_index_or}
 use Rattle.std.specs.Str.{bytes_eq}
-use Rattle.pb_decl.specs.Decls.{DeclaredEnum, MessageHead}
+use Rattle.pb_declarations.specs.Decls.{DeclaredEnum, MessageHead}
 use Rattle.pb_names.specs.NameSets.{is_in_set}
 use Rattle.pb_names.specs.MarkRules.{is_in_message_range, message_ranges_overlap, none_overlap}
 use Rattle.pb_names.specs.declared.marks.reserved.Reserved.{Reserved}

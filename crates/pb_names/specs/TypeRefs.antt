@@ -1,6 +1,6 @@
 -- The type names and files in declarations.
 use Rattle.std.specs.Prelude.{ℕ, List, [], ◌∷◌, option_to_list, string_bytes, Option, Some, None}
-use Rattle.pb_decl.specs.Decls.{DeclaredFile}
+use Rattle.pb_declarations.specs.Decls.{DeclaredFile}
 use Rattle.pb_names.specs.Declarations.{Item, a_file, a_message, a_field, a_oneof, an_enum, a_value, a_service, a_method}
 use Rattle.pb_names.specs.declared.type_refs.TypeRefs.{TypeRefs}
 use Rattle.pb_names.specs.declared.type_refs.TypeRefs.TheVariants as refs

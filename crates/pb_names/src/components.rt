@@ -2,12 +2,12 @@
 
 ghost use Rattle.std.specs.Prelude.{◌≡◌, ◌<◌, ◌≤◌, ◌↔◌, ℕ, List, IsTrue, IfOk, OnOk, All, vec_len};
 ghost use Rattle.std.specs.List.{slice_index_or};
-ghost use Rattle.pb_sets.specs.Flat.{lists_of};
+ghost use Rattle.pb_graphs.specs.Flat.{lists_of};
 ghost use Rattle.pb_names.specs.Components.{Fits, work_left, number_of, NeverRise};
 ghost use Rattle.pb_names.specs.declared.components.Progress.TheVariants.{Numbered};
 
-use pb_sets::flat::FlatGraph;
-use pb_sets::reach::Graph;
+use pb_graphs::flat::FlatGraph;
+use pb_graphs::reach::Graph;
 use std::alloc::{AllocError, Global};
 
 /// How far the walk is with an index.

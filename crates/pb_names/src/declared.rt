@@ -3,8 +3,8 @@
 ghost use Rattle.std.specs.Prelude.{◌≡◌, [], ◌∷◌, length, map, IfOk, OnOk, string_bytes};
 ghost use Rattle.std.specs.List.{enumerate_from};
 ghost use Rattle.pb_schema.specs.Names.{in_scope};
-ghost use Rattle.pb_decl.specs.Decls.{messages_of};
-ghost use Rattle.pb_decl.specs.View.{field_view, message_view, numbered_view, enum_view, method_view, service_view, file_view};
+ghost use Rattle.pb_declarations.specs.Decls.{messages_of};
+ghost use Rattle.pb_declarations.specs.View.{field_view, message_view, numbered_view, enum_view, method_view, service_view, file_view};
 ghost use Rattle.pb_names.specs.Declarations.{a_field, a_oneof, a_value, fields_of, oneofs_of};
 ghost use Rattle.pb_names.specs.Declarations.{values_of, enum_declared, enums_declared, head_row, message_declared};
 ghost use Rattle.pb_names.specs.Declarations.{messages_declared, methods_of, service_declared, services_declared, file_declared};
@@ -19,7 +19,7 @@ use crate::marks::reserved::Reserved;
 use crate::marks::{
     Marks, enum_marks, field_marks, message_marks, oneof_marks, plain, value_marks,
 };
-use pb_decl::{EnumDecl, FieldDecl, FileDecl, MessageDecl, MethodDecl, ServiceDecl};
+use pb_declarations::{EnumDecl, FieldDecl, FileDecl, MessageDecl, MethodDecl, ServiceDecl};
 use std::alloc::{AllocError, Global};
 
 /// The full name of a name in a scope.

@@ -3,16 +3,16 @@
 ghost use Rattle.std.specs.Prelude.{◌≡◌, ◌&&◌, ℕ, List, length, false, not, map, string_bytes};
 ghost use Rattle.std.specs.Prelude.{filter_map, option_and_then, option_to_list, slice_get, IfOk, OnOk};
 ghost use Rattle.std.specs.List.{slice_index_or};
-ghost use Rattle.pb_decl.specs.Decls.{DeclaredFile};
-ghost use Rattle.pb_decl.specs.View.{file_view};
-ghost use Rattle.pb_sets.specs.Flat.{IsLaid, Grows};
+ghost use Rattle.pb_declarations.specs.Decls.{DeclaredFile};
+ghost use Rattle.pb_declarations.specs.View.{file_view};
+ghost use Rattle.pb_graphs.specs.Flat.{IsLaid, Grows};
 ghost use Rattle.pb_names.specs.Sees.{file_named, file_of, public_file_of};
 ghost use Rattle.pb_names.specs.Firsts.{first_at};
 ghost use Rattle.pb_names.specs.Graphs.{target_at, is_file, first_marks, joined_names, AreImports, AreFirst, LeadToFiles};
 
 use crate::firsts::Firsts;
-use pb_decl::FileDecl;
-use pb_sets::flat::FlatGraph;
+use pb_declarations::FileDecl;
+use pb_graphs::flat::FlatGraph;
 use std::alloc::{AllocError, Global};
 
 /// The imports of each file, and those that are public. An import whose file is not there is left out.

@@ -1,6 +1,6 @@
 //! The entries of the list of declarations.
 
-use pb_decl::{EnumDecl, FieldDecl, FileDecl, MessageDecl, MethodDecl, ServiceDecl};
+use pb_declarations::{EnumDecl, FieldDecl, FileDecl, MessageDecl, MethodDecl, ServiceDecl};
 
 /// What is declared, with what is declared around it where a rule needs that.
 #[derive(Clone, Copy)]

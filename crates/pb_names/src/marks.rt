@@ -8,8 +8,8 @@ ghost use Rattle.std.specs.Prelude.{◌≡◌, ◌<◌, List, take, length, true
 ghost use Rattle.std.specs.List.{list_any, enumerate_from};
 ghost use Rattle.std.specs.Ordering.{int_eq, int_cmp};
 ghost use Rattle.std.specs.BTreeSet.{contains};
-ghost use Rattle.pb_decl.specs.Decls.{DeclaredEnum, MessageHead};
-ghost use Rattle.pb_decl.specs.View.{field_view, numbered_view, enum_view, message_view};
+ghost use Rattle.pb_declarations.specs.Decls.{DeclaredEnum, MessageHead};
+ghost use Rattle.pb_declarations.specs.View.{field_view, numbered_view, enum_view, message_view};
 ghost use Rattle.pb_names.specs.Declarations.{head_of, item_of_message, an_enum, a_field, a_oneof, a_value, is_synthetic};
 ghost use Rattle.pb_names.specs.MarkRules.{is_not_reserved, number_is_free};
 ghost use Rattle.pb_names.specs.Oneofs.{AreOneofsOf};
@@ -19,7 +19,7 @@ ghost use Rattle.pb_names.specs.Marks.{marks_of, field_marks, oneof_marks, value
 use crate::marks::oneofs::{Oneofs, counted, is_member_right, is_oneof_right};
 use crate::marks::ranges::{enum_ranges_are_right, message_ranges_are_right};
 use crate::marks::reserved::Reserved;
-use pb_decl::{EnumDecl, FieldDecl, MessageDecl};
+use pb_declarations::{EnumDecl, FieldDecl, MessageDecl};
 use std::alloc::{AllocError, Global};
 use std::collections::BTreeSet;
 

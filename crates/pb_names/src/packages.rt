@@ -2,16 +2,16 @@
 
 ghost use Rattle.std.specs.Prelude.{◌<◌, ◌==◌, [], map, take, length, slice_index, IfOk, OnOk};
 ghost use Rattle.pb_schema.specs.Names.{packages_of, with_front};
-ghost use Rattle.pb_decl.specs.View.{file_view};
+ghost use Rattle.pb_declarations.specs.View.{file_view};
 ghost use Rattle.pb_names.specs.Declarations.{declarations};
 ghost use Rattle.pb_names.specs.Lookup.{every_file};
 ghost use Rattle.pb_names.specs.Graphs.{sees_by};
-ghost use Rattle.pb_sets.specs.Reach.{IsListed};
+ghost use Rattle.pb_graphs.specs.Reach.{IsListed};
 ghost use Rattle.pb_names.specs.NameSets.{AddsNames, packages_at, own_index, ArePackagesAt, AddsPackages, ArePackages};
 
 use crate::sight::Sight;
-use pb_decl::FileDecl;
-use pb_sets::name_set::NameSet;
+use pb_declarations::FileDecl;
+use pb_graphs::name_set::NameSet;
 use std::alloc::{AllocError, Global};
 
 /// Adds the prefix of a name that ends before an index, if the byte there is a dot.

@@ -15,8 +15,8 @@ use crate::found::Found;
 use crate::places::{Places, Want};
 use crate::scopes::{first_part, has_dot, outer};
 use crate::sight::Sight;
+use pb_graphs::name_set::NameSet;
 use pb_schema::scoped;
-use pb_sets::name_set::NameSet;
 use std::alloc::{AllocError, Global};
 
 /// The declarations by name, and what the file that was looked at last sees.

@@ -4,7 +4,7 @@ ghost use Rattle.std.specs.Prelude.{◌≡◌, Some, IfOk, OnOk};
 ghost use Rattle.pb_names.specs.Graphs.{LeadToFiles, KnowsSight, sees_by};
 
 use crate::imports::Imports;
-use pb_sets::reach::{Graph, Reach};
+use pb_graphs::reach::{Graph, Reach};
 use std::alloc::{AllocError, Global};
 
 /// What the file that was looked at last sees.

@@ -1,12 +1,12 @@
 //! The type names and files in declarations, as they are written.
 
 ghost use Rattle.std.specs.Prelude.{◌≡◌, option_map};
-ghost use Rattle.pb_decl.specs.View.{file_view};
+ghost use Rattle.pb_declarations.specs.View.{file_view};
 ghost use Rattle.pb_names.specs.ItemView.{item_view};
 ghost use Rattle.pb_names.specs.TypeRefs.{names_in, refs_view, file_in};
 
 use crate::item::Item;
-use pb_decl::FileDecl;
+use pb_declarations::FileDecl;
 
 /// The type names of a declaration.
 #[derive(Clone, Copy)]

@@ -13,7 +13,7 @@ use crate::element::{judged, put_element, remove_element as take_element};
 use crate::error::ChangeError;
 use crate::removing::remove_entry;
 use crate::walk::into_well_formed;
-use pb_value::parts::{content_within, entry_within, from_well_formed, value_within};
+use pb_value::bodies::{content_within, entry_within, from_well_formed, value_within};
 use pb_value::{Body, Content, DynamicMessage, MapKey, Value, ValueError};
 use std::alloc::Global;
 use std::mem;

@@ -14,7 +14,7 @@ use crate::change::Change;
 use crate::error::ChangeError;
 use crate::step::PlaceStep;
 use crate::walk::{Pending, Walk, into_well_formed};
-use pb_value::parts::{MAX_LEVELS, from_well_formed};
+use pb_value::bodies::{MAX_LEVELS, from_well_formed};
 use pb_value::{Content, DynamicMessage, MapKey, Value};
 use std::mem;
 

@@ -12,7 +12,7 @@ ghost use Rattle.pb_place.specs.Replaced.{in_field, in_list};
 
 use crate::walk::into_well_formed;
 use pb_schema::{MessageId, Pool};
-use pb_value::parts::take_field;
+use pb_value::bodies::take_field;
 use pb_value::{Body, Content, DynamicMessage, Value, ValueError};
 use std::alloc::Global;
 use std::mem;

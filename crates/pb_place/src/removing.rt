@@ -8,7 +8,7 @@ ghost use Rattle.pb_value.specs.View.{body_view, content_view, key_view, value_v
 ghost use Rattle.pb_place.specs.Removed.{drop_entry, holds_empty_map, is_empty_map, remove_at};
 ghost use Rattle.pb_place.specs.Replaced.{in_field, in_map};
 
-use pb_value::parts::take_field;
+use pb_value::bodies::take_field;
 use pb_value::{Body, Content, MapKey, Value};
 
 /// Takes the value under a key out of a content that is a map.

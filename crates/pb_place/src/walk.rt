@@ -11,7 +11,7 @@ use crate::change::Change;
 use crate::error::ChangeError;
 use crate::step::PlaceStep;
 use pb_schema::{MessageId, Pool};
-use pb_value::parts::{empty_body, from_well_formed};
+use pb_value::bodies::{empty_body, from_well_formed};
 use pb_value::{Body, Content, DynamicMessage, MapKey, Value};
 use std::alloc::Global;
 use std::collections::BTreeMap;

@@ -5,7 +5,7 @@ use super::schema::Schema;
 use pb_place::{
     is_set, key_at, len_at, message_at, numbers_at, scalar_at, unknown_at, which_oneof_at,
 };
-use pb_samples::{body_of, key_of, value_of};
+use pb_test_types::{body_of, key_of, value_of};
 use pb_value::DynamicMessage;
 use std::alloc::Global;
 use std::test::Fail;

@@ -6,7 +6,7 @@ use pb_place::{
     ChangeError, PlaceStep, clear_at, drop_unknown_at, insert_at, push_at, remove_at,
     remove_element_at, set_at, set_element_at,
 };
-use pb_samples::{body_of, content_of, key_of, value_of};
+use pb_test_types::{body_of, content_of, key_of, value_of};
 use pb_value::{DynamicMessage, Value, ValueError};
 use std::alloc::Global;
 use std::test::Fail;

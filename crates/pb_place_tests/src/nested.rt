@@ -2,7 +2,7 @@
 
 use super::schema::Schema;
 use pb_place::{PlaceStep, clear_at, drop_unknown_at, insert_at, push_at, remove_at, set_at};
-use pb_samples::{body_of, content_of, key_of, value_of};
+use pb_test_types::{body_of, content_of, key_of, value_of};
 use pb_value::{Body, Content, DynamicMessage, MapKey, Value};
 use std::alloc::Global;
 use std::test::Fail;

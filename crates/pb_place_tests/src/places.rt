@@ -1,7 +1,7 @@
 //! Places, read from words: `f3` the field 3, `#0` the index 0, `ku9` the key `u9`.
 
 use pb_place::PlaceStep;
-use pb_samples::key_of;
+use pb_test_types::key_of;
 use std::alloc::Global;
 use std::test::Fail;
 

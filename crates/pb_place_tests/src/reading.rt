@@ -3,7 +3,7 @@
 use super::places::place_of;
 use super::schema::Schema;
 use pb_place::{Found, at};
-use pb_samples::{body_of, content_of, value_of};
+use pb_test_types::{body_of, content_of, value_of};
 use pb_value::{Content, DynamicMessage};
 use std::alloc::Global;
 use std::test::Fail;

@@ -2,9 +2,9 @@
 use Rattle.std.proofs.Common.{◌≡◌, ℕ, zero, suc, ◌≤◌, List, map, length, false, not, refl, sym, arith, Option, Some, None}
 use Rattle.std.specs.Prelude.{position}
 use Rattle.std.proofs.lemmas.Bool.{false≢true}
-use Rattle.pb_decl.specs.Decls.{DeclaredFile}
-use Rattle.pb_sets.specs.Flat.{lists_of}
-use Rattle.pb_sets.specs.Cycles.{IsAcyclic}
+use Rattle.pb_declarations.specs.Decls.{DeclaredFile}
+use Rattle.pb_graphs.specs.Flat.{lists_of}
+use Rattle.pb_graphs.specs.Cycles.{IsAcyclic}
 use Rattle.pb_names.specs.Graphs.{AreImports}
 use Rattle.pb_names.specs.declared.imports.Imports.{Imports}
 use Rattle.pb_names.specs.Declarations.{Declaration}

@@ -4,9 +4,9 @@ use Rattle.std.specs.Prelude.{slice_get}
 use Rattle.std.proofs.lemmas.List.{length-map}
 use Rattle.std.proofs.lemmas.Option.{none-some, slice_get_within}
 use Rattle.pb_schema.proofs.LookupLemmas.{get_viewed}
-use Rattle.pb_decl.specs.declared.decl.FileDecl.{FileDecl}
-use Rattle.pb_decl.specs.View.{file_view}
-use Rattle.pb_decl.specs.Decls.{DeclaredFile}
+use Rattle.pb_declarations.specs.declared.decl.FileDecl.{FileDecl}
+use Rattle.pb_declarations.specs.View.{file_view}
+use Rattle.pb_declarations.specs.Decls.{DeclaredFile}
 use Rattle.pb_rules.specs.declared.cause.LinkCause.{LinkCause}
 use Rattle.pb_names.specs.declared.declaration.Declaration.{Declaration as DeclarationValue}
 use Rattle.pb_rules.specs.declared.error.LinkError.{LinkError}

@@ -4,10 +4,10 @@ use Rattle.std.specs.Prelude.{if◌then◌else◌}
 use Rattle.std.proofs.lemmas.List.{drop_more}
 use Rattle.std.specs.List.{list_all}
 use Rattle.std.specs.Prelude.{is_some, option_map}
-use Rattle.pb_decl.specs.declared.decl.TypeCode.TheVariants as code
+use Rattle.pb_declarations.specs.declared.decl.TypeCode.TheVariants as code
 use Rattle.pb_rules.specs.declared.cause.LinkCause.{LinkCause}
 use Rattle.pb_names.specs.Declarations.{Item}
-use Rattle.pb_decl.specs.Decls.{DeclaredField, DeclaredEnum, MessageHead, DeclaredMessages, DeclaredFile, DeclaredService, DeclaredMethod}
+use Rattle.pb_declarations.specs.Decls.{DeclaredField, DeclaredEnum, MessageHead, DeclaredMessages, DeclaredFile, DeclaredService, DeclaredMethod}
 use Rattle.pb_rules.specs.declared.cause.LinkCause.TheVariants as cause
 use Rattle.pb_names.specs.Declarations.{Declaration, a_file, a_message, a_field, a_oneof, an_enum, a_value, a_service, a_method}
 use Rattle.pb_names.specs.Lookup.{not_found, not_visible, not_a_type}

@@ -8,11 +8,11 @@ use Rattle.std.proofs.lemmas.List.{length-map}
 use Rattle.std.proofs.lemmas.Option.{slice_get_within, get_or_from_slice_get}
 use Rattle.std.proofs.lemmas.Bool.Decides.{nat_tests}
 use Rattle.pb_schema.specs.Names.{in_scope}
-use Rattle.pb_decl.specs.Decls.{DeclaredField, MessageHead, DeclaredMessage, message, DeclaredMessages, DeclaredFile, messages_of, inner_of}
-use Rattle.pb_decl.specs.View.{message_view, field_view, enum_view}
-use Rattle.pb_decl.specs.declared.decl.MessageDecl.{MessageDecl, out-MessageDecl}
+use Rattle.pb_declarations.specs.Decls.{DeclaredField, MessageHead, DeclaredMessage, message, DeclaredMessages, DeclaredFile, messages_of, inner_of}
+use Rattle.pb_declarations.specs.View.{message_view, field_view, enum_view}
+use Rattle.pb_declarations.specs.declared.decl.MessageDecl.{MessageDecl, out-MessageDecl}
 use Rattle.std.specs.Prelude.{string_bytes}
-use Rattle.pb_decl.specs.declared.decl.FieldDecl.{FieldDecl}
+use Rattle.pb_declarations.specs.declared.decl.FieldDecl.{FieldDecl}
 use Rattle.pb_names.specs.Sees.{Sight}
 use Rattle.pb_rules.specs.Judging.{world_of}
 use Rattle.pb_names.specs.declared.found.TypeNames.{TypeNames}
@@ -25,7 +25,7 @@ use Rattle.pb_rules.specs.Link.{holds, IsWorldOf}
 use Rattle.pb_names.specs.View.{type_names_view}
 use Rattle.pb_rules.specs.Maps.{are_right_parts, right_parts, is_right_entry, are_plain, names_of_place, entry_rule, map_rule}
 use Rattle.pb_names.proofs.ViewLemmas.{inner_of-view, fields_of-view, enums_of-view, oneofs_of-view}
-use Rattle.pb_decl.proofs.ViewLemmas.{message_view-parts}
+use Rattle.pb_declarations.proofs.ViewLemmas.{message_view-parts}
 use Rattle.pb_rules.proofs.ThereLemmas.{field_there}
 use Rattle.pb_names.proofs.RowLemmas.{grown}
 use Rattle.pb_rules.proofs.UseLemmas.{told_at}

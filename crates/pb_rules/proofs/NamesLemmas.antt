@@ -7,7 +7,7 @@ use Rattle.std.specs.Str.{bytes_eq}
 use Rattle.std.proofs.lemmas.Bool.Decides.{nat_tests}
 use Rattle.std.proofs.lemmas.List.{drop_more, map-append}
 use Rattle.pb_schema.specs.Imports.{Reaches}
-use Rattle.pb_decl.specs.Decls.{DeclaredFile}
+use Rattle.pb_declarations.specs.Decls.{DeclaredFile}
 use Rattle.pb_rules.specs.declared.cause.LinkCause.TheVariants as cause
 use Rattle.pb_names.specs.Declarations.{Item, a_file, a_message, a_field, a_oneof, an_enum, a_value, a_service, a_method, Declaration, declarations, is_named, full_name, has_name}
 use Rattle.pb_names.specs.Lookup.{Found, looked_up, every_file, is_package_name}
@@ -15,8 +15,8 @@ use Rattle.pb_rules.specs.Rules.{World, lookups, lookups_if, is_file_named, is_i
 use Rattle.pb_rules.specs.Link.{holds, IsWorldOf}
 use Rattle.pb_names.specs.Firsts.{first_at}
 use Rattle.pb_names.specs.Sees.{file_named, file_of, files_of}
-use Rattle.pb_sets.specs.Flat.{lists_of}
-use Rattle.pb_sets.specs.Reach.{next_of, Reached}
+use Rattle.pb_graphs.specs.Flat.{lists_of}
+use Rattle.pb_graphs.specs.Reach.{next_of, Reached}
 use Rattle.pb_schema.specs.Types.{FileView}
 use Rattle.pb_names.specs.Graphs.{is_file, first_marks, AreImports, AreFirst, sees_by}
 use Rattle.pb_names.specs.NameSets.{is_in_set}

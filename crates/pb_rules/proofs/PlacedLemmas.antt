@@ -7,7 +7,7 @@ use Rattle.std.specs.Str.{bytes_eq}
 use Rattle.std.proofs.lemmas.Option.{none-some}
 use Rattle.std.proofs.lemmas.Slice.Eq.{bytes_eq-Decides}
 use Rattle.pb_schema.specs.Types.{FileView}
-use Rattle.pb_sets.specs.Reach.{next_of}
+use Rattle.pb_graphs.specs.Reach.{next_of}
 use Rattle.pb_names.specs.Graphs.{is_file}
 use Rattle.pb_names.proofs.AnyLemmas.{same_test}
 use Rattle.pb_names.proofs.BehindLemmas.{some_same}

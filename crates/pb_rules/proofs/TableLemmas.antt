@@ -17,7 +17,7 @@ use Rattle.pb_names.specs.Declarations.{Declaration}
 use Rattle.pb_names.specs.Sees.{Sight}
 use Rattle.pb_rules.specs.Rules.{World, lookups}
 use Rattle.pb_rules.specs.Link.{holds, first_cause, first_told, first_fault}
-use Rattle.pb_decl.specs.Decls.{DeclaredFile}
+use Rattle.pb_declarations.specs.Decls.{DeclaredFile}
 use Rattle.pb_rules.specs.Judging.{world_of}
 use Rattle.pb_rules.specs.Tables.{holds_table, AreTablesOf, TellsAt, is_elsewhere, at_place}
 use Rattle.pb_names.specs.View.{declaration_view, type_names_view}

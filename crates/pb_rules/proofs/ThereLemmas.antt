@@ -5,7 +5,7 @@ use Rattle.std.specs.List.{AllByRecursion, cons_option, list_any, enumerate_from
 use Rattle.std.proofs.lemmas.Bool.{false≢true}
 use Rattle.std.proofs.lemmas.Option.{none-some}
 use Rattle.pb_schema.specs.Names.{in_scope, AllDiffer}
-use Rattle.pb_decl.specs.Decls.{DeclaredField, DeclaredEnum, MessageHead, DeclaredMessages, DeclaredFile}
+use Rattle.pb_declarations.specs.Decls.{DeclaredField, DeclaredEnum, MessageHead, DeclaredMessages, DeclaredFile}
 use Rattle.pb_rules.specs.declared.cause.LinkCause.{LinkCause}
 use Rattle.pb_names.specs.Declarations.{a_message, a_field, a_oneof, an_enum, a_value, Declaration, fields_of, oneofs_of}
 use Rattle.pb_rules.specs.Rules.{World}

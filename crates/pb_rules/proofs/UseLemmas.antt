@@ -8,7 +8,7 @@ use Rattle.std.proofs.lemmas.Bool.Decides.{nat_tests, Decides-eqb}
 use Rattle.std.proofs.lemmas.List.{length-set, get_or-set_same, get_or-set_other}
 use Rattle.std.proofs.lemmas.List.Elements.{filter-append}
 use Rattle.pb_schema.proofs.LookupLemmas.{get_viewed}
-use Rattle.pb_decl.specs.Decls.{DeclaredField, MessageHead}
+use Rattle.pb_declarations.specs.Decls.{DeclaredField, MessageHead}
 use Rattle.pb_names.specs.Declarations.{Item, a_file, a_message, a_field, a_oneof, an_enum, a_value, a_service, a_method, Declaration}
 use Rattle.pb_names.specs.Lookup.{Found, found, not_found, not_visible, not_a_type}
 use Rattle.pb_rules.specs.Rules.{World, lookups, lookups_if, lookup_at, is_field, is_found_at, place_found, uses, gives_name, is_map_field, is_one_map_field, has_one_use}

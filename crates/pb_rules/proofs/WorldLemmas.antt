@@ -6,12 +6,12 @@ use Rattle.std.proofs.lemmas.Bool.{cases_eq}
 use Rattle.std.proofs.lemmas.Map.Made.{is_member-Decides}
 use Rattle.pb_schema.specs.Types.{FileView}
 use Rattle.pb_schema.specs.Imports.{imports_of, Reaches, directly, further}
-use Rattle.pb_decl.specs.Decls.{DeclaredFile}
+use Rattle.pb_declarations.specs.Decls.{DeclaredFile}
 use Rattle.pb_names.specs.Declarations.{declarations}
 use Rattle.pb_names.specs.Sees.{files_of, public_files_of, Sees, itself, imported, onward, Sight, IsSightOf}
 use Rattle.pb_rules.specs.Rules.{World}
 use Rattle.pb_rules.specs.Link.{IsWorldOf}
-use Rattle.pb_sets.proofs.ContainsLemmas.{Contains-none}
+use Rattle.pb_graphs.proofs.ContainsLemmas.{Contains-none}
 use Rattle.pb_names.proofs.AnyLemmas.{or_cases, or_first, or_second, and_cases, and_both, any_there, there_any}
 
 imports_within : (fs : List FileView) (i j : ℕ) → Contains (imports_of fs i) j → i < length fs

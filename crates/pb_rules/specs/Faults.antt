@@ -1,6 +1,6 @@
 -- The fault that is reported where declarations do not link.
 use Rattle.std.specs.Prelude.{◌≡◌, ⊤, ℕ, List, Some, slice_get, string_bytes}
-use Rattle.pb_decl.specs.Decls.{DeclaredFile}
+use Rattle.pb_declarations.specs.Decls.{DeclaredFile}
 use Rattle.pb_rules.specs.declared.cause.LinkCause.{LinkCause}
 use Rattle.pb_rules.specs.declared.error.LinkError.{LinkError}
 use Rattle.pb_rules.specs.declared.error.LinkError.TheVariants.{Fault, Memory}

@@ -2,12 +2,12 @@
 use Rattle.std.specs.Prelude.{ℕ, List, ◌&&◌, ◌||◌, length, take, Bool, true, false, not, nat_lt, nat_le, ◌==◌, ◌^◌, Option, Some, None}
 use Rattle.std.specs.List.{list_any, list_all, slice_index_or}
 use Rattle.std.specs.Option.{option_map_or}
-use Rattle.pb_decl.specs.Decls.{DeclaredFile}
+use Rattle.pb_declarations.specs.Decls.{DeclaredFile}
 use Rattle.pb_names.specs.Declarations.{Declaration, declarations, is_named, full_name, has_name}
 use Rattle.pb_names.specs.Lookup.{every_file, is_package_name}
 use Rattle.pb_rules.specs.Rules.{is_import_index}
-use Rattle.pb_sets.specs.Flat.{lists_of}
-use Rattle.pb_sets.specs.Reach.{next_of}
+use Rattle.pb_graphs.specs.Flat.{lists_of}
+use Rattle.pb_graphs.specs.Reach.{next_of}
 use Rattle.pb_names.specs.Graphs.{AreImports, LeadToFiles, KnowsSight}
 use Rattle.pb_names.specs.Scene.{IsScene}
 use Rattle.pb_names.specs.declared.imports.Imports.{Imports}

@@ -1,6 +1,6 @@
 -- Files that were judged, where no rule fails.
 use Rattle.std.specs.Prelude.{◌≡◌, List, map}
-use Rattle.pb_decl.specs.Decls.{DeclaredFile}
+use Rattle.pb_declarations.specs.Decls.{DeclaredFile}
 use Rattle.pb_rules.specs.declared.judged.Judged.{Judged}
 use Rattle.pb_names.specs.View.{declaration_view}
 use Rattle.pb_names.specs.Graphs.{AreImports}

@@ -1,7 +1,7 @@
 -- What a judge reads.
 use Rattle.std.specs.Prelude.{List, [], ◌∷◌, Bool, not, if◌then◌else◌, Option, Some, None}
 use Rattle.pb_rules.specs.declared.cause.LinkCause.{LinkCause}
-use Rattle.pb_decl.specs.Decls.{DeclaredFile}
+use Rattle.pb_declarations.specs.Decls.{DeclaredFile}
 use Rattle.pb_names.specs.Declarations.{Declaration}
 use Rattle.pb_names.specs.Sees.{Sight}
 use Rattle.pb_rules.specs.Rules.{World}

@@ -1,6 +1,6 @@
 -- When declarations link, and what is reported where they don't: the first rule that fails, by file, declaration and cause.
 use Rattle.std.specs.Prelude.{◌≡◌, ℕ, ◌+◌, ◌<◌, ◌≤◌, ◌⊎◌, List, [], ◌∷◌, Bool, true, not, ◌&&◌, Option, Some, None, IsFalse, find, slice_get}
-use Rattle.pb_decl.specs.Decls.{DeclaredFile}
+use Rattle.pb_declarations.specs.Decls.{DeclaredFile}
 use Rattle.pb_rules.specs.declared.cause.LinkCause.{LinkCause}
 use Rattle.pb_rules.specs.declared.cause.LinkCause.TheVariants as cause
 use Rattle.pb_rules.specs.CauseName.{cause_number}

@@ -2,7 +2,7 @@
 use Rattle.std.specs.Prelude.{ℕ, ◌+◌, List, [], ◌∷◌, Bool, true, false, not, ◌&&◌, ◌||◌}
 use Rattle.std.specs.List.{list_all, slice_index_or}
 use Rattle.std.specs.Option.{option_map_or}
-use Rattle.pb_decl.specs.Decls.{DeclaredField, DeclaredMessage, message, inner_of}
+use Rattle.pb_declarations.specs.Decls.{DeclaredField, DeclaredMessage, message, inner_of}
 use Rattle.pb_names.specs.declared.found.TypeNames.{TypeNames}
 use Rattle.pb_names.specs.declared.found.TypeNames.TheVariants as type_names
 use Rattle.pb_names.specs.Declarations.{Item, a_file, a_message, a_field, a_oneof, an_enum, a_value, a_service, a_method, Declaration, head_of}

@@ -1,6 +1,6 @@
 -- Files whose type names were looked up, whether or not a rule fails.
 use Rattle.std.specs.Prelude.{◌≡◌, List, map}
-use Rattle.pb_decl.specs.Decls.{DeclaredFile}
+use Rattle.pb_declarations.specs.Decls.{DeclaredFile}
 use Rattle.pb_rules.specs.declared.named.Named.{Named}
 use Rattle.pb_names.specs.View.{declaration_view, type_names_view}
 use Rattle.pb_rules.specs.Rules.{World, lookups}

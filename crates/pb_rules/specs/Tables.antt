@@ -3,7 +3,7 @@ use Rattle.std.specs.Prelude.{◌≡◌, ◌==◌, ℕ, List, map, Bool, true, f
 use Rattle.std.specs.List.{enumerate_from, slice_index_or}
 use Rattle.pb_rules.specs.declared.cause.LinkCause.{LinkCause}
 use Rattle.pb_rules.specs.declared.cause.LinkCause.TheVariants as cause
-use Rattle.pb_decl.specs.Decls.{DeclaredFile}
+use Rattle.pb_declarations.specs.Decls.{DeclaredFile}
 use Rattle.pb_names.specs.declared.declaration.Declaration.{Declaration as DeclarationValue}
 use Rattle.pb_names.specs.declared.found.TypeNames.{TypeNames}
 use Rattle.pb_names.specs.declared.found.TypeNames.TheVariants as type_names

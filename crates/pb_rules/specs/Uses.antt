@@ -3,7 +3,7 @@ use Rattle.std.specs.Prelude.{◌≡◌, ◌<◌, ℕ, List, [], ◌∷◌, leng
 use Rattle.std.specs.List.{slice_index_or}
 use Rattle.std.specs.Str.{bytes_eq}
 use Rattle.pb_schema.specs.Names.{entry_name}
-use Rattle.pb_decl.specs.Decls.{DeclaredField}
+use Rattle.pb_declarations.specs.Decls.{DeclaredField}
 use Rattle.pb_names.specs.Declarations.{Item, a_file, a_message, a_field, a_oneof, an_enum, a_value, a_service, a_method, Declaration}
 use Rattle.pb_names.specs.Lookup.{Found}
 use Rattle.pb_rules.specs.Rules.{place_found}

@@ -1,24 +1,24 @@
 //! The first file that reaches itself by imports.
 
 ghost use Rattle.std.specs.Prelude.{◌≡◌, ◌<◌, ◌↔◌, ℕ, List, IsTrue, All, IfOk, OnOk, not, length, vec_len};
-ghost use Rattle.pb_decl.specs.Decls.{DeclaredFile};
+ghost use Rattle.pb_declarations.specs.Decls.{DeclaredFile};
 ghost use Rattle.pb_rules.specs.declared.cause.LinkCause.TheVariants.{ImportCycle};
 ghost use Rattle.pb_names.specs.Components.{number_of, NeverRise};
 ghost use Rattle.pb_rules.specs.Rules.{World};
 ghost use Rattle.pb_rules.specs.Link.{holds, IsWorldOf};
-ghost use Rattle.pb_sets.specs.Cycles.{LeadsOn};
-ghost use Rattle.pb_sets.specs.Flat.{lists_of};
-ghost use Rattle.pb_sets.specs.Reach.{IsListed};
+ghost use Rattle.pb_graphs.specs.Cycles.{LeadsOn};
+ghost use Rattle.pb_graphs.specs.Flat.{lists_of};
+ghost use Rattle.pb_graphs.specs.Reach.{IsListed};
 ghost use Rattle.pb_names.specs.Graphs.{AreImports, LeadToFiles};
 ghost use Rattle.pb_names.specs.View.{declaration_view};
 ghost use Rattle.pb_rules.specs.Tables.{TellsFirstCycle};
 
+use pb_graphs::cycles::is_acyclic;
+use pb_graphs::reach::{Graph, Reach};
 use pb_names::components::{component_numbers, number_of};
 use pb_names::declaration::Declaration;
 use pb_names::imports::Imports;
 use pb_names::type_refs::file_in;
-use pb_sets::cycles::is_acyclic;
-use pb_sets::reach::{Graph, Reach};
 use std::alloc::{AllocError, Global};
 
 fn are_below(numbers: &[usize], indexes: &[usize], bound: usize) -> bool

@@ -2,19 +2,19 @@
 
 ghost use Rattle.std.specs.Prelude.{◌≡◌, List, map, IfOk};
 ghost use Rattle.std.specs.List.{list_all, enumerate_from};
-ghost use Rattle.pb_decl.specs.View.{file_view};
+ghost use Rattle.pb_declarations.specs.View.{file_view};
 ghost use Rattle.pb_names.specs.Declarations.{Declaration as DeclarationView};
 ghost use Rattle.pb_rules.specs.Rules.{is_import_index};
 ghost use Rattle.pb_names.specs.View.{declaration_view};
 ghost use Rattle.pb_names.specs.Scene.{IsScene};
 ghost use Rattle.pb_rules.specs.Flags.{is_marked_first, are_right_imports, are_imports_there, is_free_name, is_not_before};
 
-use pb_decl::FileDecl;
+use pb_declarations::FileDecl;
+use pb_graphs::reach::Graph;
 use pb_names::declaration::Declaration;
 use pb_names::imports::Imports;
 use pb_names::scene::Scene;
 use pb_names::type_refs::file_in;
-use pb_sets::reach::Graph;
 use std::alloc::{AllocError, Global};
 
 /// A file has fewer imports.

@@ -1,7 +1,7 @@
 //! The least rule that fails at a declaration.
 
 ghost use Rattle.std.specs.Prelude.{◌≡◌, ◌&&◌, ◌<◌, ℕ, map, not};
-ghost use Rattle.pb_decl.specs.View.{field_view, file_view, message_view};
+ghost use Rattle.pb_declarations.specs.View.{field_view, file_view, message_view};
 ghost use Rattle.pb_names.specs.Declarations.{head_of};
 ghost use Rattle.pb_names.specs.ItemView.{item_view};
 ghost use Rattle.pb_names.specs.Sees.{Sight};
@@ -19,7 +19,7 @@ use crate::rules::kinds::{
     is_type_right,
 };
 use crate::rules::numbers::{begins_right, is_field_number};
-use pb_decl::{FieldDecl, FileDecl, MessageDecl};
+use pb_declarations::{FieldDecl, FileDecl, MessageDecl};
 use pb_names::declaration::Declaration;
 use pb_names::item::Item;
 use pb_names::marks::Marks;

@@ -1,7 +1,7 @@
 //! Files that are judged by all rules.
 
 ghost use Rattle.std.specs.Prelude.{◌≡◌, ⊤, ℕ, List, map, IfOk, IfErr, IsErrAnd, MatchResult};
-ghost use Rattle.pb_decl.specs.View.{file_view};
+ghost use Rattle.pb_declarations.specs.View.{file_view};
 ghost use Rattle.pb_rules.specs.declared.cause.LinkCause.{LinkCause as CauseValue};
 ghost use Rattle.pb_rules.specs.declared.error.LinkError.TheVariants.{Memory};
 ghost use Rattle.pb_rules.specs.Rules.{World};
@@ -14,7 +14,7 @@ use crate::names::Names;
 use crate::naming::names_of;
 use crate::rules::maps::map_marks;
 use crate::verdict::verdict;
-use pb_decl::FileDecl;
+use pb_declarations::FileDecl;
 use pb_names::declaration::Declaration;
 use pb_names::declared::row;
 use pb_names::imports::Imports;

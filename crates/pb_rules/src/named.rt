@@ -1,11 +1,11 @@
 //! Files whose type names were looked up, whether or not a rule fails.
 
 ghost use Rattle.std.specs.Prelude.{map, IfOk};
-ghost use Rattle.pb_decl.specs.View.{file_view};
+ghost use Rattle.pb_declarations.specs.View.{file_view};
 ghost use Rattle.pb_rules.specs.Named.{IsNamed};
 
 use crate::naming::found_names;
-use pb_decl::FileDecl;
+use pb_declarations::FileDecl;
 use pb_names::declaration::Declaration;
 use pb_names::declared::row;
 use pb_names::found::TypeNames;

@@ -1,8 +1,8 @@
 //! What the rules of files, names and type names come to.
 
 ghost use Rattle.std.specs.Prelude.{◌≡◌, List, map, take, Some, IfOk, OnOk};
-ghost use Rattle.pb_decl.specs.Decls.{DeclaredFile};
-ghost use Rattle.pb_decl.specs.View.{file_view};
+ghost use Rattle.pb_declarations.specs.Decls.{DeclaredFile};
+ghost use Rattle.pb_declarations.specs.View.{file_view};
 ghost use Rattle.pb_names.specs.Declarations.{declarations};
 ghost use Rattle.pb_names.specs.Lookup.{looked_up};
 ghost use Rattle.pb_rules.specs.Rules.{World, lookups};
@@ -17,7 +17,7 @@ ghost use Rattle.pb_rules.specs.Flags.{IsReady};
 use crate::cycles::first_cycle;
 use crate::flags::{first_files, free_names, right_imports};
 use crate::names::Names;
-use pb_decl::FileDecl;
+use pb_declarations::FileDecl;
 use pb_names::declaration::Declaration;
 use pb_names::found::TypeNames;
 use pb_names::imports::Imports;

@@ -1,7 +1,7 @@
 //! Whether declarations link, or their least fault.
 
 ghost use Rattle.std.specs.Prelude.{◌≡◌, ⊤, ℕ, List, map, IfOk, IfErr, IsErrAnd, MatchResult};
-ghost use Rattle.pb_decl.specs.View.{file_view};
+ghost use Rattle.pb_declarations.specs.View.{file_view};
 ghost use Rattle.pb_rules.specs.declared.cause.LinkCause.{LinkCause as CauseValue};
 ghost use Rattle.pb_rules.specs.declared.error.LinkError.TheVariants.{Memory};
 ghost use Rattle.pb_names.specs.Declarations.{full_name};
@@ -15,7 +15,7 @@ use crate::cause::LinkCause;
 use crate::error::LinkError;
 use crate::names::Names;
 use crate::walk::first_fault;
-use pb_decl::FileDecl;
+use pb_declarations::FileDecl;
 use pb_names::declaration::Declaration;
 use std::alloc::AllocError;
 

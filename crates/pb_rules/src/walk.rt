@@ -1,7 +1,7 @@
 //! The first declaration at which a rule fails.
 
 ghost use Rattle.std.specs.Prelude.{◌≡◌, map};
-ghost use Rattle.pb_decl.specs.View.{file_view};
+ghost use Rattle.pb_declarations.specs.View.{file_view};
 ghost use Rattle.pb_rules.specs.Rules.{World};
 ghost use Rattle.pb_names.specs.View.{declaration_view};
 ghost use Rattle.pb_rules.specs.Link.{first_fault};
@@ -10,7 +10,7 @@ ghost use Rattle.pb_rules.specs.Tables.{AreTablesOf};
 use crate::cause::LinkCause;
 use crate::judge::judge;
 use crate::names::{Names, at_place};
-use pb_decl::FileDecl;
+use pb_declarations::FileDecl;
 use pb_names::declaration::Declaration;
 
 /// The first place at which a rule fails, and the least cause there.

@@ -5,7 +5,7 @@ use Rattle.std.specs.List.{list_any}
 use Rattle.std.specs.Str.{bytes_eq}
 use Rattle.std.proofs.lemmas.Bool.{false≢true}
 use Rattle.std.proofs.lemmas.List.{map-append, take_more, take-append-drop}
-use Rattle.pb_sets.proofs.NameSetLemmas.{has_name}
+use Rattle.pb_graphs.proofs.NameSetLemmas.{has_name}
 use Rattle.pb_schema.specs.Types.{FileView}
 use Rattle.pb_schema.specs.View.{file_view}
 use Rattle.pb_schema.specs.declared.types.FileInfo.{FileInfo}

@@ -3,9 +3,9 @@ use Rattle.std.proofs.Common.{◌≡◌, ℕ, zero, suc, ◌<◌, ◌↔◌, Lis
 use Rattle.std.specs.List.{AllByRecursion}
 use Rattle.std.proofs.lemmas.List.{length-map}
 use Rattle.std.proofs.lemmas.List.Elements.{All-contains, All-from_recursion}
-use Rattle.pb_sets.specs.Reach.{next_of, Reached, begun, further as led, IsGraph}
-use Rattle.pb_sets.specs.Cycles.{IsAcyclic}
-use Rattle.pb_sets.proofs.ContainsLemmas.{Contains-none}
+use Rattle.pb_graphs.specs.Reach.{next_of, Reached, begun, further as led, IsGraph}
+use Rattle.pb_graphs.specs.Cycles.{IsAcyclic}
+use Rattle.pb_graphs.proofs.ContainsLemmas.{Contains-none}
 use Rattle.pb_schema.specs.declared.types.FileInfo.{FileInfo}
 use Rattle.pb_schema.specs.View.{file_view}
 use Rattle.pb_schema.specs.Types.{FileView}

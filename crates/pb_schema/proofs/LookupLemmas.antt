@@ -9,8 +9,8 @@ use Rattle.std.proofs.lemmas.List.Folds.{find_at}
 use Rattle.pb_schema.specs.declared.types.Field.{Field}
 use Rattle.pb_schema.specs.View.{field_view}
 use Rattle.pb_schema.specs.Types.{FieldView, MessageView, EnumView, Types, message_fields, fields_of_message, field_numbered}
-use Rattle.pb_sets.specs.NameSets.{names_in}
-use Rattle.pb_sets.proofs.NameSetLemmas.{position-map}
+use Rattle.pb_graphs.specs.NameSets.{names_in}
+use Rattle.pb_graphs.proofs.NameSetLemmas.{position-map}
 use Rattle.pb_schema.specs.declared.names.set.AddedNames.{AddedNames}
 use Rattle.pb_schema.specs.Nesting.{ParentsStandBefore}
 use Rattle.pb_schema.specs.Names.{AllDiffer, in_scope, scope_of, scope_by_names, message_name, enum_name, message_names, enum_names, names_in_message, declared_by_message, declared_by_enum}

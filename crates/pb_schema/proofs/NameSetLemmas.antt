@@ -4,9 +4,9 @@ use Rattle.std.specs.List.{AllByRecursion, list_any}
 use Rattle.std.specs.Str.{bytes_eq}
 use Rattle.std.proofs.lemmas.Bool.{false≢true}
 use Rattle.std.proofs.lemmas.List.Elements.{Contains-push, Contains-push_cases, Contains-append_left}
-use Rattle.pb_sets.specs.NameSets.{names_in, with_name}
-use Rattle.pb_sets.proofs.ContainsLemmas.{Contains-none, Contains-first, Contains-later, Contains-cases}
-use Rattle.pb_sets.proofs.NameSetLemmas.{has_name}
+use Rattle.pb_graphs.specs.NameSets.{names_in, with_name}
+use Rattle.pb_graphs.proofs.ContainsLemmas.{Contains-none, Contains-first, Contains-later, Contains-cases}
+use Rattle.pb_graphs.proofs.NameSetLemmas.{has_name}
 use Rattle.pb_schema.specs.declared.names.set.AddedNames.{AddedNames}
 use Rattle.pb_schema.specs.View.{bytes_of}
 use Rattle.pb_schema.specs.Names.{AllDiffer}

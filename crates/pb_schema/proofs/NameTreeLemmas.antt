@@ -15,8 +15,8 @@ use Rattle.pb_schema.specs.declared.names.tree.NameTree.{NameTree}
 use Rattle.pb_schema.specs.View.{bytes_of}
 use Rattle.pb_schema.specs.Names.Tree.{scope_name, names_behind, full_names, full_names_of, IsScope, AreNamed, IsTree, IsInTree, NameAdded}
 use Rattle.std.proofs.Math.Bool.{or-true}
-use Rattle.pb_sets.proofs.ContainsLemmas.{Contains-none, Contains-first, Contains-later, Contains-cases}
-use Rattle.pb_sets.proofs.NameSetLemmas.{has_text}
+use Rattle.pb_graphs.proofs.ContainsLemmas.{Contains-none, Contains-first, Contains-later, Contains-cases}
+use Rattle.pb_graphs.proofs.NameSetLemmas.{has_text}
 use Rattle.pb_schema.proofs.NameSetLemmas.{All-at, AllDiffer-push, bytes_of-append}
 
 -- ELEMENTS BY INDEX

@@ -8,7 +8,7 @@ use Rattle.std.proofs.lemmas.Bool.{false≢true}
 use Rattle.std.proofs.lemmas.Bool.Decides.{Decides-eqb}
 use Rattle.std.proofs.lemmas.Option.{slice_get_within}
 use Rattle.std.proofs.lemmas.List.Elements.{Contains-push, Contains-push_cases, Contains-append_left, Contains-append_right, Contains-append_cases}
-use Rattle.pb_sets.proofs.ContainsLemmas.{Contains-none, Contains-first, Contains-later, Contains-cases}
+use Rattle.pb_graphs.proofs.ContainsLemmas.{Contains-none, Contains-first, Contains-later, Contains-cases}
 use Rattle.pb_schema.specs.declared.names.tree.NameTree.{NameTree}
 use Rattle.pb_schema.specs.Names.{is_word, is_package, onto_first, onto_parts, parts_of, with_front, fronts_from, packages_of, in_scope, name_at}
 use Rattle.pb_schema.specs.Names.Tree.{IsTree, IsScope, IsInTree, scope_name, full_names_of, Keeps, IsAddedAt, NameAdded, IsSplit, PackageAdded, AddsPackage, ArePackages, PackagesAdded}

@@ -1,7 +1,7 @@
 -- What is known of the files that a file sees.
 use Rattle.std.proofs.Common.{◌≡◌, ℕ, List, Bool, true, false, IsTrue, ◌↔◌, ⊎_elim, inr, map, sym, ◌∙◌, ap, subst, Contains, Option, Some, None}
-use Rattle.pb_sets.specs.declared.reach.Reach.{Reach}
-use Rattle.pb_sets.specs.Reach.{next_of, Reached, is_marked}
+use Rattle.pb_graphs.specs.declared.reach.Reach.{Reach}
+use Rattle.pb_graphs.specs.Reach.{next_of, Reached, is_marked}
 use Rattle.pb_schema.specs.declared.types.FileInfo.{FileInfo}
 use Rattle.pb_schema.specs.declared.imports.sight.Sight.{Sight}
 use Rattle.pb_schema.specs.View.{file_view}

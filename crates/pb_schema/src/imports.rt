@@ -6,7 +6,7 @@ pub(crate) mod sight;
 ghost use Rattle.std.specs.Prelude.{map};
 
 use crate::types::FileInfo;
-use pb_sets::reach::Graph;
+use pb_graphs::reach::Graph;
 
 /// Files, each of which leads to those that it imports.
 #[derive(Clone, Copy)]

@@ -1,7 +1,7 @@
 //! Groups and closed enums: their kinds, the wire types that fit their fields, and which numbers an enum declares.
 
-use super::parts::pool_of;
 use super::pools::are_only_fit;
+use super::rows::pool_of;
 use pb_schema::{EnumId, Kind, MessageId, Pool};
 use std::test::Fail;
 

@@ -11,9 +11,9 @@ mod large;
 #[cfg(test)]
 mod packed;
 #[cfg(test)]
-mod parts;
-#[cfg(test)]
 mod pools;
+#[cfg(test)]
+mod rows;
 #[cfg(test)]
 mod rules;
 #[cfg(test)]

@@ -1,6 +1,6 @@
 //! Look-ups in the samples.
 
-use super::parts::{is_found, pool_of};
+use super::rows::{is_found, pool_of};
 use super::samples::{KINDS, NO_ORDER, SHAPES};
 use pb_schema::{EnumId, EnumType, FileInfo, MessageId, MessageType, Pool, fits};
 use std::alloc::Global;

@@ -1,6 +1,6 @@
 //! Parts that meet all rules, and for each rule the same parts with the least change that breaks it.
 
-use super::parts::{changed_pool, pool_of};
+use super::rows::{changed_pool, pool_of};
 use pb_schema::{EnumId, MessageId, Pool, PoolError};
 use std::alloc::Global;
 use std::test::Fail;

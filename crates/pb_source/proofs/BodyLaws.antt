@@ -4,7 +4,7 @@ use Rattle.std.specs.Prelude.{if◌then◌else◌, zero, suc}
 use Rattle.std.specs.Str.{bytes_eq}
 use Rattle.std.proofs.lemmas.Bool.{false≢true, or_parts}
 use Rattle.std.proofs.lemmas.Slice.Eq.{bytes_eq-Decides}
-use Rattle.pb_decl.specs.Decls.{DeclaredField, DeclaredMethod, DeclaredService}
+use Rattle.pb_declarations.specs.Decls.{DeclaredField, DeclaredMethod, DeclaredService}
 use Rattle.pb_tokens.specs.declared.grammar.Grammar.{Grammar}
 use Rattle.pb_tokens.specs.Symbols.{Symbol, word, number, text, sign}
 use Rattle.pb_tokens.specs.Language.{Language, ◌▸◌, one, Rules}

@@ -26,7 +26,7 @@ use Rattle.pb_tokens.proofs.OptionLaws.{end_stops}
 use Rattle.pb_tokens.proofs.RangeLaws.{reads_utf8}
 use Rattle.pb_source.specs.declared.reading.Reading.{Reading}
 use Rattle.pb_source.specs.declared.reading.Reading.TheVariants as reading
-use Rattle.pb_decl.specs.Decls.{DeclaredMessage}
+use Rattle.pb_declarations.specs.Decls.{DeclaredMessage}
 use Rattle.pb_source.specs.Syntaxes.{is_lenient}
 use Rattle.pb_source.specs.declared.kind.FileKind.{FileKind}
 use Rattle.pb_source.specs.declared.kind.FileKind.TheVariants as kind

@@ -1,6 +1,6 @@
 -- Lines that only some of the grammars have.
 use Rattle.std.proofs.Common.{◌≡◌, List, [], ◌∷◌, Bool, true, false, None}
-use Rattle.pb_decl.specs.Decls.{DeclaredField}
+use Rattle.pb_declarations.specs.Decls.{DeclaredField}
 use Rattle.pb_tokens.specs.declared.grammar.Grammar.{Grammar}
 use Rattle.pb_tokens.specs.Symbols.{Symbol}
 use Rattle.pb_tokens.specs.Language.{Language, Rules}

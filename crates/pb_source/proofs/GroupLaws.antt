@@ -5,8 +5,8 @@ use Rattle.std.specs.Prelude.{if◌then◌else◌}
 use Rattle.std.specs.Str.{bytes_eq}
 use Rattle.std.proofs.lemmas.Bool.{false≢true}
 use Rattle.std.proofs.Math.Bool.{or-false}
-use Rattle.pb_decl.specs.Decls.{DeclaredField}
-use Rattle.pb_decl.specs.declared.decl.TypeCode.TheVariants as code
+use Rattle.pb_declarations.specs.Decls.{DeclaredField}
+use Rattle.pb_declarations.specs.declared.decl.TypeCode.TheVariants as code
 use Rattle.pb_tokens.specs.declared.grammar.Grammar.{Grammar}
 use Rattle.pb_tokens.specs.declared.rule.Rule.TheVariants.{NestsBounded as nests_bounded}
 use Rattle.pb_tokens.specs.Symbols.{Symbol, word, number, text, sign}

@@ -1,8 +1,8 @@
 -- Small files that are read leniently, by their symbols: what they declare, or their fault, worked out by the rules.
 use Prim.Native.String.{String}
 use Rattle.std.proofs.Common.{◌≡◌, ℕ, zero, suc, ◌≤◌, List, [], ◌∷◌, ◌++◌, codes, refl, Option, Some, None, Err, lit≤, arith, false, true, pos, ℤ, map}
-use Rattle.pb_decl.specs.Decls.{DeclaredField, DeclaredFile, MessageHead, DeclaredMessages, message as message_decl, no_messages, more_messages}
-use Rattle.pb_decl.specs.declared.decl.TypeCode.TheVariants as code
+use Rattle.pb_declarations.specs.Decls.{DeclaredField, DeclaredFile, MessageHead, DeclaredMessages, message as message_decl, no_messages, more_messages}
+use Rattle.pb_declarations.specs.declared.decl.TypeCode.TheVariants as code
 use Rattle.pb_tokens.specs.declared.fault.SourceCause.TheVariants.{Unexpected, NotProto3, NestedTooDeep}
 use Rattle.pb_tokens.specs.declared.rule.Rule.{Rule}
 use Rattle.pb_tokens.specs.declared.rule.Rule.TheVariants.{SyntaxFirst as syntax_first, NestsBounded as nests_bounded}

@@ -1,8 +1,8 @@
 -- Messages of sources stand in each other at most 65 deep: 64 that are written, and the entry of a map.
 use Rattle.std.proofs.Common.{◌≡◌, ℕ, zero, suc, ◌≤◌, max, List, [], ◌∷◌, ◌++◌, Option, Some, None, option_to_list, inl, inr, not, refl, subst, sym, ap, ◌∙◌, arith}
 use Rattle.pb_schema.specs.Names.{in_scope}
-use Rattle.pb_decl.specs.Decls.{DeclaredMessage, message as message_decl, DeclaredMessages, no_messages, more_messages, messages_of, DeclaredFile}
-use Rattle.pb_decl.specs.Nests.{nests, all_nest}
+use Rattle.pb_declarations.specs.Decls.{DeclaredMessage, message as message_decl, DeclaredMessages, no_messages, more_messages, messages_of, DeclaredFile}
+use Rattle.pb_declarations.specs.Nests.{nests, all_nest}
 use Rattle.pb_tokens.specs.declared.grammar.Grammar.{Grammar}
 use Rattle.pb_source.specs.declared.reading.Reading.{Reading}
 use Rattle.pb_source.specs.declared.reading.Reading.TheVariants as reading

@@ -2,12 +2,12 @@
 use Rattle.std.proofs.Common.{◌≡◌, ◌≤◌, ◌<◌, ◌+◌, ℕ, suc, ℤ, pos, List, [], ◌∷◌, ◌++◌, length, take, drop, set, get_or, map, Bool, true, false, Vec, Global, String, refl, ap, sym, ◌∙◌, subst, append-nil, append_assoc, string_bytes, arith, Option, option_to_list}
 use Rattle.std.specs.Prelude.{if◌then◌else◌}
 use Rattle.std.proofs.lemmas.List.{length-map, length-append, drop_more, drop-set-lt, take_more_set, length_push, map_push, take_all, drop_all, map-append}
-use Rattle.pb_decl.specs.Decls.{DeclaredField, DeclaredMessage, message, messages_of}
-use Rattle.pb_decl.specs.View.{field_view, message_view, enum_view, service_view}
-use Rattle.pb_decl.specs.declared.decl.FieldDecl.{FieldDecl}
-use Rattle.pb_decl.specs.declared.decl.EnumDecl.{EnumDecl}
-use Rattle.pb_decl.specs.declared.decl.MessageDecl.{MessageDecl}
-use Rattle.pb_decl.specs.declared.decl.ServiceDecl.{ServiceDecl}
+use Rattle.pb_declarations.specs.Decls.{DeclaredField, DeclaredMessage, message, messages_of}
+use Rattle.pb_declarations.specs.View.{field_view, message_view, enum_view, service_view}
+use Rattle.pb_declarations.specs.declared.decl.FieldDecl.{FieldDecl}
+use Rattle.pb_declarations.specs.declared.decl.EnumDecl.{EnumDecl}
+use Rattle.pb_declarations.specs.declared.decl.MessageDecl.{MessageDecl}
+use Rattle.pb_declarations.specs.declared.decl.ServiceDecl.{ServiceDecl}
 use Rattle.pb_source.specs.Meaning.{MapDecl, Member, MessageStatement, FileStatement, entry_of, fields_of, map_field, fields_in, groups_in, in_oneof, all_said, oneofs_said, nested_said, enums_said, ranges_said, names_said, file_messages_said, with_own_oneofs, own_oneofs, message_of, packages_said, package_of, first_or_none, imports_said, public_from, file_enums_said, services_said}
 use Rattle.pb_source.specs.PartsView.{HoldsSaid, with_own_oneof, OnePackage, FileHolds}
 use Rattle.pb_source.specs.declared.parsing.declared.MessageParts.{MessageParts}

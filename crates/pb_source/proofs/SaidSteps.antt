@@ -1,9 +1,9 @@
 -- What statements say, one after another.
 use Rattle.std.proofs.Common.{◌≡◌, List, [], ◌∷◌, ◌++◌, map, refl, ap, sym, ◌∙◌, append-nil, append_assoc, ℕ, Bool, false, string_bytes, Option, Some, None, option_map, option_to_list}
 use Rattle.std.proofs.lemmas.List.{map-append}
-use Rattle.pb_decl.specs.Decls.{DeclaredEnum}
-use Rattle.pb_decl.specs.View.{enum_view, numbered_view}
-use Rattle.pb_decl.specs.declared.decl.EnumDecl.{EnumDecl}
+use Rattle.pb_declarations.specs.Decls.{DeclaredEnum}
+use Rattle.pb_declarations.specs.View.{enum_view, numbered_view}
+use Rattle.pb_declarations.specs.declared.decl.EnumDecl.{EnumDecl}
 use Rattle.pb_source.specs.Meaning.{EnumStatement, those_said, all_said, alias_from, values_said, enum_ranges_said, enum_names_said, enum_of}
 
 those_said-push : {A : Type 0} (xs : List (Option A)) (x : Option A) → those_said (xs ++ x ∷ []) ≡ those_said xs ++ option_to_list x

@@ -1,11 +1,11 @@
 -- The full names of entry messages, part by part.
 use Rattle.std.proofs.Common.{◌≡◌, ◌<◌, ◌≤◌, ◌+◌, ℕ, zero, suc, List, [], ◌∷◌, ◌++◌, length, take, drop, get_or, set, map, refl, ap, ◌∙◌, arith, rules, string_bytes, Vec, Global}
 use Rattle.pb_schema.specs.Names.{in_scope}
-use Rattle.pb_decl.specs.Decls.{DeclaredMessage, message, more_messages, messages_of}
-use Rattle.pb_decl.specs.View.{field_view, enum_view, message_view}
-use Rattle.pb_decl.specs.declared.decl.FieldDecl.{FieldDecl}
-use Rattle.pb_decl.specs.declared.decl.MessageDecl.{MessageDecl, out-MessageDecl, roll-MessageDecl, the_lemmas as message_lemmas}
-use Rattle.pb_decl.specs.declared.decl.MessageDecl.TheOpen.{MessageDecl-F}
+use Rattle.pb_declarations.specs.Decls.{DeclaredMessage, message, more_messages, messages_of}
+use Rattle.pb_declarations.specs.View.{field_view, enum_view, message_view}
+use Rattle.pb_declarations.specs.declared.decl.FieldDecl.{FieldDecl}
+use Rattle.pb_declarations.specs.declared.decl.MessageDecl.{MessageDecl, out-MessageDecl, roll-MessageDecl, the_lemmas as message_lemmas}
+use Rattle.pb_declarations.specs.declared.decl.MessageDecl.TheOpen.{MessageDecl-F}
 use Rattle.pb_source.specs.Meaning.{scoped_field, scoped, all_scoped}
 
 -- ---- one element after another

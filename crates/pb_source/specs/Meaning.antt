@@ -2,10 +2,10 @@
 use Rattle.std.specs.Prelude.{ℕ, suc, ℤ, pos, List, [], ◌∷◌, ◌++◌, length, map, codes, Bool, true, false, if◌then◌else◌, Option, Some, None, option_to_list}
 use Rattle.std.specs.Char.{to_ascii_lowercase}
 use Rattle.pb_schema.specs.Names.{in_scope, entry_name}
-use Rattle.pb_decl.specs.Decls.{DeclaredField, DeclaredEnum, DeclaredMessage, message as message_decl, DeclaredMessages}
-use Rattle.pb_decl.specs.Decls.{no_messages, more_messages, messages_of, DeclaredService, DeclaredFile}
-use Rattle.pb_decl.specs.declared.decl.TypeCode.{TypeCode}
-use Rattle.pb_decl.specs.declared.decl.TypeCode.TheVariants.{Message as message_code, Group as group_code}
+use Rattle.pb_declarations.specs.Decls.{DeclaredField, DeclaredEnum, DeclaredMessage, message as message_decl, DeclaredMessages}
+use Rattle.pb_declarations.specs.Decls.{no_messages, more_messages, messages_of, DeclaredService, DeclaredFile}
+use Rattle.pb_declarations.specs.declared.decl.TypeCode.{TypeCode}
+use Rattle.pb_declarations.specs.declared.decl.TypeCode.TheVariants.{Message as message_code, Group as group_code}
 use Rattle.pb_tokens.specs.Said.{TypeSaid, code_said, name_said, a_scalar}
 use Rattle.pb_tokens.specs.declared.grammar.Grammar.{Grammar}
 use Rattle.pb_source.specs.Syntaxes.{is_proto2}

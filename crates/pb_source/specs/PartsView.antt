@@ -1,7 +1,7 @@
 -- What messages and files hold whose statements are being read.
 use Rattle.std.specs.Prelude.{◌≡◌, ◌≤◌, if◌then◌else◌, length, ℕ, List, [], ◌∷◌, Bool, true, false, map, string_bytes}
-use Rattle.pb_decl.specs.Decls.{DeclaredField}
-use Rattle.pb_decl.specs.View.{field_view, message_view, enum_view, service_view}
+use Rattle.pb_declarations.specs.Decls.{DeclaredField}
+use Rattle.pb_declarations.specs.View.{field_view, message_view, enum_view, service_view}
 use Rattle.pb_source.specs.Meaning.{MessageStatement, FileStatement, in_oneof, packages_said, package_of, imports_said, public_from, file_messages_said}
 use Rattle.pb_source.specs.Meaning.{file_enums_said, services_said, fields_of, all_said, nested_said, enums_said, oneofs_said, ranges_said, names_said}
 use Rattle.pb_source.specs.declared.kind.MessageKind.{MessageKind}

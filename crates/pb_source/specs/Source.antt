@@ -1,7 +1,7 @@
 -- A source as its declaration, or as its one fault.
 use Rattle.std.specs.Prelude.{ℕ, zero, suc, ◌^◌, ◌-◌, ◌<◌, ◌≤◌, List, [], ◌∷◌, length, map, IsUtf8}
 use Rattle.std.specs.Str.Lossy.{utf8_valid_len}
-use Rattle.pb_decl.specs.Decls.{DeclaredFile}
+use Rattle.pb_declarations.specs.Decls.{DeclaredFile}
 use Rattle.pb_tokens.specs.Tokens.{PlacedToken, AreTokens, LexFault}
 use Rattle.pb_source.specs.declared.reading.Reading.{Reading}
 use Rattle.pb_source.specs.declared.reading.Reading.TheVariants as reading

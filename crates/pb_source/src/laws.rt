@@ -1,8 +1,8 @@
 //! Laws of sources.
 
 ghost use Rattle.std.specs.Prelude.{ℕ, List};
-ghost use Rattle.pb_decl.specs.Decls.{DeclaredFile};
-ghost use Rattle.pb_decl.specs.One.{ExactlyOne};
+ghost use Rattle.pb_declarations.specs.Decls.{DeclaredFile};
+ghost use Rattle.pb_declarations.specs.One.{ExactlyOne};
 ghost use Rattle.pb_tokens.specs.declared.fault.SourceFault.{SourceFault as FaultValue};
 ghost use Rattle.pb_source.specs.Source.{IsSource, HasFault, IsLenientSource, HasLenientFault};
 

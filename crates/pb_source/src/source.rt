@@ -1,8 +1,8 @@
 //! A source as its declaration.
 
 ghost use Rattle.std.specs.Prelude.{◌≡◌, ◌^◌, ◌-◌, ◌≤◌, ◌⊎◌, ℕ, List, length, IfOk, IfErr, MatchResult, IsUtf8};
-ghost use Rattle.pb_decl.specs.Decls.{DeclaredFile};
-ghost use Rattle.pb_decl.specs.View.{file_view};
+ghost use Rattle.pb_declarations.specs.Decls.{DeclaredFile};
+ghost use Rattle.pb_declarations.specs.View.{file_view};
 ghost use Rattle.pb_tokens.specs.declared.fault.SourceCause.{SourceCause};
 ghost use Rattle.pb_tokens.specs.Fault.{fault, out_of_memory};
 ghost use Rattle.pb_tokens.specs.Language.{told};
@@ -13,7 +13,7 @@ ghost use Rattle.pb_source.specs.Readers.Told.{fault_at};
 
 use crate::parsing::file;
 use crate::reading::Reading;
-use pb_decl::FileDecl;
+use pb_declarations::FileDecl;
 use pb_tokens::refusal::Refusal;
 use pb_tokens::rule::Rule;
 use pb_tokens::symbol::Placed;

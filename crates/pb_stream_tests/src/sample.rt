@@ -2,8 +2,8 @@
 
 ghost use Rattle.std.specs.Prelude.{◌<◌, length};
 
-use pb_samples::{EnumRow, FieldRow, FileRow, TypeRow, pool_of};
 use pb_schema::{EnumId, Kind, MessageId, Pool, Shape};
+use pb_test_types::{EnumRow, FieldRow, FileRow, TypeRow, pool_of};
 use pb_value::{Content, DynamicMessage, Value};
 use std::alloc::Global;
 use std::test::Fail;

@@ -1,6 +1,6 @@
 -- Bytes are one list of tokens, or have one fault.
 use Rattle.std.proofs.Common.{◌≡◌, ℕ, List, ◌⊎◌, inl, inr}
-use Rattle.pb_decl.specs.One.{ExactlyOne}
+use Rattle.pb_declarations.specs.One.{ExactlyOne}
 use Rattle.pb_tokens.specs.declared.fault.SourceCause.{SourceCause}
 use Rattle.pb_tokens.specs.declared.fault.SourceFault.{SourceFault}
 use Rattle.pb_tokens.specs.Fault.{fault}

@@ -1,7 +1,7 @@
 -- Words and types as the code has them.
 use Rattle.std.specs.Prelude.{ℕ, List, [], ◌∷◌, Option, None, map, string_bytes}
 use Rattle.std.specs.Borrow.{Bor}
-use Rattle.pb_decl.specs.declared.decl.TypeCode.{TypeCode}
+use Rattle.pb_declarations.specs.declared.decl.TypeCode.{TypeCode}
 use Rattle.pb_tokens.specs.Phrases.{scalar_code}
 use Rattle.pb_tokens.specs.Said.{TypeSaid, a_scalar, a_name}
 use Rattle.pb_tokens.specs.declared.parsing.types.TypeSaid.{TypeSaid as CodeType}

@@ -4,8 +4,8 @@ use Prim.Native.String.{String}
 use Rattle.std.specs.Prelude.{◌≡◌, ℕ, suc, ◌≤◌, min, ℤ, pos, negsuc, neg_ℤ, List, [], ◌∷◌, codes}
 use Rattle.std.specs.Prelude.{Bool, true, false, ◌||◌, if◌then◌else◌, Option, Some, None, ◌⊎◌, IsUtf8}
 use Rattle.std.specs.Str.{bytes_eq}
-use Rattle.pb_decl.specs.declared.decl.TypeCode.{TypeCode}
-use Rattle.pb_decl.specs.declared.decl.TypeCode.TheVariants as code
+use Rattle.pb_declarations.specs.declared.decl.TypeCode.{TypeCode}
+use Rattle.pb_declarations.specs.declared.decl.TypeCode.TheVariants as code
 use Rattle.pb_tokens.specs.declared.rule.Rule.TheVariants.{NumbersFit as numbers_fit, OptionsKnown as options_known, TextsValid as texts_valid}
 use Rattle.pb_tokens.specs.Symbols.{word, number, text, sign}
 use Rattle.pb_tokens.specs.Integers.{integer_of}

@@ -1,6 +1,6 @@
 -- What the parts of statements say: types, names of several words, options that are said more than once.
 use Rattle.std.specs.Prelude.{ℕ, List, [], ◌∷◌, ◌++◌, Bool, Option, Some, None}
-use Rattle.pb_decl.specs.declared.decl.TypeCode.{TypeCode}
+use Rattle.pb_declarations.specs.declared.decl.TypeCode.{TypeCode}
 
 -- a type as it is written: a scalar, or the name of a message or an enum
 pub data TypeSaid : Type 0 where

@@ -1,7 +1,7 @@
 //! The law of tokens.
 
 ghost use Rattle.std.specs.Prelude.{ℕ, List};
-ghost use Rattle.pb_decl.specs.One.{ExactlyOne};
+ghost use Rattle.pb_declarations.specs.One.{ExactlyOne};
 ghost use Rattle.pb_tokens.specs.declared.fault.SourceFault.{SourceFault as FaultValue};
 ghost use Rattle.pb_tokens.specs.Tokens.{AreTokens, LexFault};
 

@@ -19,6 +19,7 @@
 //! ```
 #![tactic(auto)]
 
+pub mod bodies;
 mod body;
 mod change;
 mod dynamic;
@@ -29,7 +30,6 @@ pub mod laws;
 mod lookup;
 mod merge;
 mod message_ref;
-pub mod parts;
 
 pub use body::{Body, Content, MapKey, Value};
 pub use dynamic::{DynamicMessage, default_value};

@@ -1,7 +1,7 @@
 //! Which bodies are messages.
 
 use super::sample::Schema;
-use pb_samples::body_of;
+use pb_test_types::body_of;
 use pb_value::ValueError;
 use std::alloc::Global;
 use std::test::Fail;

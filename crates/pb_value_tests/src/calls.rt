@@ -1,8 +1,8 @@
 //! Each call once.
 
 use super::sample::Schema;
-use pb_samples::{body_of, key_of, value_of};
 use pb_schema::{EnumId, Kind, MessageId};
+use pb_test_types::{body_of, key_of, value_of};
 use pb_value::laws::{
     canonical_spelling, joined_records, key_order, merging, no_cause, one_value, reading_onto,
     round_trip, well_formed_values,

@@ -2,7 +2,7 @@
 
 use super::choice::choose;
 use super::sample::Schema;
-use pb_samples::{body_of, content_of, key_of, value_of};
+use pb_test_types::{body_of, content_of, key_of, value_of};
 use pb_value::{Body, DynamicMessage, Value, ValueError};
 use pb_wire::Unknown;
 use std::alloc::Global;

@@ -1,7 +1,7 @@
 //! One message over another.
 
 use super::sample::{Schema, sample, sample_in};
-use pb_samples::body_of;
+use pb_test_types::body_of;
 use pb_value::{Body, ValueError};
 use std::alloc::Global;
 use std::test::Fail;

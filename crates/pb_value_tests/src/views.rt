@@ -1,8 +1,8 @@
 //! Messages inside others, seen in their place.
 
 use super::sample::Schema;
-use pb_samples::body_of;
 use pb_schema::MessageId;
+use pb_test_types::body_of;
 use pb_value::{Content, DynamicMessage, MapKey, MessageRef, Value};
 use std::alloc::{AllocError, Global};
 use std::test::Fail;

@@ -21,7 +21,7 @@ use pb_parts::tokens::tag_step::has_level;
 use pb_parts::values::put_elements::put_elements;
 use pb_schema::MessageId;
 use pb_value::Value;
-use pb_value::parts::empty_body;
+use pb_value::bodies::empty_body;
 
 impl Reader<'_> {
     /// Puts the message after a tag into its slot of a part, and how many bytes its record takes. It goes on from what the slot holds.

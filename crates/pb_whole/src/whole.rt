@@ -9,7 +9,7 @@ use pb_parts::error::NoMemory;
 use pb_parts::open::part::Part;
 use pb_schema::{MessageId, Pool};
 use pb_value::DynamicMessage;
-use pb_value::parts::{empty_body, from_well_formed};
+use pb_value::bodies::{empty_body, from_well_formed};
 use pb_wire::Limits;
 use std::alloc::Global;
 

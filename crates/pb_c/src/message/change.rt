@@ -13,7 +13,7 @@ use pb_c_held::{Held, take_body};
 use pb_c_reports::{ABSENT, BAD_PLACE, BAD_VALUE, DONE, EMPTY, MEMORY};
 use pb_c_values::PlainValue;
 use pb_place::ChangeError;
-use pb_value::parts::from_well_formed;
+use pb_value::bodies::from_well_formed;
 use pb_value::{DynamicMessage, ValueError};
 use std::alloc::Global;
 

@@ -15,7 +15,7 @@ use pb_c_reports::{DONE, EMPTY, MEMORY, TOO_LARGE, canonical_of};
 use pb_decode::decode;
 use pb_schema::{MessageId, Pool};
 use pb_value::DynamicMessage;
-use pb_value::parts::from_well_formed;
+use pb_value::bodies::from_well_formed;
 use pb_wire::Limits;
 use std::alloc::Global;
 use std::sync::Arc;

@@ -12,7 +12,7 @@ use crate::typed::canon::write_canonical;
 use pb_c_held::{Held, canonical_bytes, take_body};
 use pb_c_reports::{DONE, EMPTY, MEMORY, TOO_LARGE, write_out};
 use pb_encode::encoded_len;
-use pb_value::parts::{empty_body, from_well_formed};
+use pb_value::bodies::{empty_body, from_well_formed};
 use pb_wire::MAX_BYTES;
 use std::alloc::Global;
 use std::mem;

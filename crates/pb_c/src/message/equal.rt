@@ -12,7 +12,7 @@ use pb_c_held::{Held, take_body};
 use pb_c_reports::{DONE, EMPTY, MEMORY, TOO_LARGE, canonical_of};
 use pb_encode::encoded_len;
 use pb_value::DynamicMessage;
-use pb_value::parts::from_well_formed;
+use pb_value::bodies::from_well_formed;
 use std::alloc::Global;
 
 /// Whether two messages are of one type of equal pools.

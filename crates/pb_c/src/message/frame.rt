@@ -11,7 +11,7 @@ use super::own::OwnMessage;
 use pb_c_held::{Held, canonical_bytes, take_body};
 use pb_c_reports::{DONE, EMPTY, MEMORY, TOO_LARGE, canonical_of, write_out};
 use pb_value::DynamicMessage;
-use pb_value::parts::from_well_formed;
+use pb_value::bodies::from_well_formed;
 use pb_wire::put_varint;
 use std::alloc::{AllocError, Global};
 

@@ -12,7 +12,7 @@ use pb_c_held::{Held, plain_held, take_body};
 use pb_c_reports::{ABSENT, BAD_PLACE, DONE, EMPTY, MEMORY};
 use pb_c_values::{PlainValue, value_at};
 use pb_value::DynamicMessage;
-use pb_value::parts::from_well_formed;
+use pb_value::bodies::from_well_formed;
 use std::alloc::Global;
 
 /// Reports the value at a place.

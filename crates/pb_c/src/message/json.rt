@@ -14,7 +14,7 @@ use pb_c_held::{Held, take_body};
 use pb_c_json::{form_of, write_as_json};
 use pb_c_reports::{DONE, EMPTY, MEMORY};
 use pb_json::JsonForm;
-use pb_value::parts::from_well_formed;
+use pb_value::bodies::from_well_formed;
 use std::alloc::Global;
 
 /// Writes the JSON of a message that is owned.

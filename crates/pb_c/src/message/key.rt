@@ -12,7 +12,7 @@ use pb_c_held::{Held, take_body};
 use pb_c_reports::{ABSENT, BAD_PLACE, DONE, EMPTY, MEMORY, lay_over};
 use pb_c_values::{PlainValue, key_at, key_bytes, key_value};
 use pb_value::DynamicMessage;
-use pb_value::parts::from_well_formed;
+use pb_value::bodies::from_well_formed;
 use std::alloc::Global;
 
 /// Reports a key of the map at a place.

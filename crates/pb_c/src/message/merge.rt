@@ -18,7 +18,7 @@ use pb_c_reports::{
 };
 use pb_decode::decode_onto;
 use pb_value::DynamicMessage;
-use pb_value::parts::from_well_formed;
+use pb_value::bodies::from_well_formed;
 use pb_wire::Limits;
 use std::alloc::Global;
 

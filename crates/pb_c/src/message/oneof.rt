@@ -11,7 +11,7 @@ use pb_c_held::{Held, take_body};
 use pb_c_reports::{ABSENT, BAD_PLACE, DONE, EMPTY, MEMORY};
 use pb_c_values::{PlainValue, oneof_at};
 use pb_value::DynamicMessage;
-use pb_value::parts::from_well_formed;
+use pb_value::bodies::from_well_formed;
 use std::alloc::Global;
 
 /// Reports the member of a oneof at a place.

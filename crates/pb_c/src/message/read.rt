@@ -13,7 +13,7 @@ use pb_c_held::{Held, bytes_held, take_body};
 use pb_c_reports::{ABSENT, BAD_PLACE, DONE, EMPTY, MEMORY, write_out};
 use pb_c_values::{PlainValue, bytes_at};
 use pb_value::DynamicMessage;
-use pb_value::parts::from_well_formed;
+use pb_value::bodies::from_well_formed;
 use std::alloc::Global;
 
 /// Writes the string or the bytes at a place.

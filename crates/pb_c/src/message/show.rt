@@ -10,7 +10,7 @@ use super::own::OwnMessage;
 use crate::typed::show::write_listing;
 use pb_c_held::{Held, take_body};
 use pb_c_reports::{DONE, EMPTY, MEMORY};
-use pb_value::parts::from_well_formed;
+use pb_value::bodies::from_well_formed;
 use std::alloc::Global;
 
 /// Writes the listing of the message.

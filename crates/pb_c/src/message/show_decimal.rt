@@ -9,7 +9,7 @@ use pb_c_held::{Held, take_body};
 use pb_c_reports::{DONE, EMPTY, MEMORY, write_out};
 use pb_listing::{FloatForm, write_message_as};
 use pb_value::DynamicMessage;
-use pb_value::parts::from_well_formed;
+use pb_value::bodies::from_well_formed;
 use pb_wire::{FailurePlan, MemOutput};
 use std::alloc::Global;
 

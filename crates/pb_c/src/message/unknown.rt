@@ -12,7 +12,7 @@ use pb_c_held::{Held, take_body};
 use pb_c_reports::{ABSENT, BAD_PLACE, DONE, EMPTY, MEMORY, write_out};
 use pb_c_values::{PlainValue, unknown_at};
 use pb_value::DynamicMessage;
-use pb_value::parts::from_well_formed;
+use pb_value::bodies::from_well_formed;
 use std::alloc::Global;
 
 /// Writes the unknown records at a place.

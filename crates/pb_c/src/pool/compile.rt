@@ -2,7 +2,7 @@
 
 ghost use Rattle.std.specs.Prelude.{◌≡◌, ◌≢◌, ◌↔◌, ◌⊎◌, ℕ, List, IsUtf8, IfOk, IfErr, map};
 ghost use Rattle.std.specs.Bool.{Decides};
-ghost use Rattle.pb_decl.specs.View.{file_view};
+ghost use Rattle.pb_declarations.specs.View.{file_view};
 ghost use Rattle.pb_schema.specs.Types.{Types};
 ghost use Rattle.pb_tokens.specs.Fault.{out_of_memory};
 ghost use Rattle.pb_source.specs.Source.{HasFaultIn, IsSourceIn};
@@ -16,7 +16,7 @@ use super::linking::link_files;
 use super::refusal::Refusal;
 use crate::handle::{PoolHandle, take};
 use pb_c_reports::{BAD_NAME, DONE, MEMORY};
-use pb_decl::FileDecl;
+use pb_declarations::FileDecl;
 use pb_link::without_enum_maps;
 use pb_source::reading::Reading;
 use pb_source::{SourceCause, SourceFault, parse, parse_lenient};

@@ -1,7 +1,7 @@
 //! Files linked into a handle.
 
 ghost use Rattle.std.specs.Prelude.{◌≡◌, ◌≢◌, ◌⊎◌, List, ℕ, map, IfOk};
-ghost use Rattle.pb_decl.specs.View.{file_view};
+ghost use Rattle.pb_declarations.specs.View.{file_view};
 ghost use Rattle.pb_link.specs.Linking.{Links};
 ghost use Rattle.pb_rules.specs.Faults.{LinkFault};
 ghost use Rattle.pb_rules.specs.declared.cause.LinkCause.{LinkCause as CauseValue};
@@ -13,7 +13,7 @@ use super::refusal::{Refusal, tell_link};
 use crate::handle::shared::Shared;
 use crate::handle::{PoolHandle, put};
 use pb_c_reports::{DONE, MEMORY};
-use pb_decl::FileDecl;
+use pb_declarations::FileDecl;
 use pb_json::JsonNames;
 use pb_json_names::names_of_set;
 use pb_link::link;

@@ -22,7 +22,7 @@ use pb_parts::open::occurrences::Occurrences;
 use pb_parts::open::part::{Part, Scope};
 use pb_parts::tokens::step::Step;
 use pb_schema::{MessageId, Pool};
-use pb_value::parts::{empty_body, from_well_formed};
+use pb_value::bodies::{empty_body, from_well_formed};
 use pb_value::{Body, DynamicMessage};
 use pb_wire::Limits;
 use std::alloc::Global;

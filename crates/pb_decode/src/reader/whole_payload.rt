@@ -15,7 +15,7 @@ use pb_parts::open::target::Target;
 use pb_parts::tokens::record_tag::RecordTag;
 use pb_parts::tokens::tag_step::has_level;
 use pb_schema::{Kind, MessageId};
-use pb_value::parts::empty_body;
+use pb_value::bodies::empty_body;
 use pb_whole::reader::{Left, Reader as WholeReader};
 use pb_whole::tokens::payload_after;
 

@@ -2,10 +2,10 @@
 
 ghost use Rattle.std.specs.Prelude.{◌≡◌, map, IfOk};
 ghost use Rattle.pb_schema.specs.View.{enum_view as view_of_enum};
-ghost use Rattle.pb_decl.specs.View.{enum_view, numbered_view};
+ghost use Rattle.pb_declarations.specs.View.{enum_view, numbered_view};
 ghost use Rattle.pb_link.specs.ToDecls.{shares_numbers, declared_enum};
 
-use pb_decl::EnumDecl;
+use pb_declarations::EnumDecl;
 use pb_schema::EnumType;
 use std::alloc::{AllocError, Global};
 use std::collections::BTreeSet;

@@ -6,7 +6,7 @@ ghost use Rattle.pb_schema.specs.Kinds.{message_of_kind};
 ghost use Rattle.pb_schema.specs.View.{field_view as view_of_field};
 ghost use Rattle.pb_schema.specs.Names.{entry_name};
 ghost use Rattle.pb_schema.specs.Rules.{IsPool, NamesType, NamesOneof};
-ghost use Rattle.pb_decl.specs.View.{field_view, message_view};
+ghost use Rattle.pb_declarations.specs.View.{field_view, message_view};
 ghost use Rattle.pb_link.specs.ToDecls.{code_of_kind, name_of_kind, is_repeated_shape, is_optional_field};
 ghost use Rattle.pb_link.specs.ToDecls.{code_of_field, name_of_type, packed_of_list, packed_of_field};
 ghost use Rattle.pb_link.specs.ToDecls.{oneof_of_field, declared_field, declared_fields, synthetic_names, entry_part, entry_message, entry_of_field};
@@ -14,7 +14,7 @@ ghost use Rattle.pb_rules.specs.Rules.{key_name, value_name};
 ghost use Rattle.pb_link.specs.Declarable.{IsDeclarable, AreDeclarable};
 
 use crate::declaring::text::{dotted, dotted_entry, synthetic_name};
-use pb_decl::{FieldDecl, MessageDecl, TypeCode};
+use pb_declarations::{FieldDecl, MessageDecl, TypeCode};
 use pb_schema::{Field, Kind, Pool, Shape, entry_name};
 use std::alloc::{AllocError, Global};
 

@@ -4,7 +4,7 @@ ghost use Rattle.std.specs.Prelude.{◌≡◌, ◌<◌, ◌+◌, ◌++◌, [], l
 ghost use Rattle.pb_schema.specs.Types.{MessageView, is_proto2};
 ghost use Rattle.pb_schema.specs.View.{field_view as view_of_field, message_view as view_of_message, parent_view};
 ghost use Rattle.pb_schema.specs.Rules.{IsPool};
-ghost use Rattle.pb_decl.specs.View.{enum_view, message_view};
+ghost use Rattle.pb_declarations.specs.View.{enum_view, message_view};
 ghost use Rattle.pb_link.specs.ToDecls.{numbered, entry_of_field, synthetic_names};
 ghost use Rattle.pb_link.specs.Declarable.{AreDeclarable};
 ghost use Rattle.pb_link.specs.Nested.{inside_view, with_message, with_enum, ChangesAt, PlacesAt};
@@ -13,7 +13,7 @@ ghost use Rattle.pb_link.specs.Nested.{whole_message, inside_message, inside_fil
 use crate::declaring::enums::enum_decl;
 use crate::declaring::fields::{add_entries, add_synthetic, field_decls};
 use crate::declaring::text::copied;
-use pb_decl::{EnumDecl, MessageDecl};
+use pb_declarations::{EnumDecl, MessageDecl};
 use pb_schema::{Field, MessageId, MessageType, Pool};
 use std::alloc::{AllocError, Global};
 

@@ -1,13 +1,13 @@
 //! Enums, which name no types.
 
 ghost use Rattle.std.specs.Prelude.{◌≡◌, map, IfOk};
-ghost use Rattle.pb_decl.specs.View.{enum_view};
+ghost use Rattle.pb_declarations.specs.View.{enum_view};
 ghost use Rattle.pb_link.specs.Resolving.{coming, each_behind, behind_enum};
 
 use crate::declaring::enums::value_decls;
 use crate::declaring::text::copied;
 use crate::resolving::upcoming::Upcoming;
-use pb_decl::EnumDecl;
+use pb_declarations::EnumDecl;
 use std::alloc::{AllocError, Global};
 
 fn copied_enum(alloc: Global, entry: &EnumDecl) -> Result<EnumDecl, AllocError>

@@ -1,14 +1,14 @@
 //! Fields with the types that they mean.
 
 ghost use Rattle.std.specs.Prelude.{◌≡◌, map, option_map, string_bytes, IfOk, OnOk};
-ghost use Rattle.pb_decl.specs.View.{field_view};
+ghost use Rattle.pb_declarations.specs.View.{field_view};
 ghost use Rattle.pb_link.specs.Resolved.{full_name_or, field_of_type};
 ghost use Rattle.pb_link.specs.Resolving.{coming, first_type, fields_read, each_behind, behind_one};
 ghost use Rattle.pb_names.specs.View.{declaration_view, type_names_view};
 
 use crate::resolving::types::{code_or, first_type, full_name_or};
 use crate::resolving::upcoming::Upcoming;
-use pb_decl::FieldDecl;
+use pb_declarations::FieldDecl;
 use pb_names::declaration::Declaration;
 use pb_names::found::TypeNames;
 use std::alloc::{AllocError, Global};

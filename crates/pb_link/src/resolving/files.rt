@@ -1,7 +1,7 @@
 //! Files with the types that their declarations mean.
 
 ghost use Rattle.std.specs.Prelude.{◌≡◌, map, IfOk, OnOk};
-ghost use Rattle.pb_decl.specs.View.{file_view};
+ghost use Rattle.pb_declarations.specs.View.{file_view};
 ghost use Rattle.pb_link.specs.Resolving.{coming, file_read, files_read, behind_file};
 ghost use Rattle.pb_names.specs.View.{declaration_view, type_names_view};
 
@@ -10,7 +10,7 @@ use crate::resolving::enums::{copied_enums, skip_enums};
 use crate::resolving::messages::resolve_messages;
 use crate::resolving::services::resolve_services;
 use crate::resolving::upcoming::Upcoming;
-use pb_decl::FileDecl;
+use pb_declarations::FileDecl;
 use pb_names::declaration::Declaration;
 use pb_names::found::TypeNames;
 use std::alloc::{AllocError, Global};

@@ -6,7 +6,7 @@ ghost use Rattle.pb_link.specs.Resolved.{type_at, full_name_or, code_of_item, co
 ghost use Rattle.pb_link.specs.Resolving.{first_type, second_type};
 ghost use Rattle.pb_names.specs.View.{declaration_view, found_view, type_names_view};
 
-use pb_decl::TypeCode;
+use pb_declarations::TypeCode;
 use pb_names::declaration::Declaration;
 use pb_names::found::{Found, TypeNames};
 use pb_names::item::Item;

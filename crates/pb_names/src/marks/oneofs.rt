@@ -2,12 +2,12 @@
 
 ghost use Rattle.std.specs.Prelude.{◌≡◌, ◌<◌, ◌+◌, map, length, IfOk, not, false, ◌&&◌, ◌||◌, ◌^◌, slice_index, slice_set, nat_lt};
 ghost use Rattle.std.specs.List.{slice_index_or};
-ghost use Rattle.pb_decl.specs.Decls.{MessageHead};
-ghost use Rattle.pb_decl.specs.View.{field_view};
+ghost use Rattle.pb_declarations.specs.Decls.{MessageHead};
+ghost use Rattle.pb_declarations.specs.View.{field_view};
 ghost use Rattle.pb_names.specs.MarkRules.{oneof_of_field_is_right};
 ghost use Rattle.pb_names.specs.Oneofs.{AreCounted, AreOneofsOf, oneof_place};
 
-use pb_decl::FieldDecl;
+use pb_declarations::FieldDecl;
 use std::alloc::{AllocError, Global};
 
 /// The oneofs of a message: by index how many members each has, and whether one of them makes it synthetic.

@@ -4,14 +4,14 @@ ghost use Rattle.std.specs.Prelude.{◌≡◌, ℕ, ℤ, List, map, true, string
 ghost use Rattle.std.specs.Int.{w32};
 ghost use Rattle.std.specs.List.{list_any, list_all};
 ghost use Rattle.std.specs.Str.{bytes_eq};
-ghost use Rattle.pb_decl.specs.View.{enum_view, message_view};
+ghost use Rattle.pb_declarations.specs.View.{enum_view, message_view};
 ghost use Rattle.pb_names.specs.Declarations.{head_of};
 ghost use Rattle.pb_names.specs.NameSets.{is_in_set};
 ghost use Rattle.pb_names.specs.Reserved.{with_end_behind, is_filled, Rises, Reserves, ReservesInMessage, ReservesInEnum};
 ghost use Rattle.pb_names.specs.MarkRules.{is_in_message_range, message_ranges_overlap, none_overlap};
 
-use pb_decl::{EnumDecl, MessageDecl};
-use pb_sets::name_set::NameSet;
+use pb_declarations::{EnumDecl, MessageDecl};
+use pb_graphs::name_set::NameSet;
 use std::alloc::{AllocError, Global};
 
 /// The ranges and names that a message or an enum reserves.

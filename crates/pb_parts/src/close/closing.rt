@@ -17,7 +17,7 @@ use crate::error::{NoMemory, memory_alone};
 use crate::open::part::{Entry, Part, Scope, Slot};
 use crate::values::put_unknown::put_unknown;
 use pb_schema::{Kind, Pool};
-use pb_value::parts::{empty_body, insert_entry};
+use pb_value::bodies::{empty_body, insert_entry};
 use pb_value::{MapKey, Value, default_value};
 use pb_wire::Unknown;
 use std::alloc::Global;

@@ -9,7 +9,7 @@ ghost use Rattle.pb_parts.specs.Open.Occurrences.{counts_view};
 use crate::error::{NoMemory, memory_alone};
 use crate::open::part::{Part, Scope, Slot};
 use pb_schema::{MessageId, Pool};
-use pb_value::parts::{push_element, store};
+use pb_value::bodies::{push_element, store};
 use pb_value::{Body, Content, Value};
 use std::alloc::Global;
 

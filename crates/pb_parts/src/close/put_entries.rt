@@ -13,7 +13,7 @@ ghost use Rattle.pb_parts.specs.Close.Mapped.{pairs_view, put_pairs, FitInTurn, 
 
 use crate::error::{NoMemory, memory_alone};
 use crate::open::part::Part;
-use pb_value::parts::{put_field, take_field};
+use pb_value::bodies::{put_field, take_field};
 use pb_value::{Body, Content, MapKey, Value};
 use std::alloc::{AllocError, Global};
 use std::collections::BTreeMap;

@@ -14,7 +14,7 @@ use crate::open::occurrences::Occurrences;
 use crate::open::part::{Entry, Parent, Part, Scope, Slot};
 use crate::open::target::Target;
 use pb_schema::{Kind, MessageId};
-use pb_value::parts::{empty_body, take_field};
+use pb_value::bodies::{empty_body, take_field};
 use pb_value::{Body, Content, Value};
 use std::alloc::Global;
 use std::mem;

@@ -7,7 +7,7 @@ ghost use Rattle.pb_parts.specs.Open.PartView.{part_view};
 
 use crate::error::{NoMemory, memory_alone};
 use crate::open::part::Part;
-use pb_value::parts::{push_element, put_field};
+use pb_value::bodies::{push_element, put_field};
 use pb_value::{Body, Content, Value};
 use std::alloc::Global;
 

@@ -12,7 +12,7 @@ use crate::error::{NoMemory, memory_alone};
 use crate::open::part::Part;
 use crate::open::target::Target;
 use pb_schema::{MessageId, Pool};
-use pb_value::parts::{push_element, store};
+use pb_value::bodies::{push_element, store};
 use pb_value::{Body, Content, MapKey, Value};
 use std::alloc::Global;
 

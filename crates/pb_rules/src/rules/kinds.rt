@@ -2,8 +2,8 @@
 
 ghost use Rattle.std.specs.Prelude.{◌≡◌, ◌&&◌, ◌||◌, List, map, not, true};
 ghost use Rattle.std.specs.List.{list_any, list_all};
-ghost use Rattle.pb_decl.specs.Decls.{DeclaredFile};
-ghost use Rattle.pb_decl.specs.View.{field_view, file_view};
+ghost use Rattle.pb_declarations.specs.Decls.{DeclaredFile};
+ghost use Rattle.pb_declarations.specs.View.{field_view, file_view};
 ghost use Rattle.pb_names.specs.Declarations.{Declaration as DeclarationView};
 ghost use Rattle.pb_names.specs.Sees.{Sight};
 ghost use Rattle.pb_rules.specs.Rules.{lookups, passes, passes_declared, is_message, is_message_type, is_enum, is_two, is_open, is_enum_right};
@@ -13,7 +13,7 @@ ghost use Rattle.pb_rules.specs.Judging.{world_of};
 ghost use Rattle.pb_names.specs.ItemView.{item_view};
 ghost use Rattle.pb_names.specs.View.{declaration_view, found_view, type_names_view};
 
-use pb_decl::{FieldDecl, FileDecl, TypeCode};
+use pb_declarations::{FieldDecl, FileDecl, TypeCode};
 use pb_names::declaration::Declaration;
 use pb_names::found::{Found, TypeNames};
 use pb_names::item::Item;

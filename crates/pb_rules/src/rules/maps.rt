@@ -3,8 +3,8 @@
 ghost use Rattle.std.specs.Prelude.{◌≡◌, ◌+◌, ◌&&◌, List, map, true, false, IfOk};
 ghost use Rattle.std.specs.List.{list_all, slice_index_or};
 ghost use Rattle.std.specs.Option.{option_map_or};
-ghost use Rattle.pb_decl.specs.Decls.{DeclaredFile, inner_of};
-ghost use Rattle.pb_decl.specs.View.{field_view, message_view};
+ghost use Rattle.pb_declarations.specs.Decls.{DeclaredFile, inner_of};
+ghost use Rattle.pb_declarations.specs.View.{field_view, message_view};
 ghost use Rattle.pb_names.specs.declared.found.TypeNames.TheVariants as type_names;
 ghost use Rattle.pb_names.specs.Declarations.{head_of};
 ghost use Rattle.pb_rules.specs.Rules.{World, lookups, is_key_code, is_group, is_part, is_value_part};
@@ -18,7 +18,7 @@ ghost use Rattle.pb_rules.specs.Maps.{are_right_parts, right_parts, is_right_ent
 
 use crate::rules::kinds::{are_no_entries, is_entry};
 use crate::rules::uses::{is_map_field, names_at, use_marks};
-use pb_decl::{FieldDecl, MessageDecl, TypeCode};
+use pb_declarations::{FieldDecl, MessageDecl, TypeCode};
 use pb_names::declaration::Declaration;
 use pb_names::found::{Found, TypeNames};
 use pb_names::item::Item;

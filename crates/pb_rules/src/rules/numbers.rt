@@ -1,10 +1,10 @@
 //! Numbers of fields and the first values of enums.
 
 ghost use Rattle.std.specs.Prelude.{◌≡◌};
-ghost use Rattle.pb_decl.specs.View.{enum_view};
+ghost use Rattle.pb_declarations.specs.View.{enum_view};
 ghost use Rattle.pb_rules.specs.Rules.{is_field_number, begins_right};
 
-use pb_decl::EnumDecl;
+use pb_declarations::EnumDecl;
 
 /// Whether a field may have the number: from 1 to 536,870,911, and not from 19,000 to 19,999.
 pub(crate) fn is_field_number(number: i32) -> bool

@@ -2,7 +2,7 @@
 
 ghost use Rattle.std.specs.Prelude.{◌≡◌, ◌<◌, ℕ, List, map, length, filter, string_bytes, option_map, IfOk};
 ghost use Rattle.std.specs.List.{slice_index_or, enumerate_from};
-ghost use Rattle.pb_decl.specs.View.{field_view};
+ghost use Rattle.pb_declarations.specs.View.{field_view};
 ghost use Rattle.pb_names.specs.Declarations.{Declaration as DeclarationView};
 ghost use Rattle.pb_names.specs.declared.found.TypeNames.TheVariants as type_names;
 ghost use Rattle.pb_names.specs.ItemView.{item_view};
@@ -10,7 +10,7 @@ ghost use Rattle.pb_names.specs.View.{declaration_view, found_view, type_names_v
 ghost use Rattle.pb_rules.specs.Rules.{World, lookups, is_field, place_found, is_map_field, is_one_map_field, has_one_use, uses};
 ghost use Rattle.pb_rules.specs.Uses.{field_in, message_name_in, gives, target_by, with_user, users_at, AddsUser, Sums};
 
-use pb_decl::FieldDecl;
+use pb_declarations::FieldDecl;
 use pb_names::declaration::Declaration;
 use pb_names::found::{Found, TypeNames};
 use pb_names::item::Item;

@@ -1,6 +1,6 @@
 -- What is known of the files that a file sees.
 use Rattle.std.specs.Prelude.{◌≡◌, ◌↔◌, ℕ, List, length, Bool, true, false, IsTrue, Option, Some, None, option_map, slice_get, Contains}
-use Rattle.pb_sets.specs.Reach.{is_marked, IsListed}
+use Rattle.pb_graphs.specs.Reach.{is_marked, IsListed}
 use Rattle.pb_schema.specs.declared.imports.sight.Sight.{Sight}
 use Rattle.pb_schema.specs.declared.types.Kind.{Kind}
 use Rattle.pb_schema.specs.Types.{FileView, MessageView, EnumView}

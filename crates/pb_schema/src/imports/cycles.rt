@@ -6,8 +6,8 @@ ghost use Rattle.pb_schema.specs.Rules.{ImportsNameFiles, NoFileReachesItself};
 
 use crate::imports::ImportGraph;
 use crate::types::FileInfo;
-use pb_sets::cycles::is_acyclic;
-use pb_sets::flat::FlatGraph;
+use pb_graphs::cycles::is_acyclic;
+use pb_graphs::flat::FlatGraph;
 use std::alloc::{AllocError, Global};
 
 pub(crate) fn no_file_reaches_itself(alloc: Global, files: &[FileInfo]) -> Result<bool, AllocError>

@@ -8,7 +8,7 @@ ghost use Rattle.pb_schema.specs.Rules.{ImportsNameFiles};
 
 use crate::imports::ImportGraph;
 use crate::types::FileInfo;
-use pb_sets::reach::{Graph, Reach};
+use pb_graphs::reach::{Graph, Reach};
 use std::alloc::{AllocError, Global};
 
 /// What the file that was looked at last imports, or all that it reaches.

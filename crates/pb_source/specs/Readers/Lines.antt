@@ -1,8 +1,8 @@
 -- The readers of the grammar's lines: of each line of `Grammar` one.
 use Rattle.std.specs.Prelude.{ℕ, zero, suc, ℤ, List, [], ◌∷◌, codes, Bool, true, false, not, if◌then◌else◌, Option, Some, None, option_map}
 use Rattle.std.specs.Str.{bytes_eq}
-use Rattle.pb_decl.specs.Decls.{DeclaredField, DeclaredEnum, DeclaredMessage, DeclaredMethod, DeclaredService}
-use Rattle.pb_decl.specs.declared.decl.TypeCode.{TypeCode}
+use Rattle.pb_declarations.specs.Decls.{DeclaredField, DeclaredEnum, DeclaredMessage, DeclaredMethod, DeclaredService}
+use Rattle.pb_declarations.specs.declared.decl.TypeCode.{TypeCode}
 use Rattle.pb_tokens.specs.Readers.Phrases.{is_dot, listed, name_reader, fullname_reader, typename_reader, counted_reader, signed_reader}
 use Rattle.pb_tokens.specs.Readers.Phrases.{is_text, utf8_reader, option_reader, setting_reader, field_end_reader, group_end_reader, value_end_reader}
 use Rattle.pb_tokens.specs.Readers.Phrases.{type_of, type_reader, key_reader, message_range_reader, enum_range_reader}

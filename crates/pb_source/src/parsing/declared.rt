@@ -3,8 +3,8 @@
 ghost use Rattle.std.specs.Prelude.{◌≡◌, ◌≤◌, ◌<◌, ◌++◌, ◌∷◌, [], ℕ, List, Bool, Option, None, Some};
 ghost use Rattle.std.specs.Prelude.{codes, map, length, string_bytes, option_map, option_to_list, pos, IfOk, OnOk};
 ghost use Rattle.pb_schema.specs.Names.{entry_name};
-ghost use Rattle.pb_decl.specs.View.{field_view, message_view};
-ghost use Rattle.pb_decl.specs.declared.decl.TypeCode.{TypeCode};
+ghost use Rattle.pb_declarations.specs.View.{field_view, message_view};
+ghost use Rattle.pb_declarations.specs.declared.decl.TypeCode.{TypeCode};
 ghost use Rattle.pb_tokens.specs.Said.{a_scalar};
 ghost use Rattle.pb_tokens.specs.PhraseView.{type_view};
 ghost use Rattle.pb_source.specs.Meaning.{MessageStatement, FileStatement, entry_field, entry_of, map_field};
@@ -15,7 +15,7 @@ ghost use Rattle.pb_source.specs.PartsView.{with_own_oneof, IsCounted, OnePackag
 use crate::kind::Label;
 use crate::parsing::fields::field_of;
 use crate::parsing::statement::{FileSaid, MapSaid, MemberSaid, MessageSaid};
-use pb_decl::{EnumDecl, FieldDecl, MessageDecl, ServiceDecl, TypeCode};
+use pb_declarations::{EnumDecl, FieldDecl, MessageDecl, ServiceDecl, TypeCode};
 use pb_schema::entry_name;
 use pb_tokens::parsing::types::TypeSaid;
 use std::alloc::{AllocError, Global};

@@ -1,7 +1,7 @@
 //! Enums.
 
 ghost use Rattle.std.specs.Prelude.{◌≡◌, ◌≤◌, ◌<◌, ◌++◌, ◌∷◌, ℕ, List, [], length, codes, IfOk, OnOk};
-ghost use Rattle.pb_decl.specs.View.{enum_view};
+ghost use Rattle.pb_declarations.specs.View.{enum_view};
 ghost use Rattle.pb_tokens.specs.Readers.Forms.{mapped, until, mark_reader};
 ghost use Rattle.pb_tokens.specs.Readers.Phrases.{enum_range_reader};
 ghost use Rattle.pb_tokens.specs.Readers.Given.{ReadsInSteps};
@@ -12,7 +12,7 @@ ghost use Rattle.pb_source.specs.StatementView.{enum_statement_view};
 use crate::kind::EnumKind;
 use crate::parsing::kinds::enum_kind;
 use crate::parsing::statement::EnumSaid;
-use pb_decl::EnumDecl;
+use pb_declarations::EnumDecl;
 use pb_tokens::grammar::Grammar;
 use pb_tokens::parsing::numbers::signed;
 use pb_tokens::parsing::options::{setting, value_end};

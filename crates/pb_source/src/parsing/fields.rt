@@ -1,7 +1,7 @@
 //! Fields and maps.
 
 ghost use Rattle.std.specs.Prelude.{◌≡◌, ◌≤◌, ◌<◌, length, string_bytes, IfOk};
-ghost use Rattle.pb_decl.specs.View.{field_view};
+ghost use Rattle.pb_declarations.specs.View.{field_view};
 ghost use Rattle.pb_tokens.specs.PhraseView.{type_view};
 ghost use Rattle.pb_tokens.specs.Readers.Given.{ReadsInSteps};
 ghost use Rattle.pb_source.specs.Meaning.{is_repeated_label, is_optional_label, field_of};
@@ -12,7 +12,7 @@ ghost use Rattle.pb_source.specs.PartsView.{IsCounted};
 use crate::kind::Label;
 use crate::parsing::statement::{MapSaid, MemberSaid, MessageSaid};
 use crate::parsing::syntaxes::is_proto2;
-use pb_decl::FieldDecl;
+use pb_declarations::FieldDecl;
 use pb_tokens::grammar::Grammar;
 use pb_tokens::parsing::numbers::counted;
 use pb_tokens::parsing::options::field_end;

@@ -2,7 +2,7 @@
 
 ghost use Rattle.std.specs.Prelude.{◌≡◌, ◌≤◌, ◌<◌, ℕ, [], false, if◌then◌else◌, Some, None, length, codes, string_bytes, IfOk, IfErr, Ok, List};
 ghost use Rattle.std.specs.Str.{bytes_eq};
-ghost use Rattle.pb_decl.specs.View.{file_view};
+ghost use Rattle.pb_declarations.specs.View.{file_view};
 ghost use Rattle.pb_tokens.specs.Language.{all_rules};
 ghost use Rattle.pb_tokens.specs.declared.rule.Rule.TheVariants.{SyntaxFirst};
 ghost use Rattle.pb_tokens.specs.declared.grammar.Grammar.{Grammar};
@@ -26,7 +26,7 @@ use crate::parsing::services::service;
 use crate::parsing::statement::FileSaid;
 use crate::parsing::syntaxes::is_lenient;
 use crate::reading::Reading;
-use pb_decl::FileDecl;
+use pb_declarations::FileDecl;
 use pb_tokens::grammar::{Grammar, Syntax};
 use pb_tokens::parsing::names::{joined, words};
 use pb_tokens::parsing::options::option;

@@ -1,7 +1,7 @@
 //! What stands before the statements of a group (Protocol Buffers Language Specification (Proto2), "Group field").
 
 ghost use Rattle.std.specs.Prelude.{◌≡◌, ◌≤◌, ◌<◌, length, IfOk};
-ghost use Rattle.pb_decl.specs.View.{field_view};
+ghost use Rattle.pb_declarations.specs.View.{field_view};
 ghost use Rattle.pb_tokens.specs.Readers.Given.{Reads, ReadsInSteps};
 ghost use Rattle.pb_source.specs.Meaning.{group_field};
 ghost use Rattle.pb_source.specs.Grammar.{begins_capital};
@@ -9,7 +9,7 @@ ghost use Rattle.pb_source.specs.Readers.Lines.{group_name_reader, group_head_re
 
 use crate::kind::Label;
 use crate::parsing::fields::{FieldTail, is_optional, is_repeated};
-use pb_decl::{FieldDecl, TypeCode};
+use pb_declarations::{FieldDecl, TypeCode};
 use pb_tokens::grammar::Grammar;
 use pb_tokens::parsing::numbers::counted;
 use pb_tokens::parsing::options::group_end;

@@ -3,7 +3,7 @@
 //! `room` is how many levels are left: as many messages may nest in one, each in the one before.
 
 ghost use Rattle.std.specs.Prelude.{◌≡◌, ◌≤◌, ◌<◌, ◌++◌, [], length, map, codes, string_bytes, option_map, option_to_list, IfOk, OnOk, true};
-ghost use Rattle.pb_decl.specs.View.{message_view};
+ghost use Rattle.pb_declarations.specs.View.{message_view};
 ghost use Rattle.pb_tokens.specs.Readers.Forms.{if_some, mapped, until, mark_reader};
 ghost use Rattle.pb_tokens.specs.Readers.Given.{ReadsInSteps};
 ghost use Rattle.pb_source.specs.Meaning.{message_of, those_said};
@@ -20,7 +20,7 @@ use crate::parsing::kinds::{extend_kind, message_kind, oneof_kind};
 use crate::parsing::plain::plain_statement;
 use crate::parsing::statement::{MemberSaid, MessageSaid};
 use crate::parsing::syntaxes::{is_lenient, is_proto2, optional_label};
-use pb_decl::MessageDecl;
+use pb_declarations::MessageDecl;
 use pb_tokens::grammar::Grammar;
 use pb_tokens::parsing::names::typename;
 use pb_tokens::parsing::options::option;

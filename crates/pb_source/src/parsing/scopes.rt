@@ -2,13 +2,13 @@
 
 ghost use Rattle.std.specs.Prelude.{◌≡◌, ◌∷◌, List, map, string_bytes, IfOk, OnOk};
 ghost use Rattle.pb_schema.specs.Names.{in_scope};
-ghost use Rattle.pb_decl.specs.View.{field_view, message_view, file_view};
+ghost use Rattle.pb_declarations.specs.View.{field_view, message_view, file_view};
 ghost use Rattle.pb_source.specs.Meaning.{FileStatement, scoped_field, scoped, file_of};
 ghost use Rattle.pb_source.specs.PartsView.{FileHolds};
 
 use crate::parsing::declared::FileParts;
 use crate::parsing::syntaxes::is_proto2;
-use pb_decl::{FieldDecl, FileDecl, MessageDecl};
+use pb_declarations::{FieldDecl, FileDecl, MessageDecl};
 use pb_tokens::grammar::Grammar;
 use std::alloc::{AllocError, Global};
 

@@ -1,7 +1,7 @@
 //! Services.
 
 ghost use Rattle.std.specs.Prelude.{◌≡◌, ◌≤◌, ◌<◌, ◌++◌, [], length, map, codes, string_bytes, option_map, option_to_list, IfOk, OnOk};
-ghost use Rattle.pb_decl.specs.View.{method_view, service_view};
+ghost use Rattle.pb_declarations.specs.View.{method_view, service_view};
 ghost use Rattle.pb_tokens.specs.Readers.Forms.{mapped, until, mark_reader};
 ghost use Rattle.pb_tokens.specs.Readers.Given.{ReadsInSteps};
 ghost use Rattle.pb_source.specs.Meaning.{those_said};
@@ -10,7 +10,7 @@ ghost use Rattle.pb_source.specs.Readers.Lines.{method_reader, service_statement
 
 use crate::kind::{MethodKind, ServiceKind};
 use crate::parsing::kinds::{method_kind, service_kind};
-use pb_decl::{MethodDecl, ServiceDecl};
+use pb_declarations::{MethodDecl, ServiceDecl};
 use pb_tokens::grammar::Grammar;
 use pb_tokens::parsing::names::typename;
 use pb_tokens::parsing::options::option;

@@ -1,6 +1,6 @@
 //! Statements, as they were read.
 
-use pb_decl::{EnumDecl, FieldDecl, MessageDecl, ServiceDecl, TypeCode};
+use pb_declarations::{EnumDecl, FieldDecl, MessageDecl, ServiceDecl, TypeCode};
 use pb_tokens::parsing::types::TypeSaid;
 
 /// A map: `map < key , value > name = number`.

@@ -1,7 +1,7 @@
 -- The readers of the lines that statements are made of: of each line of `Phrases` one.
 use Rattle.std.specs.Prelude.{ℕ, zero, suc, nat_le, ℤ, pos, neg_ℤ, List, [], ◌∷◌, codes, Bool, true, false, if◌then◌else◌, Option, Some, None, Err, option_map}
 use Rattle.std.specs.Str.{bytes_eq, is_utf8}
-use Rattle.pb_decl.specs.declared.decl.TypeCode.{TypeCode}
+use Rattle.pb_declarations.specs.declared.decl.TypeCode.{TypeCode}
 use Rattle.pb_tokens.specs.declared.rule.Rule.TheVariants.{NumbersFit as numbers_fit, OptionsKnown as options_known, TextsValid as texts_valid}
 use Rattle.pb_tokens.specs.Symbols.{Symbol, word, number, text, sign}
 use Rattle.pb_tokens.specs.Integers.{integer_of}

@@ -11,7 +11,7 @@ use crate::parsing::names::{joined, joined_behind_dot, words};
 use crate::parsing::single::{begins_with_mark, mark, symbol_at};
 use crate::refusal::Refusal;
 use crate::symbol::{Placed, Symbol};
-use pb_decl::TypeCode;
+use pb_declarations::TypeCode;
 use std::alloc::{AllocError, Global};
 
 /// A type as it is written: a scalar, or the name of a message or an enum, with its dots.

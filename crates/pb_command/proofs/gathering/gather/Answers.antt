@@ -2,10 +2,10 @@ use Rattle.std.proofs.Common.{◌∙◌, ℕ, List, [], map, refl, subst, sym, a
 use Rattle.std.specs.Borrow.{Bor}
 use Rattle.std.proofs.lemmas.List.{take_all}
 use Rattle.std.proofs.lemmas.Result.{err_from_is_err_and}
-use Rattle.pb_decl.specs.View.{file_view}
-use Rattle.pb_decl.specs.declared.decl.FileDecl.{FileDecl}
+use Rattle.pb_declarations.specs.View.{file_view}
+use Rattle.pb_declarations.specs.declared.decl.FileDecl.{FileDecl}
 use Rattle.pb_command.specs.CompileAnswer.{places_of, texts_of}
-use Rattle.pb_sets.specs.NameSets.{names_in}
+use Rattle.pb_graphs.specs.NameSets.{names_in}
 use Rattle.pb_command.specs.Gathering.{Gathered, gathered, given, none_left, nothing_yet}
 use Rattle.pb_command.specs.Reaching.{reached}
 use Rattle.pb_command.specs.Steps.{GathersOf}

@@ -1,6 +1,6 @@
 use Rattle.std.proofs.Common.{◌∙◌}
 use Rattle.std.proofs.lemmas.Result.{err_from_is_err_and}
-use Rattle.pb_decl.specs.View.{file_view}
+use Rattle.pb_declarations.specs.View.{file_view}
 use Rattle.pb_files.proofs.KnownLemmas.{keeps_then}
 use Rattle.pb_command.proofs.RootSteps.{root_declares, root_passed, root_refuses}
 use Rattle.pb_command.proofs.sources.read_first.Goals as goal

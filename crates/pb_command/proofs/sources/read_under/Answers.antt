@@ -1,5 +1,5 @@
 use Rattle.std.proofs.Common.{ℕ, List, refl, subst}
-use Rattle.pb_decl.specs.View.{file_view}
+use Rattle.pb_declarations.specs.View.{file_view}
 use Rattle.pb_command.specs.Steps.{Fails}
 use Rattle.pb_command.proofs.SourceSteps.{absent_read, declared_read, faulty_read, unread_told}
 use Rattle.pb_command.proofs.sources.read_under.Goals as goal

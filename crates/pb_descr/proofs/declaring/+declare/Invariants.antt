@@ -1,7 +1,7 @@
 use Rattle.std.proofs.Common.{◌≡◌, ◌+◌, ◌*◌, map, take}
 use Rattle.pb_value.specs.Data.{levels_of}
 use Rattle.pb_value.specs.View.{value_view}
-use Rattle.pb_decl.specs.View.{message_view}
+use Rattle.pb_declarations.specs.View.{message_view}
 use Rattle.pb_descr.specs.Reading.{message_in}
 use Rattle.pb_descr.proofs.HeldLemmas.{weight}
 use Rattle.pb_descr.proofs.declaring.+declare.Given as goal

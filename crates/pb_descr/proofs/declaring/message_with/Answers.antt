@@ -2,10 +2,10 @@ use Rattle.std.proofs.Common.{map, false, sym, ap, ◌∙◌}
 use Rattle.std.specs.Prelude.{filter_map, unwrap_or}
 use Rattle.std.proofs.lemmas.List.{map-id}
 use Rattle.pb_value.specs.View.{value_view}
-use Rattle.pb_decl.specs.Decls.{message, messages_of}
+use Rattle.pb_declarations.specs.Decls.{message, messages_of}
 use Rattle.pb_descr.specs.Held.{text_in}
 use Rattle.pb_descr.specs.Reading.{field_in, enum_in, oneof_in, range_in}
-use Rattle.pb_decl.proofs.ViewLemmas.{message_view-roll}
+use Rattle.pb_declarations.proofs.ViewLemmas.{message_view-roll}
 use Rattle.pb_descr.proofs.HeldLemmas.{message_in-fields}
 use Rattle.pb_descr.proofs.declaring.message_with.Goals as goal
 

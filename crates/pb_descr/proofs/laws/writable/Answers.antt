@@ -1,5 +1,5 @@
 use Rattle.std.proofs.Common.{map}
-use Rattle.pb_decl.specs.View.{file_view}
+use Rattle.pb_declarations.specs.View.{file_view}
 use Rattle.pb_descr.proofs.RangeLemmas.{set_real}
 use Rattle.pb_descr.proofs.laws.writable.Goals as goal
 

@@ -2,14 +2,14 @@ use Rattle.std.proofs.Common.{◌≡◌, ◌<◌, ◌≤◌, map, length, List, 
 use Rattle.std.proofs.lemmas.Result.{err_from_is_err_and}
 use Rattle.pb_value.specs.Data.{levels_of, datums_depth, datums_of}
 use Rattle.pb_value.specs.View.{value_view}
-use Rattle.pb_decl.specs.declared.decl.MessageDecl.{MessageDecl}
-use Rattle.pb_decl.specs.Decls.{messages_of}
-use Rattle.pb_decl.specs.View.{message_view}
+use Rattle.pb_declarations.specs.declared.decl.MessageDecl.{MessageDecl}
+use Rattle.pb_declarations.specs.Decls.{messages_of}
+use Rattle.pb_declarations.specs.View.{message_view}
 use Rattle.pb_descr.specs.Writing.{message_body, message_bodies}
 use Rattle.pb_descr.proofs.DepthLemmas.{message_below, bodies_done, cut_further}
 use Rattle.std.specs.List.{AllByRecursion}
 use Rattle.pb_schema.proofs.AddLemmas.{take_past}
-use Rattle.pb_decl.specs.Nests.{nests}
+use Rattle.pb_declarations.specs.Nests.{nests}
 use Rattle.pb_descr.proofs.NestLemmas.{nest_each, taken_and_next, written_next}
 use Rattle.pb_descr.proofs.messages.+messages.Goals as goal
 

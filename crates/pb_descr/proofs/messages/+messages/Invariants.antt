@@ -1,8 +1,8 @@
 use Rattle.std.proofs.Common.{◌≡◌, ◌≤◌, map, take}
 use Rattle.std.specs.List.{AllByRecursion}
 use Rattle.pb_value.specs.View.{value_view}
-use Rattle.pb_decl.specs.View.{message_view}
-use Rattle.pb_decl.specs.Nests.{nests}
+use Rattle.pb_declarations.specs.View.{message_view}
+use Rattle.pb_declarations.specs.Nests.{nests}
 use Rattle.pb_descr.specs.Writing.{message_body}
 use Rattle.pb_descr.proofs.messages.+messages.Given as goal
 

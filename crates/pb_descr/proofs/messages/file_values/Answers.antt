@@ -3,12 +3,12 @@ use Rattle.std.specs.List.{AllByRecursion}
 use Rattle.std.proofs.lemmas.Result.{err_from_is_err_and}
 use Rattle.pb_value.specs.Data.{levels_of, datums_depth, datums_of}
 use Rattle.pb_value.specs.View.{value_view}
-use Rattle.pb_decl.specs.View.{file_view}
+use Rattle.pb_declarations.specs.View.{file_view}
 use Rattle.pb_descr.specs.Writing.{file_body}
 use Rattle.pb_schema.proofs.AddLemmas.{take_past}
-use Rattle.pb_decl.specs.Nests.{all_nest}
-use Rattle.pb_decl.specs.Decls.{DeclaredFile}
-use Rattle.pb_decl.specs.declared.decl.FileDecl.{FileDecl}
+use Rattle.pb_declarations.specs.Nests.{all_nest}
+use Rattle.pb_declarations.specs.Decls.{DeclaredFile}
+use Rattle.pb_declarations.specs.declared.decl.FileDecl.{FileDecl}
 use Rattle.pb_descr.proofs.DepthLemmas.{element_below, cut_further}
 use Rattle.pb_descr.proofs.NestLemmas.{taken_and_next, written_next}
 use Rattle.pb_descr.proofs.messages.file_values.Goals as goal

@@ -1,8 +1,8 @@
 use Rattle.std.proofs.Common.{◌≡◌, ◌≤◌, map, take}
 use Rattle.std.specs.List.{AllByRecursion}
 use Rattle.pb_value.specs.View.{value_view}
-use Rattle.pb_decl.specs.Nests.{all_nest}
-use Rattle.pb_decl.specs.View.{file_view}
+use Rattle.pb_declarations.specs.Nests.{all_nest}
+use Rattle.pb_declarations.specs.View.{file_view}
 use Rattle.pb_descr.specs.Writing.{file_body}
 use Rattle.pb_descr.proofs.messages.file_values.Given as goal
 

@@ -1,6 +1,6 @@
 use Rattle.std.proofs.Common.{rules}
 use Rattle.std.specs.Prelude.{string_bytes}
-use Rattle.pb_decl.specs.View.{enum_view, service_view}
+use Rattle.pb_declarations.specs.View.{enum_view, service_view}
 use Rattle.pb_descr.specs.Writing.{text_datum, enum_body, service_body}
 use Rattle.pb_descr.proofs.ContentLemmas.{map_twice}
 use Rattle.pb_descr.proofs.messages.file_with.Goals as goal

@@ -1,5 +1,5 @@
 use Rattle.std.proofs.Common.{map}
-use Rattle.pb_decl.specs.View.{file_view}
+use Rattle.pb_declarations.specs.View.{file_view}
 use Rattle.pb_descr.proofs.NestLemmas.{set_levels}
 use Rattle.pb_descr.proofs.messages.set_body.Goals as goal
 

@@ -1,8 +1,8 @@
 use Rattle.std.proofs.Common.{◌≡◌, ◌≤◌, ◌<◌, ◌-◌, suc, List, length, get_or, map, arith, subst}
 use Rattle.std.specs.List.{AllByRecursion}
-use Rattle.pb_decl.specs.declared.decl.MessageDecl.{MessageDecl}
-use Rattle.pb_decl.specs.Nests.{nests}
-use Rattle.pb_decl.specs.View.{message_view}
+use Rattle.pb_declarations.specs.declared.decl.MessageDecl.{MessageDecl}
+use Rattle.pb_declarations.specs.Nests.{nests}
+use Rattle.pb_declarations.specs.View.{message_view}
 use Rattle.pb_descr.specs.Ranges.{IsRangeInRange, IsMessageInRange}
 use Rattle.pb_descr.proofs.RangeLemmas.{ReadFields, ReadEnums, message_read, go_on}
 use Rattle.pb_descr.proofs.ranges.+read_messages.Goals as goal

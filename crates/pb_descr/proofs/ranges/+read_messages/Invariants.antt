@@ -1,7 +1,7 @@
 use Rattle.std.proofs.Common.{◌≤◌, map, drop}
 use Rattle.std.specs.List.{AllByRecursion}
-use Rattle.pb_decl.specs.Nests.{nests}
-use Rattle.pb_decl.specs.View.{message_view}
+use Rattle.pb_declarations.specs.Nests.{nests}
+use Rattle.pb_declarations.specs.View.{message_view}
 use Rattle.pb_descr.specs.Ranges.{IsMessageInRange}
 use Rattle.pb_descr.proofs.ranges.+read_messages.Given as goal
 

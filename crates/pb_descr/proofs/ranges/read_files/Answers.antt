@@ -1,7 +1,7 @@
 use Rattle.std.proofs.Common.{◌≤◌}
-use Rattle.pb_decl.specs.Decls.{DeclaredFile}
-use Rattle.pb_decl.specs.Nests.{all_nest}
-use Rattle.pb_decl.specs.View.{file_view}
+use Rattle.pb_declarations.specs.Decls.{DeclaredFile}
+use Rattle.pb_declarations.specs.Nests.{all_nest}
+use Rattle.pb_declarations.specs.View.{file_view}
 use Rattle.pb_descr.specs.Ranges.{IsFileInRange}
 use Rattle.pb_descr.proofs.RangeLemmas.{go_on}
 use Rattle.pb_descr.proofs.ranges.read_files.Goals as goal

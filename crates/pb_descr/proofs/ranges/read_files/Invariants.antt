@@ -1,7 +1,7 @@
 use Rattle.std.proofs.Common.{◌≤◌, map, drop}
 use Rattle.std.specs.List.{AllByRecursion}
-use Rattle.pb_decl.specs.Nests.{all_nest}
-use Rattle.pb_decl.specs.View.{file_view}
+use Rattle.pb_declarations.specs.Nests.{all_nest}
+use Rattle.pb_declarations.specs.View.{file_view}
 use Rattle.pb_descr.specs.Ranges.{IsFileInRange}
 use Rattle.pb_descr.proofs.ranges.read_files.Given as goal
 

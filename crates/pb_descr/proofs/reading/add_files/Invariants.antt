@@ -1,6 +1,6 @@
 use Rattle.std.proofs.Common.{◌≡◌, ◌++◌, map, take}
 use Rattle.pb_value.specs.View.{value_view}
-use Rattle.pb_decl.specs.View.{file_view}
+use Rattle.pb_declarations.specs.View.{file_view}
 use Rattle.pb_descr.specs.Reading.{file_in}
 use Rattle.pb_descr.proofs.reading.add_files.Given as goal
 

@@ -1,7 +1,7 @@
 use Rattle.std.proofs.Common.{◌≤◌, ◌+◌, List, [], length, map, sym, subst, arith, rules}
 use Rattle.pb_wire.specs.Limits.{full}
-use Rattle.pb_decl.specs.View.{file_view}
-use Rattle.pb_decl.specs.declared.decl.FileDecl.{FileDecl}
+use Rattle.pb_declarations.specs.View.{file_view}
+use Rattle.pb_declarations.specs.declared.decl.FileDecl.{FileDecl}
 use Rattle.pb_descr.specs.Sets.{IsSetOf}
 use Rattle.pb_descr.proofs.JoinedSets.{no_set, part_added}
 use Rattle.pb_descr.proofs.reading.read_parts.Goals as goal

@@ -1,6 +1,6 @@
 use Rattle.std.proofs.Common.{◌≤◌, ◌-◌, map, take, length}
 use Rattle.pb_wire.specs.Limits.{full}
-use Rattle.pb_decl.specs.View.{file_view}
+use Rattle.pb_declarations.specs.View.{file_view}
 use Rattle.pb_descr.specs.Sets.{IsSetOf}
 use Rattle.pb_descr.proofs.reading.read_parts.Given as goal
 

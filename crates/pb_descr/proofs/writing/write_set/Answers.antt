@@ -1,7 +1,7 @@
 use Rattle.std.proofs.Common.{◌<◌, ◌^◌, length, map, ap, ◌∙◌, subst}
 use Rattle.pb_value.specs.Dynamic.{Dynamic}
 use Rattle.pb_encode.specs.Encoding.{bytes_of}
-use Rattle.pb_decl.specs.View.{file_view}
+use Rattle.pb_declarations.specs.View.{file_view}
 use Rattle.pb_descr.proofs.WriteLemmas.{written_is_set}
 use Rattle.pb_descr.proofs.writing.write_set.Goals as goal
 

@@ -4,8 +4,8 @@ use Rattle.std.specs.List.{enumerate_from}
 use Rattle.pb_schema.specs.Types.{FileView}
 use Rattle.pb_schema.specs.View.{file_view as view_of_file}
 use Rattle.pb_schema.specs.Names.{name_at}
-use Rattle.pb_decl.specs.Decls.{messages_of}
-use Rattle.pb_decl.specs.View.{message_view, service_view}
+use Rattle.pb_declarations.specs.Decls.{messages_of}
+use Rattle.pb_declarations.specs.View.{message_view, service_view}
 use Rattle.pb_link.specs.Nested.{Insides, inside_view}
 use Rattle.pb_link.specs.ToDecls.{declared_file}
 use Rattle.pb_link.proofs.DeclarableLemmas.{all_at}

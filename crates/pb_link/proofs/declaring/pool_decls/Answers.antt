@@ -1,6 +1,6 @@
 use Rattle.std.proofs.Common.{◌≡◌, ℕ, length, map, drop, reverse, sym, ap, ◌∙◌, subst, arith}
 use Rattle.std.proofs.lemmas.List.{map_push, reverse-reverse}
-use Rattle.pb_decl.specs.View.{file_view}
+use Rattle.pb_declarations.specs.View.{file_view}
 use Rattle.pb_link.specs.ToDecls.{numbered, decls_of}
 use Rattle.pb_link.specs.Nested.{inside_view, inside_file, AreInside}
 use Rattle.pb_link.proofs.DeclaredLemmas.{map-reverse}

@@ -1,5 +1,5 @@
 use Rattle.std.proofs.Common.{◌≡◌, ◌≤◌, length, map, drop, reverse}
-use Rattle.pb_decl.specs.View.{file_view}
+use Rattle.pb_declarations.specs.View.{file_view}
 use Rattle.pb_link.specs.ToDecls.{numbered, decls_of}
 use Rattle.pb_link.specs.Nested.{inside_file, AreInside}
 use Rattle.pb_link.proofs.declaring.pool_decls.Given as goal

@@ -1,6 +1,6 @@
 use Rattle.std.proofs.Common.{◌≡◌, List, [], map, sym, subst}
-use Rattle.pb_decl.specs.View.{file_view}
-use Rattle.pb_decl.specs.declared.decl.FileDecl.{FileDecl}
+use Rattle.pb_declarations.specs.View.{file_view}
+use Rattle.pb_declarations.specs.declared.decl.FileDecl.{FileDecl}
 use Rattle.pb_descr.specs.Causes.{set_causes}
 use Rattle.pb_descr.specs.Sets.{IsWritable}
 use Rattle.pb_descr.specs.Writable.{IsWithinLimits}

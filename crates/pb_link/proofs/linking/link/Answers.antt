@@ -1,5 +1,5 @@
 use Rattle.std.proofs.Common.{map}
-use Rattle.pb_decl.specs.View.{file_view}
+use Rattle.pb_declarations.specs.View.{file_view}
 use Rattle.pb_link.proofs.LinkLemmas.{pool_accepted}
 use Rattle.pb_link.proofs.linking.link.Goals as goal
 

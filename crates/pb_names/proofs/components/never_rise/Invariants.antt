@@ -1,6 +1,6 @@
 use Rattle.std.proofs.Common.{ℕ, ◌<◌, ◌≤◌, All}
-use Rattle.pb_sets.specs.Flat.{lists_of}
-use Rattle.pb_sets.specs.Reach.{next_of}
+use Rattle.pb_graphs.specs.Flat.{lists_of}
+use Rattle.pb_graphs.specs.Reach.{next_of}
 use Rattle.pb_names.specs.Components.{number_of}
 use Rattle.pb_names.proofs.components.never_rise.Given as goal
 

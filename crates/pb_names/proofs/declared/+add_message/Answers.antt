@@ -1,7 +1,7 @@
 use Rattle.std.proofs.Common.{rules, map, length, ◌++◌, ap, sym, ◌∙◌}
 use Rattle.std.proofs.lemmas.List.{length-map}
-use Rattle.pb_decl.specs.Decls.{messages_of}
-use Rattle.pb_decl.specs.View.{message_view, enum_view}
+use Rattle.pb_declarations.specs.Decls.{messages_of}
+use Rattle.pb_declarations.specs.View.{message_view, enum_view}
 use Rattle.pb_names.specs.Declarations.{message_declared}
 use Rattle.pb_names.specs.View.{declaration_view}
 use Rattle.pb_names.proofs.RowLemmas.{messages_grown, message_added}

@@ -1,6 +1,6 @@
 use Rattle.std.proofs.Common.{◌≡◌, ◌++◌, length, map, take}
-use Rattle.pb_decl.specs.Decls.{messages_of}
-use Rattle.pb_decl.specs.View.{message_view}
+use Rattle.pb_declarations.specs.Decls.{messages_of}
+use Rattle.pb_declarations.specs.View.{message_view}
 use Rattle.pb_names.specs.Declarations.{messages_declared}
 use Rattle.pb_names.specs.View.{declaration_view}
 use Rattle.pb_names.proofs.declared.+add_message.Given as goal

@@ -1,5 +1,5 @@
 use Rattle.std.proofs.Common.{◌≡◌, ◌++◌, map, take, length}
-use Rattle.pb_decl.specs.View.{enum_view}
+use Rattle.pb_declarations.specs.View.{enum_view}
 use Rattle.pb_names.specs.Declarations.{enums_declared}
 use Rattle.pb_names.specs.View.{declaration_view}
 use Rattle.pb_names.proofs.declared.add_enums.Given as goal

@@ -1,6 +1,6 @@
 use Rattle.std.proofs.Common.{ℕ, map}
-use Rattle.pb_decl.specs.Decls.{DeclaredField}
-use Rattle.pb_decl.specs.View.{field_view, message_view}
+use Rattle.pb_declarations.specs.Decls.{DeclaredField}
+use Rattle.pb_declarations.specs.View.{field_view, message_view}
 use Rattle.pb_names.specs.Declarations.{Declaration, a_field, head_of}
 use Rattle.pb_names.specs.View.{declaration_view}
 use Rattle.pb_names.proofs.RowLemmas.{grown}

@@ -1,5 +1,5 @@
 use Rattle.std.proofs.Common.{◌≡◌, ◌++◌, map, take}
-use Rattle.pb_decl.specs.View.{field_view, message_view}
+use Rattle.pb_declarations.specs.View.{field_view, message_view}
 use Rattle.pb_names.specs.Declarations.{fields_of, head_of}
 use Rattle.pb_names.specs.View.{declaration_view}
 use Rattle.pb_names.proofs.declared.add_fields.Given as goal

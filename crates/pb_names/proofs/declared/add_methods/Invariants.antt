@@ -1,5 +1,5 @@
 use Rattle.std.proofs.Common.{◌≡◌, ◌++◌, map, take}
-use Rattle.pb_decl.specs.View.{method_view}
+use Rattle.pb_declarations.specs.View.{method_view}
 use Rattle.pb_names.specs.Declarations.{methods_of}
 use Rattle.pb_names.specs.View.{declaration_view}
 use Rattle.pb_names.proofs.declared.add_methods.Given as goal

@@ -1,5 +1,5 @@
 use Rattle.std.proofs.Common.{ℕ, List, map, string_bytes}
-use Rattle.pb_decl.specs.View.{message_view}
+use Rattle.pb_declarations.specs.View.{message_view}
 use Rattle.pb_names.specs.Declarations.{Declaration, a_oneof, head_of}
 use Rattle.pb_names.specs.View.{declaration_view}
 use Rattle.pb_names.proofs.RowLemmas.{grown}

@@ -1,6 +1,6 @@
 use Rattle.std.proofs.Common.{map, length, ◌++◌, ap, sym, ◌∙◌}
 use Rattle.std.proofs.lemmas.List.{length-map}
-use Rattle.pb_decl.specs.View.{service_view}
+use Rattle.pb_declarations.specs.View.{service_view}
 use Rattle.pb_names.specs.Declarations.{service_declared}
 use Rattle.pb_names.specs.View.{declaration_view}
 use Rattle.pb_names.proofs.RowLemmas.{services_grown}

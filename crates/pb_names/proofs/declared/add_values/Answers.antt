@@ -1,5 +1,5 @@
 use Rattle.std.proofs.Common.{ℕ, ℤ, List, map}
-use Rattle.pb_decl.specs.View.{enum_view, numbered_view}
+use Rattle.pb_declarations.specs.View.{enum_view, numbered_view}
 use Rattle.pb_names.specs.Declarations.{Declaration, a_value}
 use Rattle.pb_names.specs.View.{declaration_view}
 use Rattle.pb_names.proofs.RowLemmas.{grown}

@@ -1,5 +1,5 @@
 use Rattle.std.proofs.Common.{◌≡◌, ◌++◌, map, take}
-use Rattle.pb_decl.specs.View.{enum_view, numbered_view}
+use Rattle.pb_declarations.specs.View.{enum_view, numbered_view}
 use Rattle.pb_names.specs.Declarations.{values_of}
 use Rattle.pb_names.specs.View.{declaration_view}
 use Rattle.pb_names.proofs.declared.add_values.Given as goal

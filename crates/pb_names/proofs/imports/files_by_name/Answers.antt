@@ -5,9 +5,9 @@ use Rattle.std.specs.List.{position_from}
 use Rattle.std.specs.Str.{bytes_eq}
 use Rattle.std.proofs.lemmas.List.{length-map, length-set, get_or-set_same, get_or-set_other}
 use Rattle.pb_schema.proofs.LookupLemmas.{get_viewed}
-use Rattle.pb_decl.specs.Decls.{DeclaredFile}
-use Rattle.pb_decl.specs.declared.decl.FileDecl.{FileDecl}
-use Rattle.pb_decl.specs.View.{file_view}
+use Rattle.pb_declarations.specs.Decls.{DeclaredFile}
+use Rattle.pb_declarations.specs.declared.decl.FileDecl.{FileDecl}
+use Rattle.pb_declarations.specs.View.{file_view}
 use Rattle.pb_names.specs.Firsts.{first_at}
 use Rattle.pb_names.specs.Sees.{file_named}
 use Rattle.pb_names.specs.Graphs.{is_file}

@@ -1,8 +1,8 @@
 use Rattle.std.proofs.Common.{◌≡◌, ◌≤◌, ℕ, List, map, take, drop, length}
 use Rattle.std.specs.List.{position_from}
 use Rattle.std.specs.Str.{bytes_eq}
-use Rattle.pb_decl.specs.Decls.{DeclaredFile}
-use Rattle.pb_decl.specs.View.{file_view}
+use Rattle.pb_declarations.specs.Decls.{DeclaredFile}
+use Rattle.pb_declarations.specs.View.{file_view}
 use Rattle.pb_names.specs.Firsts.{first_at}
 use Rattle.pb_names.specs.Graphs.{joined_names}
 use Rattle.pb_names.proofs.GraphLemmas.{Marked}

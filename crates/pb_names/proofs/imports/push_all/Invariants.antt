@@ -1,6 +1,6 @@
 use Rattle.std.proofs.Common.{take}
 use Rattle.std.specs.Prelude.{filter_map}
-use Rattle.pb_sets.specs.Flat.{Grows}
+use Rattle.pb_graphs.specs.Flat.{Grows}
 use Rattle.pb_names.proofs.imports.push_all.Given as goal
 
 abbrev pub invariant-loop-index : goal.invariant-loop-index

@@ -1,9 +1,9 @@
 use Rattle.std.proofs.Common.{◌≡◌, ◌∙◌, [], List, ℕ, ℤ, Option, map, ap, sym, subst, arith}
 use Rattle.std.specs.Prelude.{filter_map, option_and_then, string_bytes}
 use Rattle.std.proofs.lemmas.Grind.{common_steps}
-use Rattle.pb_decl.specs.View.{file_view}
-use Rattle.pb_sets.specs.Flat.{Grows}
-use Rattle.pb_sets.proofs.FlatLemmas.{grows_none}
+use Rattle.pb_declarations.specs.View.{file_view}
+use Rattle.pb_graphs.specs.Flat.{Grows}
+use Rattle.pb_graphs.proofs.FlatLemmas.{grows_none}
 use Rattle.pb_names.specs.Firsts.{first_at}
 use Rattle.pb_names.specs.Sees.{file_named, import_at}
 use Rattle.pb_names.specs.Graphs.{target_at}

@@ -1,7 +1,7 @@
 use Rattle.std.proofs.Common.{◌∙◌, ap}
 use Rattle.std.specs.Prelude.{string_bytes}
 use Rattle.pb_names.specs.Firsts.{first_at}
-use Rattle.pb_sets.proofs.FlatLemmas.{grows_none}
+use Rattle.pb_graphs.proofs.FlatLemmas.{grows_none}
 use Rattle.pb_names.proofs.GraphLemmas.{named_more}
 use Rattle.pb_names.proofs.imports.push_named.Goals as goal
 

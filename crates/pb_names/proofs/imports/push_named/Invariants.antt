@@ -1,7 +1,7 @@
 use Rattle.std.proofs.Common.{map, take}
 use Rattle.std.specs.Prelude.{filter_map, string_bytes}
 use Rattle.pb_names.specs.Firsts.{first_at}
-use Rattle.pb_sets.specs.Flat.{Grows}
+use Rattle.pb_graphs.specs.Flat.{Grows}
 use Rattle.pb_names.proofs.imports.push_named.Given as goal
 
 abbrev pub invariant-loop-name : goal.invariant-loop-name

@@ -1,5 +1,5 @@
 use Rattle.std.proofs.Common.{rules}
-use Rattle.pb_sets.proofs.FlatLemmas.{grows_none}
+use Rattle.pb_graphs.proofs.FlatLemmas.{grows_none}
 use Rattle.pb_names.proofs.GraphLemmas.{public_more}
 use Rattle.pb_names.proofs.imports.push_public.Goals as goal
 

@@ -1,7 +1,7 @@
 use Rattle.std.proofs.Common.{take}
 use Rattle.std.specs.Prelude.{filter_map}
 use Rattle.pb_names.specs.Graphs.{target_at}
-use Rattle.pb_sets.specs.Flat.{Grows}
+use Rattle.pb_graphs.specs.Flat.{Grows}
 use Rattle.pb_names.proofs.imports.push_public.Given as goal
 
 abbrev pub invariant-loop-at : goal.invariant-loop-at

@@ -1,6 +1,6 @@
 use Rattle.std.proofs.Common.{ℤ, List, true, map, ◌&&◌, ◌∙◌, sym, ap, subst}
 use Rattle.std.specs.List.{list_all}
-use Rattle.pb_decl.specs.View.{enum_view}
+use Rattle.pb_declarations.specs.View.{enum_view}
 use Rattle.pb_names.specs.Reserved.{Reserves, with_end_behind}
 use Rattle.pb_names.specs.MarkRules.{is_enum_range, enum_ranges_overlap, none_overlap}
 use Rattle.pb_names.proofs.MarkLemmas.{mark_of}

@@ -1,8 +1,8 @@
 use Rattle.std.proofs.Common.{ℕ, ℤ, map, ◌++◌, ◌∷◌, [], not, ap, ◌∙◌}
 use Rattle.std.specs.Ordering.{int_cmp}
 use Rattle.std.specs.BTreeSet.{contains}
-use Rattle.pb_decl.specs.Decls.{DeclaredField}
-use Rattle.pb_decl.specs.View.{field_view, message_view}
+use Rattle.pb_declarations.specs.Decls.{DeclaredField}
+use Rattle.pb_declarations.specs.View.{field_view, message_view}
 use Rattle.pb_names.specs.Declarations.{a_field, head_of}
 use Rattle.pb_names.specs.declared.marks.Marks.{Marks}
 use Rattle.pb_names.specs.Marks.{marks_of}

@@ -2,7 +2,7 @@ use Rattle.std.proofs.Common.{◌≡◌, ℤ, map, take}
 use Rattle.std.specs.List.{list_any, enumerate_from}
 use Rattle.std.specs.Ordering.{int_eq, int_cmp}
 use Rattle.std.specs.BTreeSet.{contains}
-use Rattle.pb_decl.specs.View.{field_view, message_view}
+use Rattle.pb_declarations.specs.View.{field_view, message_view}
 use Rattle.pb_names.specs.Declarations.{a_field, head_of}
 use Rattle.pb_names.specs.Marks.{marks_of}
 use Rattle.pb_names.proofs.marks.field_marks.Given as goal

@@ -4,7 +4,7 @@ use Rattle.std.specs.Int.{w32}
 use Rattle.std.specs.List.{list_any}
 use Rattle.std.specs.Str.{bytes_eq}
 use Rattle.std.proofs.lemmas.Int.{to_z-of_z}
-use Rattle.pb_decl.specs.Decls.{MessageHead}
+use Rattle.pb_declarations.specs.Decls.{MessageHead}
 use Rattle.pb_names.specs.Reserved.{ReservesInMessage}
 use Rattle.pb_names.specs.MarkRules.{is_in_message_range}
 use Rattle.pb_names.proofs.ReservedLemmas.{kept_by_name, lost_by_number}

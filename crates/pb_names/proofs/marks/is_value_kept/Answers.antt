@@ -4,7 +4,7 @@ use Rattle.std.specs.Int.{w32}
 use Rattle.std.specs.List.{list_any}
 use Rattle.std.specs.Str.{bytes_eq}
 use Rattle.std.proofs.lemmas.Int.{to_z-of_z}
-use Rattle.pb_decl.specs.Decls.{DeclaredEnum}
+use Rattle.pb_declarations.specs.Decls.{DeclaredEnum}
 use Rattle.pb_names.specs.Reserved.{with_end_behind, ReservesInEnum}
 use Rattle.pb_names.specs.MarkRules.{is_in_message_range, is_in_enum_range}
 use Rattle.pb_names.proofs.ReservedLemmas.{enum_numbers, kept_by_name, lost_by_number}

@@ -1,6 +1,6 @@
 use Rattle.std.proofs.Common.{ℤ, List, ◌&&◌, ◌∙◌, sym, ap, subst}
 use Rattle.std.specs.List.{list_all}
-use Rattle.pb_decl.specs.View.{message_view}
+use Rattle.pb_declarations.specs.View.{message_view}
 use Rattle.pb_names.specs.Declarations.{head_of}
 use Rattle.pb_names.specs.Reserved.{Reserves}
 use Rattle.pb_names.specs.MarkRules.{is_message_range, message_ranges_overlap, none_overlap}

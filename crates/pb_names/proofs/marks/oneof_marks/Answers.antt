@@ -1,6 +1,6 @@
 use Rattle.std.proofs.Common.{ℕ, List, take, ◌++◌, ◌∷◌, [], ◌||◌, arith, sym, ap, ◌∙◌}
 use Rattle.std.specs.List.{list_any, enumerate_from}
-use Rattle.pb_decl.specs.View.{message_view}
+use Rattle.pb_declarations.specs.View.{message_view}
 use Rattle.pb_names.specs.Declarations.{a_oneof, head_of, is_synthetic}
 use Rattle.pb_names.specs.declared.marks.Marks.{Marks}
 use Rattle.pb_names.specs.Marks.{marks_of}

@@ -1,5 +1,5 @@
 use Rattle.std.proofs.Common.{true, ◌||◌, ap, ◌∙◌}
-use Rattle.pb_decl.specs.View.{enum_view}
+use Rattle.pb_declarations.specs.View.{enum_view}
 use Rattle.pb_names.proofs.MarkLemmas.{mark_of}
 use Rattle.pb_names.proofs.marks.value_mark.Goals as goal
 

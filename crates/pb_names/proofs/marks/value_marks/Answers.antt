@@ -1,7 +1,7 @@
 use Rattle.std.proofs.Common.{ℕ, ℤ, List, map, ◌++◌, ◌∷◌, [], not, ap, ◌∙◌}
 use Rattle.std.specs.Ordering.{int_cmp}
 use Rattle.std.specs.BTreeSet.{contains}
-use Rattle.pb_decl.specs.View.{numbered_view, enum_view}
+use Rattle.pb_declarations.specs.View.{numbered_view, enum_view}
 use Rattle.pb_names.specs.Declarations.{a_value}
 use Rattle.pb_names.specs.declared.marks.Marks.{Marks}
 use Rattle.pb_names.specs.Marks.{marks_of}

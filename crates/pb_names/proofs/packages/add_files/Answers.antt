@@ -1,6 +1,6 @@
 use Rattle.std.proofs.Common.{List, ℕ, map, subst}
 use Rattle.std.proofs.lemmas.List.{take_all}
-use Rattle.pb_decl.specs.View.{file_view}
+use Rattle.pb_declarations.specs.View.{file_view}
 use Rattle.pb_names.specs.NameSets.{AddsPackages}
 use Rattle.pb_names.proofs.NameSetsLemmas.{packages_first, packages_next}
 use Rattle.pb_names.proofs.packages.add_files.Goals as goal

@@ -1,5 +1,5 @@
 use Rattle.std.proofs.Common.{map, take}
-use Rattle.pb_decl.specs.View.{file_view}
+use Rattle.pb_declarations.specs.View.{file_view}
 use Rattle.pb_names.specs.NameSets.{AddsPackages}
 use Rattle.pb_names.proofs.packages.add_files.Given as goal
 

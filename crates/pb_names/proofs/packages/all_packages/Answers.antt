@@ -1,6 +1,6 @@
 use Rattle.std.proofs.Common.{map, arith}
 use Rattle.std.proofs.lemmas.List.{length-map}
-use Rattle.pb_decl.specs.View.{file_view}
+use Rattle.pb_declarations.specs.View.{file_view}
 use Rattle.pb_names.proofs.NameSetsLemmas.{packages_below, all_exact}
 use Rattle.pb_names.proofs.packages.all_packages.Goals as goal
 

@@ -1,5 +1,5 @@
 use Rattle.std.proofs.Common.{map}
-use Rattle.pb_decl.specs.View.{file_view}
+use Rattle.pb_declarations.specs.View.{file_view}
 use Rattle.pb_names.specs.NameSets.{ArePackagesAt}
 use Rattle.pb_names.proofs.NameSetsLemmas.{below}
 use Rattle.pb_names.proofs.packages.all_packages.Given as goal

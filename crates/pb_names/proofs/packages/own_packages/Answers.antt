@@ -1,5 +1,5 @@
 use Rattle.std.proofs.Common.{[], Option, ℕ, map, subst, sym}
-use Rattle.pb_decl.specs.View.{file_view}
+use Rattle.pb_declarations.specs.View.{file_view}
 use Rattle.pb_names.specs.NameSets.{own_index, ArePackagesAt}
 use Rattle.pb_names.proofs.NameSetsLemmas.{packages_none, packages_more}
 use Rattle.pb_names.proofs.packages.own_packages.Goals as goal

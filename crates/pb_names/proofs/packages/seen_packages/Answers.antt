@@ -1,5 +1,5 @@
 use Rattle.std.proofs.Common.{◌++◌, List, ℕ, map, subst}
-use Rattle.pb_decl.specs.View.{file_view}
+use Rattle.pb_declarations.specs.View.{file_view}
 use Rattle.pb_names.specs.NameSets.{own_index, ArePackagesAt}
 use Rattle.pb_names.proofs.NameSetsLemmas.{seen_exact}
 use Rattle.pb_names.proofs.packages.seen_packages.Goals as goal

@@ -1,9 +1,9 @@
 use Rattle.std.proofs.Common.{◌≡◌, List, length, map, vec_len}
-use Rattle.pb_decl.specs.Decls.{DeclaredFile}
+use Rattle.pb_declarations.specs.Decls.{DeclaredFile}
 use Rattle.pb_rules.specs.Rules.{World}
 use Rattle.pb_rules.specs.Link.{IsWorldOf}
-use Rattle.pb_sets.specs.Flat.{lists_of}
-use Rattle.pb_sets.specs.Reach.{IsListed}
+use Rattle.pb_graphs.specs.Flat.{lists_of}
+use Rattle.pb_graphs.specs.Reach.{IsListed}
 use Rattle.pb_names.specs.Graphs.{AreImports}
 use Rattle.pb_names.specs.View.{declaration_view}
 use Rattle.pb_rules.proofs.TableLemmas.{IsHeldBefore}

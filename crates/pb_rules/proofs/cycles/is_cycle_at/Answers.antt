@@ -1,6 +1,6 @@
 use Rattle.std.proofs.Common.{sym, ◌∙◌, ap}
 use Rattle.std.specs.Prelude.{option_map}
-use Rattle.pb_decl.specs.View.{file_view}
+use Rattle.pb_declarations.specs.View.{file_view}
 use Rattle.pb_names.specs.View.{declaration_view}
 use Rattle.pb_rules.proofs.NamesLemmas.{cycle_told}
 use Rattle.pb_rules.proofs.cycles.is_cycle_at.Goals as goal

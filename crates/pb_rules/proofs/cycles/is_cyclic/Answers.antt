@@ -1,6 +1,6 @@
 use Rattle.std.proofs.Common.{◌<◌, All, subst}
 use Rattle.std.proofs.lemmas.Bool.{false≢true}
-use Rattle.pb_sets.specs.Flat.{lists_of}
+use Rattle.pb_graphs.specs.Flat.{lists_of}
 use Rattle.pb_names.specs.Components.{number_of}
 use Rattle.pb_names.proofs.ComponentLemmas.{not_back}
 use Rattle.pb_rules.proofs.cycles.is_cyclic.Goals as goal

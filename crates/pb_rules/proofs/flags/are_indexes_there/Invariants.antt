@@ -1,6 +1,6 @@
 use Rattle.std.proofs.Common.{◌≡◌, drop}
 use Rattle.std.specs.List.{list_all}
-use Rattle.pb_decl.specs.View.{file_view}
+use Rattle.pb_declarations.specs.View.{file_view}
 use Rattle.pb_rules.specs.Rules.{is_import_index}
 use Rattle.pb_rules.proofs.flags.are_indexes_there.Given as goal
 

@@ -1,6 +1,6 @@
 use Rattle.std.proofs.Common.{map, not, ap, ◌∙◌}
 use Rattle.std.specs.List.{list_any, list_all}
-use Rattle.pb_decl.specs.View.{method_view, file_view}
+use Rattle.pb_declarations.specs.View.{method_view, file_view}
 use Rattle.pb_names.specs.ItemView.{item_view}
 use Rattle.pb_names.specs.Lookup.{not_found, not_visible, not_a_type}
 use Rattle.pb_rules.specs.Rules.{is_same_fault, passes, is_message}

@@ -1,5 +1,5 @@
 use Rattle.std.proofs.Common.{◌∙◌, map, sym, ap}
-use Rattle.pb_decl.specs.View.{file_view}
+use Rattle.pb_declarations.specs.View.{file_view}
 use Rattle.pb_names.specs.View.{declaration_view}
 use Rattle.pb_rules.specs.Rules.{lookups}
 use Rattle.pb_rules.proofs.WorldLemmas.{a_world}

@@ -1,5 +1,5 @@
 use Rattle.std.proofs.Common.{◌∙◌, map, take, ap}
-use Rattle.pb_decl.specs.View.{file_view}
+use Rattle.pb_declarations.specs.View.{file_view}
 use Rattle.pb_names.specs.View.{declaration_view, type_names_view}
 use Rattle.pb_names.specs.TypeRefs.{refs_view}
 use Rattle.pb_rules.proofs.NamesLemmas.{right_names}

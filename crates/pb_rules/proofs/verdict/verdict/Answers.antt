@@ -1,5 +1,5 @@
 use Rattle.std.proofs.Common.{◌≡◌, ◌<◌, Some, None, map, length, sym, ◌∙◌, rules}
-use Rattle.pb_decl.specs.View.{file_view}
+use Rattle.pb_declarations.specs.View.{file_view}
 use Rattle.pb_rules.specs.Link.{first_fault}
 use Rattle.pb_names.specs.View.{declaration_view}
 use Rattle.pb_rules.proofs.FaultLemmas.{silent_fault, row_within, told_there, file_within, file_there, told_refused, told_fault}

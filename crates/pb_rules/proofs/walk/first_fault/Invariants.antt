@@ -1,5 +1,5 @@
 use Rattle.std.proofs.Common.{map}
-use Rattle.pb_decl.specs.View.{file_view}
+use Rattle.pb_declarations.specs.View.{file_view}
 use Rattle.pb_rules.proofs.TableLemmas.{IsWalked}
 use Rattle.pb_rules.proofs.walk.first_fault.Given as goal
 

@@ -1,7 +1,7 @@
 use Rattle.std.proofs.Common.{◌≡◌, ◌≤◌, ℕ, List, length, ap, sym, subst, ◌∙◌, inr}
 use Rattle.std.proofs.lemmas.Result.{err_from_is_err_and}
-use Rattle.pb_decl.specs.Decls.{DeclaredFile}
-use Rattle.pb_decl.specs.View.{file_view}
+use Rattle.pb_declarations.specs.Decls.{DeclaredFile}
+use Rattle.pb_declarations.specs.View.{file_view}
 use Rattle.pb_tokens.specs.declared.fault.SourceCause.{SourceCause}
 use Rattle.pb_tokens.specs.declared.fault.SourceFault.{SourceFault}
 use Rattle.pb_source.specs.declared.reading.Reading.{Reading}

@@ -1,7 +1,7 @@
 -- Each source is read, or the first that is none is told.
 use Rattle.std.proofs.Common.{◌≡◌, ◌+◌, ◌++◌, ◌∷◌, [], take, map, sym, ap, subst, arith, ◌∙◌}
 use Rattle.std.proofs.lemmas.Result.{err_from_is_err_and}
-use Rattle.pb_decl.specs.View.{file_view}
+use Rattle.pb_declarations.specs.View.{file_view}
 use Rattle.pb_schema.proofs.NameLemmas.{map_push}
 use Rattle.pb_c.specs.SourcePool.{Bytes, AreSources}
 use Rattle.pb_c.proofs.SourceSteps.{name_at, source_read, unparsed_at}

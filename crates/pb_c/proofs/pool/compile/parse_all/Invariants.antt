@@ -1,6 +1,6 @@
 -- The sources so far are parsed.
 use Rattle.std.proofs.Common.{take, map}
-use Rattle.pb_decl.specs.View.{file_view}
+use Rattle.pb_declarations.specs.View.{file_view}
 use Rattle.pb_c.specs.SourcePool.{AreSources}
 use Rattle.pb_c.proofs.pool.compile.parse_all.Given as goal
 

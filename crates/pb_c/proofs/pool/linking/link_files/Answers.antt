@@ -1,6 +1,6 @@
 -- The fault of files that do not link is the one that was told.
 use Rattle.std.proofs.Common.{map}
-use Rattle.pb_decl.specs.View.{file_view}
+use Rattle.pb_declarations.specs.View.{file_view}
 use Rattle.pb_c.specs.PoolFault.{TellsRefusal}
 use Rattle.pb_c.proofs.LinkTelling.{unlinked}
 use Rattle.pb_c.proofs.pool.linking.link_files.Goals as goal

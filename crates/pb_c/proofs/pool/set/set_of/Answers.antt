@@ -1,8 +1,8 @@
 -- The set that is written is that of the pool's declarations, which link to its types.
 use Rattle.std.proofs.Common.{◌≤◌, ◌<◌, ◌^◌, List, ap, length, map, subst, ◌∙◌}
 use Rattle.pb_value.specs.Data.{message_depth}
-use Rattle.pb_decl.specs.Decls.{DeclaredFile}
-use Rattle.pb_decl.specs.View.{file_view}
+use Rattle.pb_declarations.specs.Decls.{DeclaredFile}
+use Rattle.pb_declarations.specs.View.{file_view}
 use Rattle.pb_descr.specs.Sets.{set_bytes}
 use Rattle.pb_descr.specs.Writing.{set_body}
 use Rattle.pb_c.proofs.pool.set.set_of.Goals as goal

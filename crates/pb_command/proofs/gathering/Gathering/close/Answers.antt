@@ -1,7 +1,7 @@
 use Rattle.std.proofs.Common.{◌≡◌, ◌∙◌, [], ◌∷◌, length, arith}
 use Rattle.std.proofs.lemmas.List.{nil_from_length}
 use Rattle.std.proofs.lemmas.Result.{err_from_is_err_and}
-use Rattle.pb_decl.specs.View.{file_view}
+use Rattle.pb_declarations.specs.View.{file_view}
 use Rattle.pb_command.specs.CompileAnswer.{places_of}
 use Rattle.pb_command.specs.Gathering.{imported}
 use Rattle.pb_command.specs.Reaching.{StopsInside, opened, open_view, reached, stack_of}

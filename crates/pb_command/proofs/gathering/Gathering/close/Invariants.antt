@@ -1,5 +1,5 @@
 use Rattle.std.proofs.Common.{◌≡◌, [], ◌∷◌, true}
-use Rattle.pb_decl.specs.View.{file_view}
+use Rattle.pb_declarations.specs.View.{file_view}
 use Rattle.pb_command.specs.CompileAnswer.{places_of}
 use Rattle.pb_files.specs.FileMap.{KeepsMap}
 use Rattle.pb_command.specs.Reaching.{opened, reached, stack_of}

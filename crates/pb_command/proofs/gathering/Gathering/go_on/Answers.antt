@@ -2,11 +2,11 @@ use Rattle.std.proofs.Common.{◌≡◌, ◌∙◌, ◌+◌, [], ◌∷◌, leng
 use Rattle.std.specs.Prelude.{string_bytes}
 use Rattle.std.proofs.lemmas.List.{map-append}
 use Rattle.std.proofs.lemmas.Result.{err_from_is_err_and}
-use Rattle.pb_decl.specs.View.{file_view}
+use Rattle.pb_declarations.specs.View.{file_view}
 use Rattle.pb_files.specs.Answer.{Answer}
 use Rattle.pb_command.specs.CompileAnswer.{places_of, told_of}
 use Rattle.pb_command.specs.Gathering.{Trouble}
-use Rattle.pb_sets.specs.NameSets.{names_in}
+use Rattle.pb_graphs.specs.NameSets.{names_in}
 use Rattle.pb_command.specs.Reaching.{RefusesImport, StopsInside, open_view, reached}
 use Rattle.pb_command.specs.Steps.{AbsentOf, DeclaredOf, TroubleOf}
 use Rattle.pb_files.proofs.RefusalLemmas.{refuses_map}

@@ -1,10 +1,10 @@
 use Rattle.std.proofs.Common.{◌≡◌, ◌∙◌, false, sym}
 use Rattle.std.proofs.lemmas.Result.{err_from_is_err_and}
-use Rattle.pb_decl.specs.View.{file_view}
+use Rattle.pb_declarations.specs.View.{file_view}
 use Rattle.std.proofs.Common.{map}
 use Rattle.pb_command.specs.CompileAnswer.{places_of}
 use Rattle.pb_command.specs.Gathering.{is_known}
-use Rattle.pb_sets.specs.NameSets.{names_in}
+use Rattle.pb_graphs.specs.NameSets.{names_in}
 use Rattle.pb_command.specs.Reaching.{reached}
 use Rattle.pb_files.proofs.KnownLemmas.{keeps_then}
 use Rattle.pb_command.proofs.GatherSteps.{given_inside, given_known, given_read, given_refused, name_reached}

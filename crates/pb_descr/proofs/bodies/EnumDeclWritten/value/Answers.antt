@@ -1,6 +1,6 @@
 use Rattle.std.proofs.Common.{rules}
 use Rattle.std.specs.Prelude.{string_bytes}
-use Rattle.pb_decl.specs.View.{numbered_view}
+use Rattle.pb_declarations.specs.View.{numbered_view}
 use Rattle.pb_descr.specs.Writing.{value_body, text_datum}
 use Rattle.pb_descr.proofs.ContentLemmas.{map_twice}
 use Rattle.pb_descr.proofs.bodies.EnumDeclWritten.value.Goals as goal

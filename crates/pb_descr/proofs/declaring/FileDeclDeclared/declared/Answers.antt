@@ -1,7 +1,7 @@
 use Rattle.std.proofs.Common.{map, sym, ap, ◌∙◌}
 use Rattle.std.specs.Prelude.{filter_map}
 use Rattle.pb_value.specs.View.{value_view}
-use Rattle.pb_decl.specs.Decls.{messages_of}
+use Rattle.pb_declarations.specs.Decls.{messages_of}
 use Rattle.pb_descr.specs.Held.{fields_in, text_in, int_in}
 use Rattle.pb_descr.specs.Reading.{message_in, enum_in, service_in}
 use Rattle.pb_descr.proofs.HeldLemmas.{messages_at-data}

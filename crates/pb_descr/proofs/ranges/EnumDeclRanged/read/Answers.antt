@@ -1,6 +1,6 @@
 use Rattle.std.proofs.Common.{subst}
 use Rattle.std.specs.List.{AllByRecursion}
-use Rattle.pb_decl.specs.View.{numbered_view}
+use Rattle.pb_declarations.specs.View.{numbered_view}
 use Rattle.pb_descr.specs.Ranges.{IsRangeInRange, IsValueInRange}
 use Rattle.pb_descr.proofs.RangeLemmas.{enum_read}
 use Rattle.pb_descr.proofs.ranges.EnumDeclRanged.read.Goals as goal

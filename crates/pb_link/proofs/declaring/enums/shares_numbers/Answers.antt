@@ -2,7 +2,7 @@ use Rattle.std.proofs.Common.{◌≡◌, Bool, true, false, not, ap, sym, ◌∙
 use Rattle.std.specs.Ordering.{int_cmp}
 use Rattle.std.specs.BTreeSet.{contains}
 use Rattle.std.proofs.lemmas.List.{take_all}
-use Rattle.pb_decl.specs.View.{numbered_view}
+use Rattle.pb_declarations.specs.View.{numbered_view}
 use Rattle.pb_link.specs.ToDecls.{shares_numbers}
 use Rattle.pb_link.proofs.DeclaredLemmas.{none_yet, apart_more, shared}
 use Rattle.pb_link.proofs.declaring.enums.shares_numbers.Goals as goal

@@ -1,7 +1,7 @@
 use Rattle.std.proofs.Common.{map, take}
 use Rattle.std.specs.Ordering.{int_cmp}
 use Rattle.std.specs.BTreeSet.{contains}
-use Rattle.pb_decl.specs.View.{numbered_view}
+use Rattle.pb_declarations.specs.View.{numbered_view}
 use Rattle.pb_link.proofs.DeclaredLemmas.{NoneShared}
 use Rattle.pb_link.proofs.declaring.enums.shares_numbers.Given as goal
 

@@ -1,5 +1,5 @@
 use Rattle.std.proofs.Common.{◌≡◌, map, take}
-use Rattle.pb_decl.specs.View.{numbered_view}
+use Rattle.pb_declarations.specs.View.{numbered_view}
 use Rattle.pb_link.proofs.declaring.enums.value_decls.Given as goal
 
 abbrev pub invariant-loop-value : goal.invariant-loop-value

@@ -1,6 +1,6 @@
 use Rattle.std.proofs.Common.{map}
 use Rattle.pb_schema.specs.View.{field_view}
-use Rattle.pb_decl.specs.View.{message_view}
+use Rattle.pb_declarations.specs.View.{message_view}
 use Rattle.pb_link.proofs.DeclarableLemmas.{field_at}
 use Rattle.pb_link.proofs.DeclaredLemmas.{entries_more}
 use Rattle.pb_link.proofs.declaring.fields.add_entries.Goals as goal

@@ -1,7 +1,7 @@
 use Rattle.std.proofs.Common.{◌≡◌, ◌++◌, map, take}
 use Rattle.std.specs.Prelude.{filter_map}
 use Rattle.pb_schema.specs.View.{field_view}
-use Rattle.pb_decl.specs.View.{message_view}
+use Rattle.pb_declarations.specs.View.{message_view}
 use Rattle.pb_link.specs.ToDecls.{entry_of_field}
 use Rattle.pb_link.proofs.declaring.fields.add_entries.Given as goal
 

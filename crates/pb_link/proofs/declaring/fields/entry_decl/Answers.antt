@@ -2,9 +2,9 @@ use Rattle.std.proofs.Common.{◌≡◌, map, true, sym, ◌∙◌, rules, subst
 use Rattle.std.specs.Prelude.{string_bytes, IsUtf8}
 use Rattle.std.proofs.lemmas.Str.{IsUtf8-from_ascii}
 use Rattle.pb_schema.specs.Names.{entry_name}
-use Rattle.pb_decl.specs.View.{enum_view, message_view}
-use Rattle.pb_decl.specs.Decls.{message, messages_of}
-use Rattle.pb_decl.proofs.ViewLemmas.{message_view-roll}
+use Rattle.pb_declarations.specs.View.{enum_view, message_view}
+use Rattle.pb_declarations.specs.Decls.{message, messages_of}
+use Rattle.pb_declarations.proofs.ViewLemmas.{message_view-roll}
 use Rattle.pb_link.proofs.declaring.fields.entry_decl.Goals as goal
 
 pub returns : goal.returns

@@ -1,7 +1,7 @@
 use Rattle.std.proofs.Common.{◌≤◌, ◌+◌, map, sym, ap, ◌∙◌, arith, subst, ℕ}
 use Rattle.std.proofs.lemmas.List.{map_push}
 use Rattle.pb_schema.specs.View.{field_view as view_of_field}
-use Rattle.pb_decl.specs.View.{field_view}
+use Rattle.pb_declarations.specs.View.{field_view}
 use Rattle.pb_link.specs.ToDecls.{is_optional_view, declared_fields}
 use Rattle.pb_link.proofs.DeclarableLemmas.{field_at}
 use Rattle.pb_link.proofs.DeclaredLemmas.{fields_more, fields_end, at_most_one}

@@ -1,6 +1,6 @@
 use Rattle.std.proofs.Common.{◌≡◌, ◌≤◌, ◌+◌, ◌++◌, map, drop}
 use Rattle.pb_schema.specs.View.{field_view as view_of_field}
-use Rattle.pb_decl.specs.View.{field_view}
+use Rattle.pb_declarations.specs.View.{field_view}
 use Rattle.pb_link.specs.ToDecls.{declared_fields}
 use Rattle.pb_link.proofs.declaring.fields.field_decls.Given as goal
 

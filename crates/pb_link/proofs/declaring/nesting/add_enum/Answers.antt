@@ -1,6 +1,6 @@
 use Rattle.std.proofs.Common.{◌<◌, ◌≤◌, ap, map, ◌∙◌, length, rules}
 use Rattle.std.proofs.lemmas.List.{map_push}
-use Rattle.pb_decl.specs.View.{message_view, enum_view}
+use Rattle.pb_declarations.specs.View.{message_view, enum_view}
 use Rattle.pb_link.specs.Nested.{with_enum}
 use Rattle.pb_link.proofs.DeclaredLemmas.{changes_set, changes_none}
 use Rattle.pb_link.proofs.declaring.nesting.add_enum.Goals as goal

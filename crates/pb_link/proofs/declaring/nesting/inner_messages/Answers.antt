@@ -1,8 +1,8 @@
 use Rattle.std.proofs.Common.{map, ap, ◌∙◌, ◌++◌, List}
 use Rattle.std.specs.Prelude.{filter_map}
 use Rattle.pb_schema.specs.View.{field_view}
-use Rattle.pb_decl.specs.Decls.{DeclaredMessage}
-use Rattle.pb_decl.specs.View.{message_view}
+use Rattle.pb_declarations.specs.Decls.{DeclaredMessage}
+use Rattle.pb_declarations.specs.View.{message_view}
 use Rattle.pb_link.specs.ToDecls.{entry_of_field}
 use Rattle.pb_link.proofs.DeclaredLemmas.{map-reverse}
 use Rattle.pb_link.proofs.declaring.nesting.inner_messages.Goals as goal

@@ -6,14 +6,14 @@ use Rattle.pb_schema.specs.Types.{MessageView}
 use Rattle.pb_schema.specs.View.{message_view as view_of_message, field_view as view_of_field}
 use Rattle.pb_schema.specs.declared.types.Field.{Field}
 use Rattle.pb_schema.proofs.NameTreeLemmas.{name_at-get}
-use Rattle.pb_decl.specs.Decls.{message, messages_of}
+use Rattle.pb_declarations.specs.Decls.{message, messages_of}
 use Rattle.pb_link.specs.Declarable.{AreDeclarable}
 use Rattle.pb_link.specs.Nested.{Insides, inside_view, whole_message}
 use Rattle.pb_link.specs.ToDecls.{declared_fields, entry_of_field, synthetic_names}
 use Rattle.pb_link.proofs.AsciiLemmas.{message_name_ascii}
 use Rattle.pb_link.proofs.DeclarableLemmas.{declarable, few_fields, few_members}
 use Rattle.pb_link.proofs.DeclaredLemmas.{listed_size, viewed_get}
-use Rattle.pb_decl.proofs.ViewLemmas.{message_view-roll}
+use Rattle.pb_declarations.proofs.ViewLemmas.{message_view-roll}
 use Rattle.pb_link.proofs.NestedLemmas.{inner_whole, whole_is}
 use Rattle.pb_link.proofs.declaring.nesting.message_decl.Goals as goal
 

@@ -1,7 +1,7 @@
 use Rattle.std.proofs.Common.{◌≡◌, length, subst, arith, Some}
 use Rattle.std.specs.Prelude.{slice_get}
 use Rattle.pb_schema.specs.View.{message_view as view_of_message}
-use Rattle.pb_decl.specs.Decls.{DeclaredMessage}
+use Rattle.pb_declarations.specs.Decls.{DeclaredMessage}
 use Rattle.pb_link.specs.Nested.{PlacesAt, with_message}
 use Rattle.pb_link.proofs.DeclaredLemmas.{listed_size, viewed_get}
 use Rattle.pb_link.proofs.NestedLemmas.{message_placed}

@@ -1,8 +1,8 @@
 use Rattle.std.proofs.Common.{map, ap, ◌∙◌, arith, rules}
 use Rattle.std.specs.Vec.{with_items}
 use Rattle.std.proofs.lemmas.List.{with_items_is}
-use Rattle.pb_decl.specs.View.{message_view}
-use Rattle.pb_decl.specs.declared.decl.MessageDecl.{out-MessageDecl}
+use Rattle.pb_declarations.specs.View.{message_view}
+use Rattle.pb_declarations.specs.declared.decl.MessageDecl.{out-MessageDecl}
 use Rattle.pb_link.specs.EnumMaps.{message_without_maps}
 use Rattle.pb_link.proofs.EnumMapLemmas.{one_changed, all_changed, with_mark, same_messages, message_changed}
 use Rattle.pb_link.proofs.resolving.enum_maps.+list_maps.Goals as goal

@@ -1,5 +1,5 @@
 use Rattle.std.proofs.Common.{map}
-use Rattle.pb_decl.specs.View.{message_view}
+use Rattle.pb_declarations.specs.View.{message_view}
 use Rattle.pb_link.specs.EnumMaps.{message_without_maps}
 use Rattle.pb_link.proofs.EnumMapLemmas.{ChangedBelow}
 use Rattle.pb_link.proofs.resolving.enum_maps.+list_maps.Given as goal

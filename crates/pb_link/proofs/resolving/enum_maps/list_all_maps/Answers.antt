@@ -1,5 +1,5 @@
 use Rattle.std.proofs.Common.{map, arith}
-use Rattle.pb_decl.specs.View.{file_view}
+use Rattle.pb_declarations.specs.View.{file_view}
 use Rattle.pb_link.specs.EnumMaps.{file_without_maps}
 use Rattle.pb_link.proofs.EnumMapLemmas.{one_changed, all_changed}
 use Rattle.pb_link.proofs.resolving.enum_maps.list_all_maps.Goals as goal

@@ -1,7 +1,7 @@
 use Rattle.std.proofs.Common.{map, ap, ◌∙◌, rules}
 use Rattle.std.specs.Vec.{with_items}
 use Rattle.std.proofs.lemmas.List.{with_items_is}
-use Rattle.pb_decl.specs.View.{message_view}
+use Rattle.pb_declarations.specs.View.{message_view}
 use Rattle.pb_link.specs.EnumMaps.{message_without_maps}
 use Rattle.pb_link.proofs.EnumMapLemmas.{file_changed}
 use Rattle.pb_link.proofs.resolving.enum_maps.list_maps_of.Goals as goal

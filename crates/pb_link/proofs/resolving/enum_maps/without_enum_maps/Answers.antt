@@ -1,6 +1,6 @@
 use Rattle.std.proofs.Common.{map, ap, ◌∙◌, rules}
 use Rattle.std.proofs.lemmas.List.{with_items_is}
-use Rattle.pb_decl.specs.View.{file_view}
+use Rattle.pb_declarations.specs.View.{file_view}
 use Rattle.pb_link.specs.EnumMaps.{file_without_maps}
 use Rattle.pb_link.proofs.EnumMapLemmas.{lists_same}
 use Rattle.pb_link.proofs.resolving.enum_maps.without_enum_maps.Goals as goal

@@ -1,5 +1,5 @@
 use Rattle.std.proofs.Common.{◌≡◌, map, take}
-use Rattle.pb_decl.specs.View.{enum_view}
+use Rattle.pb_declarations.specs.View.{enum_view}
 use Rattle.pb_link.proofs.resolving.enums.copied_enums.Given as goal
 
 abbrev pub invariant-loop-entry : goal.invariant-loop-entry

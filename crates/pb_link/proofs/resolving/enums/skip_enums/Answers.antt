@@ -1,4 +1,4 @@
-use Rattle.pb_decl.specs.View.{enum_view}
+use Rattle.pb_declarations.specs.View.{enum_view}
 use Rattle.pb_link.specs.Resolving.{coming, behind_enum}
 use Rattle.pb_link.proofs.ResolvingLemmas.{behind_more, behind_end}
 use Rattle.pb_link.proofs.resolving.enums.skip_enums.Goals as goal

@@ -1,5 +1,5 @@
 use Rattle.std.proofs.Common.{◌≡◌, map, drop}
-use Rattle.pb_decl.specs.View.{enum_view}
+use Rattle.pb_declarations.specs.View.{enum_view}
 use Rattle.pb_link.specs.Resolving.{coming, each_behind, behind_enum}
 use Rattle.pb_link.proofs.resolving.enums.skip_enums.Given as goal
 

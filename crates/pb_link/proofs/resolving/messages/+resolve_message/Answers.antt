@@ -1,16 +1,16 @@
 use Rattle.std.proofs.Common.{◌≡◌, map, length, ap, sym, ◌∙◌, arith, rules}
 use Rattle.std.specs.Prelude.{string_bytes}
 use Rattle.std.proofs.lemmas.List.{length-map}
-use Rattle.pb_decl.specs.Decls.{messages_of}
-use Rattle.pb_decl.specs.View.{field_view, enum_view, message_view}
-use Rattle.pb_decl.proofs.ViewLemmas.{message_view-roll}
-use Rattle.pb_decl.specs.declared.decl.MessageDecl.{out-MessageDecl}
+use Rattle.pb_declarations.specs.Decls.{messages_of}
+use Rattle.pb_declarations.specs.View.{field_view, enum_view, message_view}
+use Rattle.pb_declarations.proofs.ViewLemmas.{message_view-roll}
+use Rattle.pb_declarations.specs.declared.decl.MessageDecl.{out-MessageDecl}
 use Rattle.pb_names.specs.Declarations.{head_of}
 use Rattle.pb_names.specs.View.{declaration_view}
 use Rattle.pb_link.specs.Resolving.{coming, fields_read, message_read, behind_message}
 use Rattle.pb_link.proofs.ResolvingLemmas.{read_more, read_end, behind_more, behind_end, message_made, message_went, head_went}
 use Rattle.pb_names.proofs.ViewLemmas.{inner_of-view, name_of-view, enums_of-view, fields_of-view, oneofs_of-view, reserved_of-view, reserved_names_of-view}
-use Rattle.pb_decl.proofs.ViewLemmas.{message_view-parts}
+use Rattle.pb_declarations.proofs.ViewLemmas.{message_view-parts}
 use Rattle.pb_link.proofs.resolving.messages.+resolve_message.Goals as goal
 
 pub resolve_messages-loop-message-preserved : goal.resolve_messages-loop-message-preserved

@@ -1,5 +1,5 @@
 use Rattle.std.proofs.Common.{map, ap, ◌∙◌}
-use Rattle.pb_decl.specs.View.{method_view}
+use Rattle.pb_declarations.specs.View.{method_view}
 use Rattle.pb_names.specs.View.{declaration_view}
 use Rattle.pb_link.specs.Resolving.{coming, first_type, second_type, method_read, behind_one}
 use Rattle.pb_link.specs.Resolved.{method_of_types}

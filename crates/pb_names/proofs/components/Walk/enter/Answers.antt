@@ -1,5 +1,5 @@
 use Rattle.std.proofs.Common.{sym, ◌∙◌, ap, arith, length}
-use Rattle.pb_sets.specs.Flat.{lists_of}
+use Rattle.pb_graphs.specs.Flat.{lists_of}
 use Rattle.pb_names.specs.Components.{unseen_work}
 use Rattle.pb_names.proofs.ComponentLemmas.{work_opened}
 use Rattle.pb_names.proofs.components.Walk.enter.Goals as goal

@@ -1,5 +1,5 @@
 use Rattle.std.proofs.Common.{refl, sym, ◌∙◌, arith}
-use Rattle.pb_sets.specs.Flat.{lists_of}
+use Rattle.pb_graphs.specs.Flat.{lists_of}
 use Rattle.pb_names.specs.declared.components.Progress.TheVariants.{Open}
 use Rattle.pb_names.proofs.ComponentLemmas.{work_seen, seen_within}
 use Rattle.pb_names.proofs.components.Walk.leave.Goals as goal

@@ -1,4 +1,4 @@
-use Rattle.pb_sets.specs.Flat.{lists_of}
+use Rattle.pb_graphs.specs.Flat.{lists_of}
 use Rattle.pb_names.specs.Components.{Fits, work_left}
 use Rattle.pb_names.proofs.components.Walk.walk_from.Given as goal
 

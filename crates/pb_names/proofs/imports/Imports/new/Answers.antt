@@ -1,5 +1,5 @@
 use Rattle.std.proofs.Common.{map}
-use Rattle.pb_decl.specs.View.{file_view}
+use Rattle.pb_declarations.specs.View.{file_view}
 use Rattle.pb_names.proofs.GraphLemmas.{list_ended, imports_in, public_in, imports_whole, lead_to_files}
 use Rattle.pb_names.proofs.imports.Imports.new.Goals as goal
 

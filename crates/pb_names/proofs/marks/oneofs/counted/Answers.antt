@@ -1,5 +1,5 @@
 use Rattle.std.proofs.Common.{arith, sym, ap, ◌∙◌}
-use Rattle.pb_decl.specs.View.{field_view}
+use Rattle.pb_declarations.specs.View.{field_view}
 use Rattle.pb_names.proofs.OneofCountLemmas.{counted_next, counted_kept, front_fits, at_place}
 use Rattle.pb_names.proofs.marks.oneofs.counted.Goals as goal
 use Rattle.pb_names.proofs.marks.oneofs.counted.Goals.{in-Some, in_default}

@@ -1,5 +1,5 @@
 use Rattle.std.proofs.Common.{map, take}
-use Rattle.pb_decl.specs.View.{field_view}
+use Rattle.pb_declarations.specs.View.{field_view}
 use Rattle.pb_names.specs.Oneofs.{AreCounted}
 use Rattle.pb_names.proofs.marks.oneofs.counted.Given as goal
 

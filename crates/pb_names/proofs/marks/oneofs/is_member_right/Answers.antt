@@ -1,4 +1,4 @@
-use Rattle.pb_decl.specs.View.{field_view}
+use Rattle.pb_declarations.specs.View.{field_view}
 use Rattle.pb_names.proofs.OneofCountLemmas.{right_without}
 use Rattle.pb_names.proofs.marks.oneofs.is_member_right.Goals as goal
 

@@ -1,6 +1,6 @@
 use Rattle.std.proofs.Common.{map, not, ap, ◌∙◌, ◌&&◌, ◌||◌}
 use Rattle.std.specs.List.{list_all}
-use Rattle.pb_decl.specs.View.{file_view}
+use Rattle.pb_declarations.specs.View.{file_view}
 use Rattle.pb_rules.specs.Rules.{passes_declared, is_two, is_open, is_of_entry}
 use Rattle.pb_rules.specs.Judging.{world_of}
 use Rattle.pb_names.specs.View.{declaration_view}

@@ -1,6 +1,6 @@
 use Rattle.std.proofs.Common.{Some, map, string_bytes, ap, ◌∙◌}
 use Rattle.std.specs.List.{list_all}
-use Rattle.pb_decl.specs.View.{field_view}
+use Rattle.pb_declarations.specs.View.{field_view}
 use Rattle.pb_rules.specs.Rules.{passes, is_message, is_message_type, is_enum}
 use Rattle.pb_rules.specs.Judging.{world_of}
 use Rattle.pb_names.specs.View.{declaration_view}

@@ -1,5 +1,5 @@
 use Rattle.std.proofs.Common.{◌==◌, ap, ◌∙◌}
-use Rattle.pb_decl.specs.declared.decl.MessageDecl.{out-MessageDecl}
+use Rattle.pb_declarations.specs.declared.decl.MessageDecl.{out-MessageDecl}
 use Rattle.pb_rules.proofs.MapLemmas.{bare_right}
 use Rattle.pb_rules.proofs.rules.maps.has_nothing_inside.Goals as goal
 

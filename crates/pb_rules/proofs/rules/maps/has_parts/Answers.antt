@@ -1,5 +1,5 @@
 use Rattle.std.proofs.Common.{◌+◌, map, ap, ◌∙◌}
-use Rattle.pb_decl.specs.View.{field_view}
+use Rattle.pb_declarations.specs.View.{field_view}
 use Rattle.pb_names.specs.View.{declaration_view}
 use Rattle.pb_rules.specs.Maps.{right_parts, are_plain, names_of_place}
 use Rattle.pb_rules.proofs.MapLemmas.{plain_here}

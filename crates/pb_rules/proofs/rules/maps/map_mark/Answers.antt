@@ -1,6 +1,6 @@
 use Rattle.std.proofs.Common.{map, sym, ap, ◌∙◌}
 use Rattle.std.specs.List.{list_all}
-use Rattle.pb_decl.specs.View.{message_view}
+use Rattle.pb_declarations.specs.View.{message_view}
 use Rattle.pb_names.specs.ItemView.{item_view}
 use Rattle.pb_rules.specs.Rules.{is_used_rightly}
 use Rattle.pb_names.specs.View.{declaration_view, type_names_view}

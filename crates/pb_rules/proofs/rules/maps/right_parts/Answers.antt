@@ -1,6 +1,6 @@
 use Rattle.std.proofs.Common.{map, arith}
 use Rattle.std.proofs.lemmas.List.{length-map}
-use Rattle.pb_decl.specs.View.{field_view}
+use Rattle.pb_declarations.specs.View.{field_view}
 use Rattle.pb_rules.proofs.MapLemmas.{not_two}
 use Rattle.pb_rules.proofs.rules.maps.right_parts.Goals as goal
 

@@ -1,6 +1,6 @@
 use Rattle.std.proofs.Common.{sym, subst}
-use Rattle.pb_sets.specs.Reach.{IsGraph}
-use Rattle.pb_sets.specs.Cycles.{IsAcyclic}
+use Rattle.pb_graphs.specs.Reach.{IsGraph}
+use Rattle.pb_graphs.specs.Cycles.{IsAcyclic}
 use Rattle.pb_schema.proofs.ImportLemmas.{is_graph, acyclic_files}
 use Rattle.pb_schema.proofs.imports.cycles.no_file_reaches_itself.Goals as goal
 

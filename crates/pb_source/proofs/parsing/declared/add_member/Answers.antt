@@ -1,5 +1,5 @@
 use Rattle.std.proofs.Common.{option_map}
-use Rattle.pb_decl.specs.View.{message_view}
+use Rattle.pb_declarations.specs.View.{message_view}
 use Rattle.pb_source.proofs.PartSteps.{holds_member}
 use Rattle.pb_source.proofs.parsing.declared.add_member.Goals as goal
 

@@ -1,6 +1,6 @@
 use Rattle.std.proofs.Common.{◌≡◌, ◌++◌, map}
 use Rattle.std.specs.Vec.Iter.{into_iter_items}
-use Rattle.pb_decl.specs.View.{field_view, message_view}
+use Rattle.pb_declarations.specs.View.{field_view, message_view}
 use Rattle.pb_source.specs.Meaning.{fields_in, groups_in, in_oneof}
 use Rattle.pb_source.specs.StatementView.{member_view}
 use Rattle.pb_source.proofs.parsing.declared.add_members.Given as goal

@@ -1,5 +1,5 @@
 use Rattle.std.proofs.Common.{◌++◌, map, ap, ◌∙◌}
-use Rattle.pb_decl.specs.View.{field_view}
+use Rattle.pb_declarations.specs.View.{field_view}
 use Rattle.pb_source.specs.Meaning.{fields_in, in_oneof}
 use Rattle.pb_source.specs.StatementView.{member_view}
 use Rattle.pb_source.proofs.PartSteps.{holds_oneof}

@@ -1,5 +1,5 @@
 use Rattle.std.proofs.Common.{◌≡◌, length, take, drop, map, string_bytes}
-use Rattle.pb_decl.specs.View.{field_view}
+use Rattle.pb_declarations.specs.View.{field_view}
 use Rattle.pb_source.proofs.PartSteps.{OwnAdded}
 use Rattle.pb_source.proofs.parsing.declared.add_own_oneofs.Given as goal
 

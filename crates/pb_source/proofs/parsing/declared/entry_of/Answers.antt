@@ -1,7 +1,7 @@
 use Rattle.std.proofs.Common.{map, true, ◌∙◌, string_bytes}
-use Rattle.pb_decl.specs.Decls.{message, messages_of}
-use Rattle.pb_decl.specs.View.{enum_view, message_view}
-use Rattle.pb_decl.proofs.ViewLemmas.{message_view-roll}
+use Rattle.pb_declarations.specs.Decls.{message, messages_of}
+use Rattle.pb_declarations.specs.View.{enum_view, message_view}
+use Rattle.pb_declarations.proofs.ViewLemmas.{message_view-roll}
 use Rattle.pb_source.proofs.parsing.declared.entry_of.Goals as goal
 
 pub returns : goal.returns

@@ -1,6 +1,6 @@
 use Rattle.std.proofs.Common.{map, false, ap, ◌∙◌, string_bytes}
-use Rattle.pb_decl.specs.View.{field_view}
-use Rattle.pb_decl.proofs.ViewLemmas.{message_view-roll}
+use Rattle.pb_declarations.specs.View.{field_view}
+use Rattle.pb_declarations.proofs.ViewLemmas.{message_view-roll}
 use Rattle.pb_source.specs.Meaning.{message_of}
 use Rattle.pb_source.proofs.PartSteps.{message_made}
 use Rattle.pb_source.proofs.parsing.declared.message_of.Goals as goal

@@ -1,6 +1,6 @@
 use Rattle.std.proofs.Common.{map, refl, ap, sym, ◌∙◌, append-nil, string_bytes}
 use Rattle.std.proofs.lemmas.List.{map_push, map-append}
-use Rattle.pb_decl.specs.View.{numbered_view}
+use Rattle.pb_declarations.specs.View.{numbered_view}
 use Rattle.pb_source.specs.Meaning.{EnumStatement}
 use Rattle.pb_source.proofs.SaidSteps.{enum_changed}
 use Rattle.pb_source.proofs.parsing.enums.add_enum_statement.Goals as goal

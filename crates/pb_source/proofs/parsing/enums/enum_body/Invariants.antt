@@ -1,5 +1,5 @@
 use Rattle.std.proofs.Common.{◌≡◌, ◌-◌, List, length, codes}
-use Rattle.pb_decl.specs.View.{enum_view}
+use Rattle.pb_declarations.specs.View.{enum_view}
 use Rattle.pb_tokens.specs.Readers.Forms.{mark_reader}
 use Rattle.pb_tokens.proofs.UntilSteps.{HasRead}
 use Rattle.pb_source.specs.Meaning.{EnumStatement, enum_of}

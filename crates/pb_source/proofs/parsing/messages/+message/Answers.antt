@@ -1,5 +1,5 @@
 use Rattle.std.proofs.Common.{◌≡◌, ◌<◌, ℕ, List, [], ◌∷◌, ◌++◌, ◌&&◌, map, codes, refl, ap, sym, subst, ◌∙◌, true, false, Some, None, option_map, Ok, arith, rules}
-use Rattle.pb_decl.specs.View.{message_view}
+use Rattle.pb_declarations.specs.View.{message_view}
 use Rattle.std.proofs.lemmas.Result.{err_from_is_err_and}
 use Rattle.pb_tokens.specs.SymbolView.{symbol_of}
 use Rattle.pb_tokens.specs.Language.{all_rules}

@@ -1,9 +1,9 @@
 use Rattle.std.proofs.Common.{◌≡◌, map, string_bytes, arith, ap, sym, ◌∙◌}
 use Rattle.pb_schema.specs.Names.{in_scope}
-use Rattle.pb_decl.specs.View.{field_view, message_view}
-use Rattle.pb_decl.specs.declared.decl.MessageDecl.{out-MessageDecl}
+use Rattle.pb_declarations.specs.View.{field_view, message_view}
+use Rattle.pb_declarations.specs.declared.decl.MessageDecl.{out-MessageDecl}
 use Rattle.pb_source.specs.Meaning.{scoped_field, scoped}
-use Rattle.pb_decl.proofs.ViewLemmas.{message_view-parts}
+use Rattle.pb_declarations.proofs.ViewLemmas.{message_view-parts}
 use Rattle.pb_source.proofs.ScopeSteps.{mapped_all, same_messages, parts_set, parts_scoped}
 use Rattle.pb_source.proofs.parsing.scopes.+scope.Goals as goal
 

@@ -1,5 +1,5 @@
 use Rattle.std.proofs.Common.{◌≡◌, map, string_bytes}
-use Rattle.pb_decl.specs.View.{message_view}
+use Rattle.pb_declarations.specs.View.{message_view}
 use Rattle.pb_source.specs.Meaning.{scoped}
 use Rattle.pb_source.proofs.ScopeSteps.{mapped_from}
 use Rattle.pb_source.proofs.parsing.scopes.+scope.Given as goal

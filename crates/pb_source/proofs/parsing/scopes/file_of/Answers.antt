@@ -1,5 +1,5 @@
 use Rattle.std.proofs.Common.{ap, ◌∙◌, false}
-use Rattle.pb_decl.specs.Decls.{messages_of}
+use Rattle.pb_declarations.specs.Decls.{messages_of}
 use Rattle.pb_source.specs.Meaning.{all_said, all_scoped, file_messages_said}
 use Rattle.pb_source.proofs.ScopeSteps.{messages_scoped}
 use Rattle.pb_source.proofs.parsing.scopes.file_of.Goals as goal

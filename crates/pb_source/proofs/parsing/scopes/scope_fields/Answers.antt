@@ -1,5 +1,5 @@
 use Rattle.std.proofs.Common.{length-set, rules, arith, ◌∙◌}
-use Rattle.pb_decl.specs.View.{field_view}
+use Rattle.pb_declarations.specs.View.{field_view}
 use Rattle.pb_source.specs.Meaning.{scoped_field}
 use Rattle.pb_source.proofs.ScopeSteps.{mapped_more, mapped_all}
 use Rattle.pb_source.proofs.parsing.scopes.scope_fields.Goals as goal

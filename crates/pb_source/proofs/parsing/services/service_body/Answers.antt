@@ -1,6 +1,6 @@
 use Rattle.std.proofs.Common.{[], ◌∷◌, ◌++◌, codes, option_map, refl, sym, ◌∙◌, arith}
 use Rattle.std.proofs.lemmas.Result.{err_from_is_err_and}
-use Rattle.pb_decl.specs.View.{method_view}
+use Rattle.pb_declarations.specs.View.{method_view}
 use Rattle.pb_tokens.specs.Readers.Forms.{mark_reader}
 use Rattle.pb_tokens.proofs.UntilSteps.{starts, goes_on, refuses, ends}
 use Rattle.pb_source.specs.Meaning.{those_said}

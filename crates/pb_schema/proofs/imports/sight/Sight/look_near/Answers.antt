@@ -1,6 +1,6 @@
 use Rattle.std.proofs.Common.{◌<◌, All, map, vec_len, sym, subst, arith}
 use Rattle.std.proofs.lemmas.List.{length-map}
-use Rattle.pb_sets.proofs.ReachLemmas.{next_within}
+use Rattle.pb_graphs.proofs.ReachLemmas.{next_within}
 use Rattle.pb_schema.specs.declared.types.FileInfo.{FileInfo}
 use Rattle.pb_schema.specs.View.{file_view}
 use Rattle.pb_schema.proofs.ImportLemmas.{is_graph}

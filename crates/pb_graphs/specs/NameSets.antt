@@ -1,0 +1,13 @@
+-- Sets of names.
+use Rattle.std.specs.Prelude.{ℕ, List, [], ◌∷◌, ◌++◌, map, if◌then◌else◌}
+use Rattle.std.specs.List.{list_any}
+use Rattle.std.specs.Str.{bytes_eq}
+use Rattle.pb_graphs.specs.declared.name_set.NameSet.{NameSet}
+
+-- the names of a set, in the order in which each came first
+abbrev pub names_in : NameSet → List (List ℕ)
+names_in s = map (λ k. k.items) s.names.keys
+
+-- these names and one more, which stands last where it is new
+abbrev pub with_name : List ℕ → List (List ℕ) → List (List ℕ)
+with_name name names = if list_any (bytes_eq name) names then names else names ++ name ∷ []

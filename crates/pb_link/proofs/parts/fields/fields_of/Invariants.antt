@@ -1,8 +1,0 @@
-use Rattle.std.proofs.Common.{◌≡◌, ◌++◌, map, drop}
-use Rattle.pb_schema.specs.View.{field_view}
-use Rattle.pb_decl.specs.View.{field_view as declared_view}
-use Rattle.pb_link.specs.Parts.{fields_read}
-use Rattle.pb_link.proofs.parts.fields.fields_of.Given as goal
-
-abbrev pub invariant-loop-index : goal.invariant-loop-index
-invariant-loop-index l = map field_view l.types.items ++ fields_read l.proto2 l.tables l.names l.index (map declared_view (drop l.index l.fields)) ≡ fields_read l.proto2 l.tables l.names 0 (map declared_view l.fields)

@@ -1,5 +1,0 @@
-use Rattle.std.proofs.Common.{length}
-use Rattle.pb_samples.proofs.contents.+with_entries.Given as goal
-
-abbrev pub decreases-with_entries : goal.decreases-with_entries
-decreases-with_entries l = length l.words.now

@@ -1,5 +1,0 @@
-use Rattle.std.proofs.Common.{length}
-use Rattle.pb_samples.proofs.values.+with_scalars.Given as goal
-
-abbrev pub decreases-with_scalars : goal.decreases-with_scalars
-decreases-with_scalars l = length l.words.now
