@@ -11,7 +11,7 @@ use Rattle.pb_c.proofs.handle.shared.Shared.TheLaws as shared
 use Rattle.pb_c_boxes.specs.contracts.parts.Parts as Parts
 use Rattle.pb_c.specs.contracts.handle.seal.Seal as Seal
 
--- a box of what stands behind a handle, from the heap
+-- a box of what a handle points to, from the heap
 abbrev pub boxed : Bx
 boxed = record {
   row = Shared.the_row;

@@ -35,7 +35,7 @@ named_word name (g ∷ fs) f words found = by_name (bytes_eq g.name name) refl (
     by_name true same rest = subst (λ n. IsTrue (is_word n)) ((bytes_eq-Decides g.name name).0 same) (own_name g.shape g.name g.number g.kind words.0)
     by_name false other rest = rest (sym (ap (λ b. cond b (Some g) (field_named name fs)) other) ∙ found)
 
--- an option that nothing stands in
+-- an option that holds nothing
 pub none_where : {A : Type 0} (o : Option A) → ((x : A) → o ≡ Some x → ⊥) → o ≡ None
 none_where None never = refl
 none_where (Some x) never = absurd (never x refl)

@@ -1,4 +1,4 @@
--- What is told of a scalar that was looked for is what was found.
+-- What is reported of a scalar that was looked for is what was found.
 use Rattle.std.proofs.Common.{◌≡◌, ◌<◌, ◌⊎◌, inl, inr, ℕ, List, Option, Some, None, Result, Ok, Err, IfOk, IfErr, ap, subst, arith}
 use Rattle.std.specs.Result.{IsOkAnd}
 use Rattle.pb_wire.specs.Fault.{Fault}

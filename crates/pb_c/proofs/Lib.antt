@@ -1,4 +1,4 @@
--- what is told of an error
+-- what is reported of an error
 pub mod Telling
 -- the length before a text
 pub mod Lengths
@@ -14,7 +14,7 @@ pub mod Filled
 pub mod TypeNames
 -- simple names of fields as texts
 pub mod FieldNames
--- what is told of declarations that make no pool
+-- what is reported of declarations that make no pool
 pub mod LinkTelling
 -- the numbers of faults are none of the other answers
 pub mod AnswerNumbers
@@ -32,7 +32,7 @@ pub mod SourceSteps
 pub mod OneSourcePool
 -- what is answered of a place
 pub mod PlaceAnswers
--- what is told of a scalar that was looked for
+-- what is reported of a scalar that was looked for
 pub mod FoundTelling
 -- for `mb_canon`: bytes that are the canonical bytes of their message
 pub mod Copied

@@ -49,7 +49,7 @@ module _ (grammar : Reading) where
       let same : first.0 ≡ second.0 = one_list names texts first.0 second.0 first.1 second.1 in
       one_linked grammar second.0 fs gs (subst (λ parsed. IsLinkedAs grammar parsed fs) same first.2) second.2
 
-  -- the fault of a source, as that of the source behind it
+  -- the fault of a source, as that of the source after it
   abbrev later : PoolFault → PoolFault
   later (PoolFault.in_bytes f) = PoolFault.in_bytes f
   later (PoolFault.in_file i c) = PoolFault.in_file i c

@@ -16,7 +16,7 @@ name_at (name ∷ names) zero o all within = all.0
 name_at (name ∷ names) (suc i) o all within = name_at names i o all.1 (omega (arith, within))
 
 module _ (grammar : Reading) where
-  -- sources with one more behind them
+  -- sources with one more after them
   one_more : (names texts : List Bytes) (ds : List DeclaredFile) (name text : Bytes) (d : DeclaredFile) → AreSources grammar names texts ds → IsSourceIn grammar name.now text.now d
       → AreSources grammar (names ++ name ∷ []) (texts ++ text ∷ []) (ds ++ d ∷ [])
   one_more [] [] [] name text d are is = (is, tt)
@@ -33,7 +33,7 @@ module _ (grammar : Reading) where
       (subst (λ ts. AreSources grammar (take i names ++ get_or names i o ∷ []) ts (ds ++ d ∷ [])) (sym (take_more texts i o within'))
       (one_more (take i names) (take i texts) ds (get_or names i o) (get_or texts i o) d are is))
 
-  -- the first text that is no source, behind those that are
+  -- the first text that is no source, after those that are
   pub source_fails : (names texts : List Bytes) (ds : List DeclaredFile) (i : ℕ) (o : Bytes) (byte : ℕ) (c : SourceCause) → i < length names → i < length texts
       → AreSources grammar (take i names) (take i texts) ds → HasFaultIn grammar (get_or texts i o).now byte c → SourceFails grammar names texts i byte c
   source_fails [] texts ds i o byte c within within' are fault = absurd (omega (arith, within))

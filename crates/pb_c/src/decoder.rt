@@ -1,4 +1,4 @@
-//! Decoders that receive an encoding piece by piece, each behind a handle of its own.
+//! Decoders that receive an encoding piece by piece, each with a handle of its own.
 
 pub(crate) mod feed;
 pub(crate) mod finish;

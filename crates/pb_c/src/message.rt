@@ -1,4 +1,4 @@
-//! Messages that stay with the library, each behind a handle of its own.
+//! Messages that stay with the library, each with a handle of its own.
 
 pub(crate) mod change;
 pub(crate) mod copy;

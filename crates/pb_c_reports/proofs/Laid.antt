@@ -32,7 +32,7 @@ module _ {A : Type 0} (xs ys room : List A) where
       by_length (inl long) = let full : n ≡ length room = omega (arith, is, long) in rw full (filled long)
       by_length (inr fits) = let whole : n ≡ length xs = omega (arith, is, fits) in rw whole (inside fits)
 
-  -- the second list is laid over all that is behind the first
+  -- the second list is laid over all that is after the first
   pub laid_behind : (n : ℕ) (mid behind : List A) → n ≡ min (length xs) (length room) → mid ≡ laid_over xs room → behind ≡ laid_over ys (take (length mid - n) (drop n mid))
       → take n mid ++ (behind ++ drop (length mid - n) (drop n mid)) ≡ laid_over (xs ++ ys) room
   laid_behind n mid behind is is_mid is_behind =

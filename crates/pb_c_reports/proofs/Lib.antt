@@ -1,6 +1,6 @@
 -- buffers whose front is laid
 pub mod Laid
--- what is told of an error of decoding
+-- what is reported of an error of decoding
 pub mod Refusals
 -- what is made of a message
 pub mod Making

@@ -1,4 +1,4 @@
--- What is told of an error of decoding: its fault, or that memory ran out.
+-- What is reported of an error of decoding: its fault, or that memory ran out.
 use Rattle.std.proofs.Common.{◌≡◌, ◌⊎◌, inl, inr, subst}
 use Rattle.pb_wire.specs.Fault.{Fault, fault}
 use Rattle.pb_decode.specs.Reader.{IfFault}
@@ -14,14 +14,14 @@ of_bytes error.Memory P is = is
 of_bytes error.Device P is = absurd is
 of_bytes error.Finished P is = absurd is
 
--- the fault, and what is told of it; or what holds where none is told
+-- the fault, and what is reported of it; or what holds where none is reported
 pub fault_of : (e : DecodeError) (P Q : Fault → Type 0) (R : Type 0) → IfRefused e P → ByFault e Q R → ((f : Fault) × P f × Q f) ⊎ R
 fault_of (error.Fault byte path cause) P Q R is told = inl (fault byte path.items cause, is, told)
 fault_of error.Memory P Q R is told = inr told
 fault_of error.Device P Q R is told = inr told
 fault_of error.Finished P Q R is told = absurd is
 
--- what is told where this is the fault, if there is one
+-- what is reported where this is the fault, if there is one
 pub the_fault_of : (e : DecodeError) (f : Fault) (Q : Fault → Type 0) (R : Type 0) → IfRefused e (λ g. g ≡ f) → ByFault e Q R → Q f ⊎ R
 the_fault_of (error.Fault byte path cause) f Q R is told = inl (subst Q is told)
 the_fault_of error.Memory f Q R is told = inr told

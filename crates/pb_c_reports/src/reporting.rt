@@ -33,7 +33,7 @@ pub const BAD_PLACE: u32 = 7;
 /// The value is none.
 pub const BAD_VALUE: u32 = 8;
 
-/// The bytes have a fault, which is told.
+/// The bytes have a fault, which is reported.
 pub const FAULT: u32 = 13;
 
 /// Memory ran out.
@@ -60,7 +60,7 @@ pub struct FaultReport {
     pub cause: u32,
 }
 
-/// A step of a path, outermost first: a record, by its number and by how many whole records of that number stand before it in what
+/// A step of a path, outermost first: a record, by its number and by how many whole records of that number come before it in what
 /// holds it.
 #[repr(C)]
 #[derive(Clone, Copy, Debug, PartialEq, Eq)]

@@ -26,7 +26,7 @@ after_none : (read : List PlaceStep) → after read None ≡ None
 after_none [] = refl
 after_none (p ∷ ps) = ap (option_map (λ xs. step_view p ∷ xs)) (after_none ps)
 
--- where the next step stands
+-- where the next step is
 first : (keys : List Bytes) (place : List PlainValue) (i : ℕ) (d : PlainValue) → i < length place
     → places keys (drop i place) ≡ option_and_then (λ x. option_map (λ xs. x ∷ xs) (places keys (drop (i + 1) place))) (said keys (get_or place i d))
 first keys place i d within = ap (places keys) (drop_more place i d within)

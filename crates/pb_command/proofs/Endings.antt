@@ -1,4 +1,4 @@
--- How a run ends, from what its command came to and what was told.
+-- How a run ends, from what its command came to and what was reported.
 use Rattle.std.proofs.Common.{◌≡◌, ◌≢◌, ℕ, List, [], Option, None, false, refl, inl, inr, ap, sym, ◌∙◌, subst, arith}
 use Rattle.std.specs.Prelude.{Result, Ok, Err, MatchResult, string_bytes}
 use Rattle.pb_files.specs.Answer.{Answer, stopped, Ends, delivered, output_failed, file_failed, out_of_memory}
@@ -23,7 +23,7 @@ module _
   fail_ends path (inr (inl h)) told = output_failed h.2 told.0 h.3 (subst Told (ap device_line h.1) told.1) h.4
   fail_ends path (inr (inr h)) told = file_failed h.2 h.3 told.0 h.4 told.1 h.5
 
-  -- the line of a refusal was told, and the status answered
+  -- the line of a refusal was reported, and the status answered
   pub ends_from :
       (Quiet : Type 0) (r : Result Unit Refusal) → (Quiet → Told []) → Comes Out Cut Saved Unsaved P B r
       → MatchResult r (λ _. (status ≡ 0) × Quiet) (λ e. (status ≡ refusal_status e) × Told (refusal_line e)) → Ended
@@ -96,7 +96,7 @@ kept_but_at_three Quiet Told (Err e) status Kept concluded kept other = by e con
     by (File path) is kept = absurd (other is)
     by Memory is kept = kept refl
 
--- where that does not hold, the line that is told names a device
+-- where that does not hold, the line that is reported names a device
 pub device_told :
     (Quiet : Type 0) (Told : List ℕ → Type 0) (r : Result Unit Refusal) (status : ℕ) (Kept : Type 0)
     → MatchResult r (λ _. (status ≡ 0) × Quiet) (λ e. (status ≡ refusal_status e) × Told (refusal_line e))

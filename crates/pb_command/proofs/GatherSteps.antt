@@ -48,7 +48,7 @@ module _ (A : List ℕ → Type 0) (D : List ℕ → DeclaredFile → Type 0) (g
       subst (λ (l : List (List ℕ)). Moves A D g (opened f l ∷ below) h below) (sym none)
       (subst (λ (k : Gathered). Moves A D g (opened f [] ∷ below) k below) (sym is) closed)
 
-  -- behind the last import
+  -- after the last import
   pub go_closed :
       (o : Open) (opens : List Open) → length o.file.imports.items ≤ o.next → h ≡ with_file (file_view o.file) g
       → Moves A D g (open_view o ∷ stack_of opens) h (stack_of opens)

@@ -19,7 +19,7 @@ module _ (IsAbsent : List ℕ → Type 0) (Declares : List ℕ → DeclaredFile 
   gathers_then h more out (refused_inside k t d inner) e next = absurd (cc)
   gathers_then h more out (refused_here k t w) e next = absurd (cc)
 
-  -- a file that is refused is told, whatever follows
+  -- a file that is refused is reported, whatever follows
   pub gathers_stop :
       {o : Origin} {names : List (List ℕ)} {g : Gathered} {first : Outcome} (name : List ℕ) (t : Trouble) (more : List (List ℕ)) → Gives o names g first
       → first ≡ stopped_at name t → Gives o (names ++ more) g first
@@ -64,7 +64,7 @@ module _ (IsAbsent : List ℕ → Type 0) (Declares : List ℕ → DeclaredFile 
   stops_rest o below g name names t is refuses =
       inr (name, t, subst (λ (l : List (List ℕ)). Gives imported l g (stopped_at name t)) (sym is) (refused_here refuses.0 refuses.1 refuses.2), refl)
 
-  -- one open file alone is closed behind its imports
+  -- one open file alone is closed after its imports
   pub rest_closed :
       (o : OpenFile) (g h : Gathered) → Rest (o ∷ []) g (gathered h)
       → (k : Gathered) × Gives imported o.left g (gathered k) × (h ≡ with_file o.file k)

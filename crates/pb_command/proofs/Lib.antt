@@ -40,7 +40,7 @@ pub mod Commands
 pub mod GatheringLemmas
 -- for the sources that were read
 pub mod SourceSteps
--- for texts behind references, in parts
+-- for texts by reference, in parts
 pub mod TextLists
 -- for a source that is looked for under one root after another
 pub mod RootSteps

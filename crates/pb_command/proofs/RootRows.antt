@@ -12,7 +12,7 @@ module _ (map : FileMap) (name : List ℕ) where
   abbrev In : List ℕ → Option (List ℕ) → Type 0
   In path content = content ≡ map path
 
-  -- a file shadows those of its name under the roots behind
+  -- a file shadows those of its name under later roots
   pub shadows :
       (root : List ℕ) (others : List (List ℕ)) (path bytes : List ℕ) → map (path_under root name) ≡ Some bytes → IsReached In (root ∷ others) name path
       → path ≡ path_under root name

@@ -18,12 +18,12 @@ use Rattle.pb_command.proofs.SourceSteps.{absent_later, at_later, declared_later
 use Rattle.pb_command.proofs.TextLists.{texts_more, texts_whole}
 
 module _ (At : List ℕ → Option (List ℕ) → Type 0) (name root : List ℕ) where
-  -- behind roots that do not have the file is one more that does not
+  -- after roots that do not have the file comes one more that does not
   absent_more : (roots : List (List ℕ)) → IsAbsentUnder At roots name → At (path_under root name) None → IsAbsentUnder At (roots ++ root ∷ []) name
   absent_more [] h none = (none, tt)
   absent_more (r ∷ roots) h none = (h.0, absent_more roots h.1 none)
 
-  -- behind them a root is reached
+  -- after them a root is reached
   reached_behind : (roots more : List (List ℕ)) → IsAbsentUnder At roots name → IsReached At ((roots ++ root ∷ []) ++ more) name (path_under root name)
   reached_behind [] more h = inl refl
   reached_behind (r ∷ roots) more h = inr (h.0, reached_behind roots more h.1)

@@ -125,7 +125,7 @@ told_fault reading name bytes e f (inr h) ran_out told =
     (λ a. (place : ℕ) × (c : SourceCause) × HasFaultBy reading bytes place c × (a ≡ refused (source_line name place c))) f (λ a line. (e.byte, e.cause, h, line)) told
 
 module _ {F : Type 0} (contents : F → Option FileMap) (is_steady : F → Bool) (old : F) (path : List ℕ) where
-  -- what was opened is what stands there
+  -- what was opened is what is there
   pub opened_at :
       {I : Type 0} (left : I → Option (List ℕ)) (stays : I → Bool) (input : I)
       → IfSome (contents old) (λ map. IsOpened left (map path) (Some input)) → (is_steady old ≡ true → stays input ≡ true)
@@ -230,7 +230,7 @@ fault_whole :
 fault_whole Strict b place c h = fault_whole_in _ b place c h
 fault_whole Lenient b place c h = fault_whole_in _ b place c h
 
--- what was read of what stands there tells what it declares
+-- what was read of what is there says what it declares
 declared_whole :
     (reading : Reading) (name read : List ℕ) (f : DeclaredFile) (o : Option (List ℕ)) → Some read ≡ option_map (take (full.bytes + 1)) o
     → IsSourceBy reading name read f → (b : List ℕ) × (Some b ≡ o) × IsSourceBy reading name b f

@@ -1,4 +1,4 @@
--- A value of the bytes is the one that was decoded, and a fault of them the one that was told, or memory ran out.
+-- A value of the bytes is the one that was decoded, and a fault of them the one that was reported, or memory ran out.
 use Rattle.std.proofs.Common.{◌≡◌, subst, sym}
 use Rattle.pb_value.specs.Derives.{Text}
 use Rattle.pb_decode.specs.Push.{IsFaultOf}

@@ -1,4 +1,4 @@
--- The fault of sources that are not parsed is the one that was told.
+-- The fault of sources that are not parsed is the one that was reported.
 use Rattle.std.proofs.Common.{rules, ◌≡◌, ⊎_elim, List, [], ℕ, refl, length}
 use Rattle.pb_c.specs.PoolFault.{PoolFault, TellsRefusal}
 use Rattle.pb_c.specs.SourcePool.{AreNamed}

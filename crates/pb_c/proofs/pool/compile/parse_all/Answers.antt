@@ -1,4 +1,4 @@
--- Each source is read, or the first that is none is told.
+-- Each source is read, or the first that is none is reported.
 use Rattle.std.proofs.Common.{◌≡◌, ◌+◌, ◌++◌, ◌∷◌, [], take, map, sym, ap, subst, arith, ◌∙◌}
 use Rattle.std.proofs.lemmas.Result.{err_from_is_err_and}
 use Rattle.pb_declarations.specs.View.{file_view}

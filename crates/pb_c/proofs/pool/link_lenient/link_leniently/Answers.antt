@@ -1,4 +1,4 @@
--- The fault of bytes that are no set is the one that was told.
+-- The fault of bytes that are no set is the one that was reported.
 use Rattle.std.proofs.Common.{◌≡◌, ⊎_elim, List, ℕ, refl}
 use Rattle.pb_c.specs.PoolFault.{PoolFault, TellsBytes, TellsRefusal, TellsFault}
 use Rattle.pb_c.proofs.AnswerNumbers.{set_kept}

@@ -1,4 +1,4 @@
--- The fault of files that do not link is the one that was told.
+-- The fault of files that do not link is the one that was reported.
 use Rattle.std.proofs.Common.{map}
 use Rattle.pb_declarations.specs.View.{file_view}
 use Rattle.pb_c.specs.PoolFault.{TellsRefusal}

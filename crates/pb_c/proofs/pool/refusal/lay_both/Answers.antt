@@ -1,4 +1,4 @@
--- The second text stands behind the first.
+-- The second text comes after the first.
 use Rattle.pb_c_reports.proofs.Laid.{laid_behind}
 use Rattle.pb_c.proofs.pool.refusal.lay_both.Goals as goal
 

@@ -1,4 +1,4 @@
--- A fault of the bytes is the one that was told, or memory ran out.
+-- A fault of the bytes is the one that was reported, or memory ran out.
 use Rattle.std.proofs.Common.{◌≡◌, ◌≤◌, ◌+◌, subst, sym}
 use Rattle.pb_wire.specs.Schema.{blank}
 use Rattle.pb_wire.specs.Grammar.{HasFault}

@@ -1,4 +1,4 @@
--- The input holds the bytes, and what is told of them is told of it.
+-- The input holds the bytes, and what is reported of them is reported of it.
 use Rattle.std.proofs.Common.{◌≡◌, ◌++◌, [], Some, length, inl, inr, refl, subst, sym}
 use Rattle.pb_decode.specs.FromDevice.{IsNoFault}
 use Rattle.pb_stream.specs.Frame.{FrameFault}

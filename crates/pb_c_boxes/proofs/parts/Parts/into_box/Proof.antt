@@ -44,7 +44,7 @@ use Rattle.pb_c_boxes.specs.contracts.parts.Parts.into_box.Key.{name as #self}
 use Rattle.pb_c_boxes.proofs.parts.Parts.into_box.Statement as stated
 use Rattle.pb_c_boxes.proofs.parts.Parts.into_box.Code as code
 
--- what is left behind the call
+-- what is left after the call
 abbrev result_out : Body
 result_out = seq (assign (place 0 []) (rv_opd (copy (place 4 [])))) return
 

@@ -1,4 +1,4 @@
--- `into_raw_with_allocator` gives the pointer with the right to what is behind it, and the parts own both.
+-- `into_raw_with_allocator` gives the pointer with the right to what it points to, and the parts own both.
 use mathlib.Core.Path.{◌≡◌, refl, sym, subst, ap, ◌∙◌}
 use mathlib.Core.List.{List, [], ◌∷◌, ◌++◌}
 use seplogic.Ra.Ura.{Ura}
