@@ -3,8 +3,10 @@
 pub mod VarintLemmas
 -- for `varint_token`: what a varint of the bytes before a known end says of the place where they begin
 pub mod TokenLemmas
--- for `scan.rt`, likewise
+-- for `scan_varint`, likewise
 pub mod ScanLemmas
+-- for `scan_at.rt`: what is at the front of a slice, as what is at an index of the bytes
+pub mod HereLemmas
 -- for the readers of records and those that judge them: the parts of tags, and places as bytes are passed
 pub mod ReadingLemmas
 -- for the numbers of four and of eight bytes: their bytes at an index, as code slices them

@@ -18,6 +18,10 @@ given_at at known rest = record { at = at; known = known; rest = rest }
 abbrev pub passed : Place → ℕ → Place
 passed p size = record { at = p.at + size; known = option_map (λ e. e - size) p.known; rest = drop size p.rest }
 
+-- the place at this index of b, with the known end at this index, if there is one
+abbrev pub here : List ℕ → ℕ → Option ℕ → Place
+here b at to = given_at at (option_map (λ e. e - at) to) (drop at b)
+
 -- The front is this value, and takes this many bytes; or it has the fault that the input ends inside it; or another fault.
 abbrev pub Tells : {A : Type 0} → (A → Place → Type 0) → (Fault → Type 0) → Place → Scanned A → Type 0
 Tells IsWhole Fails p (scanned.Whole a size) = (size ≤ length p.rest) × IsWhole a (passed p size)

@@ -27,6 +27,7 @@ mod memory;
 mod open_groups;
 mod reading;
 mod scan;
+mod scan_at;
 pub mod token;
 mod transfer;
 mod unknown;
@@ -41,11 +42,12 @@ pub use iter::{Payload, RecordIter};
 pub use judging::judge_raw;
 pub use limits::{Limits, MAX_BYTES, MAX_DEPTH};
 pub use memory::{FailurePlan, MemInput, MemOutput};
-pub use reading::read_raw;
+pub use reading::{read_raw, refused};
 pub use scan::{
     Number, Scanned, Tag, before_end, left_after, scan_fixed32, scan_fixed64, scan_length,
     scan_number, scan_tag, scan_varint,
 };
+pub use scan_at::{RecordTag, group_end, length_at, number_at, tag_at, varint_at};
 pub use transfer::{ReadFault, WriteFault, read_up_to, write_all};
 pub use unknown::Unknown;
 pub use varint::{VarintBytes, put_varint, read_varint};

@@ -89,7 +89,8 @@ pub(crate) fn tag_at(
     Ok((number, wire_type, after))
 }
 
-pub(crate) fn refused(at: usize, cause: Cause) -> WireFault
+/// A fault of this cause at an index.
+pub fn refused(at: usize, cause: Cause) -> WireFault
     ensures { result ≡ record { byte = at; cause = cause } }
 {
     WireFault {
