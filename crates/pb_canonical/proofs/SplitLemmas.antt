@@ -4,8 +4,8 @@ use Rattle.std.proofs.lemmas.List.{take_all, take-append-drop}
 use Rattle.std.specs.Prelude.{slice_index, false, ◌==◌}
 use Rattle.std.proofs.lemmas.Bool.Decides.{nat_tests}
 use Rattle.pb_wire.specs.Fault.{Fault, FixedFault, past_end, cut_short}
-use Rattle.pb_wire.specs.Token.{given_at, TellsFixed64}
-use Rattle.pb_wire.specs.declared.token.Token.TheVariants as token
+use Rattle.pb_wire.specs.Scan.{given_at, TellsFixed64}
+use Rattle.pb_wire.specs.declared.scan.Scanned.TheVariants as scanned
 use Rattle.pb_wire.proofs.VarintLemmas.{shortest-last}
 use Rattle.std.specs.Prelude.{◌≢◌}
 use Rattle.std.specs.Int.{w32, w64, to_le_bytes}
@@ -43,10 +43,10 @@ taken_split b n size s e f g =
     sym (ap (λ (l : List ℕ). l ++ take (length b - size) (drop size b)) (sym front) ∙ ap (λ (l : List ℕ). take size b ++ l) (take_all (length b - size) (drop size b) (omega (arith, length-drop size b))) ∙ take-append-drop size b)
 
 -- eight bytes that were read
-pub eight_split : (b : List ℕ) (n size : ℕ) → TellsFixed64 (given_at 0 None b) (token.Whole n size) → b ≡ to_le_bytes w64 n ++ take (length b - size) (drop size b)
+pub eight_split : (b : List ℕ) (n size : ℕ) → TellsFixed64 (given_at 0 None b) (scanned.Whole n size) → b ≡ to_le_bytes w64 n ++ take (length b - size) (drop size b)
 eight_split b n size h =
     let (front, is, moves) = h.1 in
-    moves.given ∙ ap (λ (l : List ℕ). l ++ drop size b) is
+    moves.given ∙ ap (λ (l : List ℕ). l ++ drop size b) is.1
     ∙ ap (λ (l : List ℕ). to_le_bytes w64 n ++ l) (sym (take_all (length b - size) (drop size b) (omega (arith, length-drop size b))))
 
 -- bytes that eight were not read of

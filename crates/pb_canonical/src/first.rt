@@ -8,8 +8,7 @@ ghost use Rattle.pb_wire.specs.Record.{len};
 ghost use Rattle.pb_wire.specs.Ranges.{IsNumber};
 ghost use Rattle.pb_canonical.specs.Parts.{tagged, payload_bytes, IsTagged};
 
-use pb_wire::read_varint;
-use pb_wire::token::{Token, fixed64_token};
+use pb_wire::{Scanned, read_varint, scan_fixed64};
 
 /// The most bytes that a varint has.
 const MAX_VARINT: usize = 10;
@@ -141,10 +140,10 @@ pub(crate) fn eight_first(bytes: &[u8]) -> Option<(u64, &[u8])>
     ensures split { IfSome result (λ r. bytes.now ≡ to_le_bytes w64 r.0 ++ r.1.now) }
     ensures complete { (n : ℕ) → (s : List ℕ) → n < 2 ^ 64 → bytes.now ≡ to_le_bytes w64 n ++ s → IsSomeAnd result (λ r. (r.0 ≡ n) × (r.1.now ≡ s)) }
 {
-    match fixed64_token(bytes, None) {
-        Token::Whole(number, size) => Some((number, &bytes[size..])),
-        Token::Short => None,
-        Token::Fault(_) => None,
+    match scan_fixed64(bytes, None) {
+        Scanned::Whole(number, size) => Some((number, &bytes[size..])),
+        Scanned::Short => None,
+        Scanned::Fault(_) => None,
     }
 }
 

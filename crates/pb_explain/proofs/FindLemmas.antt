@@ -18,12 +18,12 @@ use Rattle.pb_wire.specs.RecordIter.{Seen, varint, fixed64, len, group, fixed32,
 use Rattle.pb_wire.specs.RecordIter.{ShowsFront, ShowsRecord, Passes, Gives, to_end, to_fault, all_ok, as_told, too_large}
 use Rattle.pb_wire.specs.Schema.{blank}
 use Rattle.pb_wire.specs.Sound.{AllSound, one}
-use Rattle.pb_wire.specs.Token.{TellsVarint, given_at, passed}
+use Rattle.pb_wire.specs.Scan.{TellsVarint, given_at, passed}
 use Rattle.pb_wire.specs.declared.fault.Cause.{Cause}
 use Rattle.pb_wire.specs.declared.fault.PathStep.{PathStep}
 use Rattle.pb_wire.specs.declared.fault.WireFault.{WireFault}
-use Rattle.pb_wire.specs.declared.token.Token.{Token}
-use Rattle.pb_wire.specs.declared.token.Token.TheVariants as token
+use Rattle.pb_wire.specs.declared.scan.Scanned.{Scanned}
+use Rattle.pb_wire.specs.declared.scan.Scanned.TheVariants as scanned
 use Rattle.pb_wire.proofs.Fronts.{RecordAt, record_some}
 use Rattle.pb_wire.proofs.OneFault.{bad_not_record}
 use Rattle.pb_wire.proofs.Places.{fewer, moved_nothing, moves_split, same_parts}
@@ -65,11 +65,11 @@ pub no_varint :
     → q ≡ passed (given_at at None rest) size
 no_varint at n size q rest bad r = absurd (varint_not_both bad.1 r)
 
-pub no_token : (p : Place) (t : Token) → (t ≡ token.Short) ⊎ ((x : Cause) × (t ≡ token.Fault x)) → TellsVarint p t → (f : Fault) × VarintFault p f
-no_token p token.Short e h = (_, h)
-no_token p (token.Fault c) e h = (_, h.1)
-no_token p (token.Whole n s) (inl e) h = absurd (cc)
-no_token p (token.Whole n s) (inr e) h = let same = e.1 in absurd (cc)
+pub no_varint : (p : Place) (t : Scanned ℕ) → (t ≡ scanned.Short) ⊎ ((x : Cause) × (t ≡ scanned.Fault x)) → TellsVarint p t → (f : Fault) × VarintFault p f
+no_varint p scanned.Short e h = (_, h)
+no_varint p (scanned.Fault c) e h = (_, h.1)
+no_varint p (scanned.Whole n s) (inl e) h = absurd (cc)
+no_varint p (scanned.Whole n s) (inr e) h = let same = e.1 in absurd (cc)
 
 -- the parts of the tag that is read
 pub tag_read :

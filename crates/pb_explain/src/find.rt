@@ -4,12 +4,11 @@ ghost use Rattle.std.specs.Prelude.{◌≡◌, ◌≢◌, ◌+◌, ◌-◌, ◌�
 ghost use Rattle.pb_wire.specs.Fault.{Fault, HasTag, Place, Reads, VarintFault, place};
 ghost use Rattle.pb_wire.specs.Record.{Record};
 ghost use Rattle.pb_wire.specs.RecordIter.{ShowsRecord, seen};
-ghost use Rattle.pb_wire.specs.Token.{given_at, passed};
+ghost use Rattle.pb_wire.specs.Scan.{given_at, passed};
 ghost use Rattle.pb_explain.specs.Records.{IsFound, IsValueAt, IsWholeAt};
 ghost use Rattle.pb_explain.specs.Turns.{IsReached, ShowsValue, TurnIs};
 
-use pb_wire::token::{Token, varint_token};
-use pb_wire::{Limits, PathStep, Payload, RecordIter};
+use pb_wire::{Limits, PathStep, Payload, RecordIter, Scanned, scan_varint};
 
 /// A record: the index of its first byte, that of its payload, and that after its last byte, if its bytes say it.
 #[derive(Clone, Copy, Debug, PartialEq, Eq)]
@@ -126,9 +125,9 @@ fn varint_of(rest: &[u8]) -> Option<(u64, usize)>
         × ((at : ℕ) → Reads (given_at at None rest.now) r.0 (passed (given_at at None rest.now) r.1))) }
     ensures none { IfNone result ((at : ℕ) → (f : Fault) × VarintFault (given_at at None rest.now) f) }
 {
-    match varint_token(rest, None) {
-        Token::Whole(number, size) => Some((number, size)),
-        Token::Short | Token::Fault(_) => None,
+    match scan_varint(rest, None) {
+        Scanned::Whole(number, size) => Some((number, size)),
+        Scanned::Short | Scanned::Fault(_) => None,
     }
 }
 

@@ -1,9 +1,7 @@
 -- ---- what the code reads and writes
 -- for `put_varint` and the loop that reads a varint: the number that groups of seven bits make
 pub mod VarintLemmas
--- for `varint_token`: what a varint of the bytes before a known end says of the place where they begin
-pub mod TokenLemmas
--- for `scan_varint`, likewise
+-- for `scan_varint`: what a varint of the bytes before a known end says of the place where they begin
 pub mod ScanLemmas
 -- for `scan_at.rt`: what is at the front of a slice, as what is at an index of the bytes
 pub mod HereLemmas

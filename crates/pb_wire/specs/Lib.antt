@@ -12,7 +12,6 @@ pub mod Exact
 pub mod Unknown
 pub mod WireType
 pub mod Reading
-pub mod Token
 pub mod Scan
 pub mod Limits
 pub mod Writable

@@ -28,7 +28,6 @@ mod open_groups;
 mod reading;
 mod scan;
 mod scan_at;
-pub mod token;
 mod transfer;
 mod unknown;
 mod varint;

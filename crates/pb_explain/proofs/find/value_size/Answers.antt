@@ -1,6 +1,6 @@
 use Rattle.std.proofs.Common.{◌∙◌, ℕ, ◌+◌, length, None, ap, subst, arith, drop, length-drop}
 use Rattle.pb_wire.specs.Fault.{Place, Reads}
-use Rattle.pb_wire.specs.Token.{given_at, passed}
+use Rattle.pb_wire.specs.Scan.{given_at, passed}
 use Rattle.pb_explain.proofs.FindLemmas.{join_passed, moved_passed, moves_within, reads_within}
 use Rattle.pb_explain.proofs.find.value_size.Goals as goal
 
