@@ -16,8 +16,7 @@ ghost use Rattle.pb_wire.specs.declared.fault.PathStep.{PathStep};
 use crate::fault::{Cause, WireFault};
 use crate::limits::Limits;
 use crate::open_groups::OpenGroups;
-use crate::reading::{WireType, bytes_at, refused, tag_at, told_beyond, u32_at, u64_at};
-use crate::scan_at::varint_at;
+use crate::reading::{WireType, bytes_at, refused, tag_at, told_beyond, u32_at, u64_at, varint_at};
 use std::iter::FusedIterator;
 use std::marker::Model;
 
@@ -141,7 +140,7 @@ fn record_at(bytes: &[u8], at: usize, max_depth: u8) -> Result<(u32, Payload<'_>
     let (number, wire_type, start) = tag_at(bytes, at, None)?;
     match wire_type {
         WireType::Varint => {
-            let (n, after) = varint_at(bytes, start, None)?;
+            let (n, after) = varint_at(bytes, start)?;
             Ok((number, Payload::Varint(n), after))
         }
         WireType::I64 => {
@@ -219,7 +218,7 @@ pub(crate) fn value_end(bytes: &[u8], at: usize, wire_type: WireType) -> Result<
     ensures fault { IfErr result (λ e. IsValueFault (code_of wire_type) (place bytes.now at) e) }
 {
     match wire_type {
-        WireType::Varint => Ok(varint_at(bytes, at, None)?.1),
+        WireType::Varint => Ok(varint_at(bytes, at)?.1),
         WireType::I64 => Ok(u64_at(bytes, at)?.1),
         WireType::Len => Ok(bytes_at(bytes, at)?.1),
         WireType::I32 => Ok(u32_at(bytes, at)?.1),

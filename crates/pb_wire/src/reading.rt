@@ -7,7 +7,7 @@ ghost use Rattle.pb_wire.specs.Record.{Record, len};
 ghost use Rattle.pb_wire.specs.Ranges.{AreInRange};
 ghost use Rattle.pb_wire.specs.Writable.{AreWritable};
 ghost use Rattle.pb_wire.specs.Spell.{Body};
-ghost use Rattle.pb_wire.specs.Fault.{Fault, FixedFault, LengthFault, CutFault, TagFault, fault, step, place, Leads, Reads, HasTag};
+ghost use Rattle.pb_wire.specs.Fault.{Fault, VarintFault, FixedFault, LengthFault, CutFault, TagFault, fault, step, place, Leads, Reads, HasTag};
 ghost use Rattle.pb_wire.specs.Fault.{fault as fault_with};
 ghost use Rattle.pb_wire.specs.Schema.{blank};
 ghost use Rattle.pb_wire.specs.Grammar.{IsText, HasFault, beyond};
@@ -18,9 +18,9 @@ ghost use Rattle.pb_wire.specs.RecordIter.{as_told};
 ghost use Rattle.pb_wire.specs.Reading.{ReadsAll, ReadsValue, IfFault, IfRawFault, BadValue, BadFrom};
 
 use crate::fault::{Cause, PathStep, RawError, ReadError, WireFault};
-use crate::limits::Limits;
-use crate::scan_at::{length_at, tag_at as record_tag_at, varint_at};
+use crate::limits::{Limits, MAX_BYTES};
 use crate::unknown::Unknown;
+use crate::varint::varint_at_front;
 use std::alloc::Global;
 
 /// What follows a tag.
@@ -34,8 +34,25 @@ pub(crate) enum WireType {
     I32,
 }
 
-/// Reads the tag that begins at an index: the number, the wire type, and the index after it.
+/// Reads the varint that begins at an index, and returns the index after it.
 // What each record goes through is put in place, since a call costs as much as a short record.
+#[inline(always)]
+pub(crate) fn varint_at(bytes: &[u8], at: usize) -> Result<(u64, usize), WireFault>
+    requires { at ≤ length bytes.now }
+    ensures within { IfOk result (λ r. (at < r.1) × (r.1 ≤ length bytes.now)) }
+    ensures ok { IfOk result (λ r. Reads (place bytes.now at) r.0 (place bytes.now r.1)) }
+    ensures fault { IfErr result (λ e. VarintFault (place bytes.now at) (fault e.byte [] e.cause)) }
+{
+    match varint_at_front(&bytes[at..]) {
+        Ok((number, size)) => Ok((number, at + size)),
+        Err(fault) => Err(WireFault {
+            byte: at as u64 + fault.byte,
+            cause: fault.cause,
+        }),
+    }
+}
+
+/// Reads the tag that begins at an index: the number, the wire type, and the index after it.
 #[inline(always)]
 pub(crate) fn tag_at(
     bytes: &[u8],
@@ -48,8 +65,28 @@ pub(crate) fn tag_at(
     ensures ends { IfOk result (λ r. code_of r.1 ≡ 4 → innermost ≡ Some r.0) }
     ensures fault { IfErr result (λ e. TagFault innermost (place bytes.now at) (fault e.byte [] e.cause)) }
 {
-    let tag = record_tag_at(bytes, at, innermost, None)?;
-    Ok((tag.number, wire_type_of(tag.wire_type), tag.end))
+    let (tag, after) = varint_at(bytes, at)?;
+    let Ok(tag) = u32::try_from(tag) else {
+        return Err(refused(at, Cause::TagTooLarge));
+    };
+    let number = tag / 8;
+    if number == 0 {
+        return Err(refused(at, Cause::NumberZero));
+    }
+    let Some(wire_type) = wire_type_of(tag % 8) else {
+        return Err(refused(at, Cause::BadType));
+    };
+    if let WireType::EndGroup = wire_type {
+        match innermost {
+            None => return Err(refused(at, Cause::StrayEnd)),
+            Some(open) => {
+                if open != number {
+                    return Err(refused(at, Cause::WrongEnd));
+                }
+            }
+        }
+    }
+    Ok((number, wire_type, after))
 }
 
 /// A fault of this cause at an index.
@@ -63,17 +100,18 @@ pub fn refused(at: usize, cause: Cause) -> WireFault
 }
 
 #[inline(always)]
-fn wire_type_of(code: u8) -> WireType
-    requires { code < 6 }
-    ensures { code_of result ≡ code }
+fn wire_type_of(code: u32) -> Option<WireType>
+    ensures found { (w : WireType) → result ≡ Some w → code_of w ≡ code }
+    ensures none { result ≡ None → 6 ≤ code }
 {
     match code {
-        0 => WireType::Varint,
-        1 => WireType::I64,
-        2 => WireType::Len,
-        3 => WireType::StartGroup,
-        4 => WireType::EndGroup,
-        _ => WireType::I32,
+        0 => Some(WireType::Varint),
+        1 => Some(WireType::I64),
+        2 => Some(WireType::Len),
+        3 => Some(WireType::StartGroup),
+        4 => Some(WireType::EndGroup),
+        5 => Some(WireType::I32),
+        _ => None,
     }
 }
 
@@ -103,6 +141,9 @@ pub(crate) fn u32_at(bytes: &[u8], at: usize) -> Result<(u32, usize), WireFault>
     Ok((u32::from_le_bytes(*front), at + 4))
 }
 
+/// The most bytes that a payload has.
+const MAX_LENGTH: u64 = MAX_BYTES as u64;
+
 /// Reads the length that begins at an index and the bytes that it counts.
 pub(crate) fn bytes_at(bytes: &[u8], at: usize) -> Result<(&[u8], usize), WireFault>
     requires { at ≤ length bytes.now }
@@ -111,7 +152,11 @@ pub(crate) fn bytes_at(bytes: &[u8], at: usize) -> Result<(&[u8], usize), WireFa
     ensures fault { IfErr result (λ e. LengthFault (place bytes.now at) (fault e.byte [] e.cause)
         ⊎ CutFault (place bytes.now at) (fault e.byte [] e.cause)) }
 {
-    let (size, start) = length_at(bytes, at, None)?;
+    let (size, start) = varint_at(bytes, at)?;
+    if size > MAX_LENGTH {
+        return Err(refused(at, Cause::LengthTooLarge));
+    }
+    let size = size as usize;
     if bytes.len() - start < size {
         return Err(refused(bytes.len(), Cause::Truncated));
     }
@@ -143,7 +188,7 @@ fn value_at(
 {
     match wire_type {
         WireType::Varint => {
-            let (n, after) = varint_at(bytes, at, None)?;
+            let (n, after) = varint_at(bytes, at)?;
             Ok((Unknown::Varint(n), after))
         }
         WireType::I64 => {
