@@ -1,9 +1,8 @@
 //! Streams as lines of JSON: `frames --json`, alone and with `--keep-going`. The set is that of `json`. The JSON of each message is what Python's
 //! `json_format` makes of it; which frames are refused is worked out by hand.
 
-use super::json::SET;
-use super::typed::is_told;
-use super::{Failures, NONE, Run, after, files_of, run_words};
+use crate::json::SET;
+use pbtool_runs::{Failures, NONE, Run, after, files_of, has_lines, run_words};
 use std::alloc::Global;
 use std::test::Fail;
 
@@ -43,7 +42,7 @@ fn is_answered(alloc: Global, words: &[&str], row: &str) -> Result<bool, Fail> {
         None => (row, None),
     };
     let run = run_on(alloc, words, file, NONE)?;
-    is_told(alloc, &run, lines)
+    has_lines(alloc, &run, lines)
 }
 
 #[test]

@@ -1,8 +1,7 @@
 //! `raw --nested`: payloads that are lists of records are listed as messages. What is printed is worked out by hand from the encoding guide's rules.
 
-use super::typed::is_told;
-use super::{NONE, Run, run_over};
 use pb_wire::put_varint;
+use pbtool_runs::{NONE, Run, has_lines, run_over};
 use std::alloc::Global;
 use std::test::Fail;
 
@@ -44,7 +43,7 @@ fn is_listed(alloc: Global, row: &str) -> Result<bool, Fail> {
         None => (row, None),
     };
     let run = run_on(alloc, &["raw", "--nested", "f"], file)?;
-    is_told(alloc, &run, lines)
+    has_lines(alloc, &run, lines)
 }
 
 #[test]

@@ -1,8 +1,8 @@
 //! Explanations of damaged messages, taken apart: their numbers and names are those of the first line, of the file and of the type. Names and
 //! types are read off the source by hand.
 
-use super::explain::SOURCE;
-use super::{NONE, files_of, run_words};
+use crate::explain::SOURCE;
+use pbtool_runs::{NONE, files_of, run_words};
 use std::alloc::Global;
 use std::test::Fail;
 

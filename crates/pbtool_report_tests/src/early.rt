@@ -1,6 +1,6 @@
 //! Files that are longer than the bytes that are judged before more are read: those of `raw`, and descriptor sets.
 
-use super::{Failures, NONE, after, run_over};
+use pbtool_runs::{Failures, NONE, after, run_over};
 use std::alloc::Global;
 use std::test::Fail;
 

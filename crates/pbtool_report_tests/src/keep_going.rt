@@ -1,8 +1,6 @@
 //! Streams in which frames are refused: `frames --keep-going`. The set has message M { int32 a = 1; }. Expected lines are worked out by hand.
 
-use super::calls::SET;
-use super::typed::is_told;
-use super::{Failures, NONE, Run, after, files_of, run_words};
+use pbtool_runs::{Failures, NONE, Run, SET_OF_M, after, files_of, has_lines, run_words};
 use std::alloc::Global;
 use std::test::Fail;
 
@@ -24,7 +22,7 @@ ffffffffffffffffffff00|!frame 0 byte 0 path - cause VarintTooLong|!frames refuse
 "#;
 
 fn run_on(alloc: Global, words: &[&str], file: &[u8], failures: Failures) -> Result<Run, Fail> {
-    let set = hex::decode(alloc, SET)?;
+    let set = hex::decode(alloc, SET_OF_M)?;
     let stream = Vec::from_slice(alloc, file)?;
     let mut files = files_of(
         alloc,
@@ -43,7 +41,7 @@ fn is_answered(alloc: Global, row: &str) -> Result<bool, Fail> {
     };
     let bytes = hex::decode(alloc, if file == "-" { "" } else { file })?;
     let run = run_on(alloc, WORDS, &bytes, NONE)?;
-    is_told(alloc, &run, lines)
+    has_lines(alloc, &run, lines)
 }
 
 #[test]

@@ -1,12 +1,11 @@
 //! Refusals that are explained. What is printed is worked out by the rules of paths, and the bytes counted by hand.
 
-use super::{Failures, NONE, Run, after, files_of, run_words};
-use pb_cli::MemFiles;
+use pbtool_runs::{Failures, NONE, Run, after, files_in, run_separate};
 use std::alloc::Global;
 use std::test::Fail;
 
 /// message M { int32 a = 1; string b = 2; M c = 3; map<string, M> d = 4; repeated fixed32 e = 5; }
-pub(super) const SOURCE: &str =
+pub(crate) const SOURCE: &str =
     "syntax = \"proto3\"; message M { int32 a = 1; string b = 2; M c = 3; map<string, M> d = 4; repeated fixed32 e = 5; }";
 
 /// Sources that are refused, each by another rule.
@@ -62,33 +61,6 @@ check --explain s N cut|type N unknown
 from-json --explain s M json x|json byte 17 cause BadValue|  line 3 column 7|   "b": 2|        ^
 "#;
 
-/// The files, and the set of the first source.
-pub(super) fn files_in(
-    alloc: Global,
-    listed: &'static [(&'static str, &'static str)],
-    failures: Failures,
-) -> Result<MemFiles<'static>, Fail> {
-    let mut entries = Vec::new(alloc);
-    for (path, content) in listed {
-        entries.push((*path, content.as_bytes()))?;
-    }
-    files_of(alloc, &entries, failures)
-}
-
-/// Runs words, with a blank between each two.
-pub(super) fn run_separate(
-    alloc: Global,
-    words: &str,
-    files: &mut MemFiles<'_>,
-    failures: Failures,
-) -> Result<Run, Fail> {
-    let mut separate = Vec::new(alloc);
-    for word in words.split(' ') {
-        separate.push(word)?;
-    }
-    run_words(alloc, separate.as_slice(), files, failures)
-}
-
 /// Runs words over the files and the set.
 fn run_line(alloc: Global, words: &str, failures: Failures) -> Result<Run, Fail> {
     let mut files = files_in(alloc, FILES, NONE)?;
@@ -99,7 +71,7 @@ fn run_line(alloc: Global, words: &str, failures: Failures) -> Result<Run, Fail>
 }
 
 /// The lines after bars, each with its end.
-pub(super) fn lines_of(alloc: Global, lines: &str) -> Result<String, Fail> {
+pub(crate) fn lines_of(alloc: Global, lines: &str) -> Result<String, Fail> {
     let mut text = String::new(alloc);
     for line in lines.split('|') {
         text.push_str(line)?;

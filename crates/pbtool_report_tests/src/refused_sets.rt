@@ -1,7 +1,7 @@
 //! Refusals of descriptor sets that are explained. The sets are written by hand, by the numbers of descriptor.proto.
 
-use super::NONE;
-use super::explain::{files_in, lines_of, run_separate};
+use crate::explain::lines_of;
+use pbtool_runs::{NONE, files_in, run_separate};
 use std::alloc::Global;
 use std::test::Fail;
 

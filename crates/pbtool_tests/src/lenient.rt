@@ -1,9 +1,8 @@
 //! Sets of proto2 that are read leniently, and what a set declares. The set is what protoc writes of b.proto and a.proto, the message what protoc
 //! encodes by them; what is told is worked out by the rules of messages, of lenient reading and of listings.
 
-use super::typed::is_told;
-use super::{Failures, NONE, Run, after, run_words};
 use pb_cli::MemFiles;
+use pbtool_runs::{Failures, NONE, Run, after, has_lines, run_separate};
 use std::alloc::Global;
 use std::test::Fail;
 
@@ -96,11 +95,7 @@ fn run_over_all(alloc: Global, words: &str, failures: Failures) -> Result<Run, F
         named.push((String::from_str(alloc, path)?, bytes.as_slice()))?;
     }
     let mut files = MemFiles::new(alloc, named, 1, failures.input, failures.open);
-    let mut separate = Vec::new(alloc);
-    for word in words.split(' ') {
-        separate.push(word)?;
-    }
-    run_words(alloc, separate.as_slice(), &mut files, failures)
+    run_separate(alloc, words, &mut files, failures)
 }
 
 fn is_answered(alloc: Global, row: &str) -> Result<bool, Fail> {
@@ -109,7 +104,7 @@ fn is_answered(alloc: Global, row: &str) -> Result<bool, Fail> {
         None => (row, None),
     };
     let run = run_over_all(alloc, words, NONE)?;
-    is_told(alloc, &run, lines)
+    has_lines(alloc, &run, lines)
 }
 
 #[test]

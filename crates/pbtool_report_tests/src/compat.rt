@@ -1,7 +1,6 @@
 //! `compat` over two sets, which `compile` makes of sources in memory. What is printed is worked out by the rules of COMPAT.md.
 
-use super::{Failures, NONE, Run, after, files_of, run_words};
-use pb_cli::MemFiles;
+use pbtool_runs::{Failures, NONE, Run, after, files_in, run_separate};
 use std::alloc::Global;
 use std::test::Fail;
 
@@ -64,33 +63,6 @@ const FILES: &[(&str, &str)] = &[
 
 /// What makes the sets of the two sources.
 const COMPILES: &[&str] = &["compile ROOT old old.proto", "compile ROOT new new.proto"];
-
-/// Runs words, with a blank between each two, over files.
-fn run_separate(
-    alloc: Global,
-    words: &str,
-    files: &mut MemFiles<'_>,
-    failures: Failures,
-) -> Result<Run, Fail> {
-    let mut separate = Vec::new(alloc);
-    for word in words.split(' ') {
-        separate.push(word)?;
-    }
-    run_words(alloc, separate.as_slice(), files, failures)
-}
-
-/// The sources and the other files.
-fn files_in(
-    alloc: Global,
-    listed: &'static [(&'static str, &'static str)],
-    failures: Failures,
-) -> Result<MemFiles<'static>, Fail> {
-    let mut entries = Vec::new(alloc);
-    for (path, content) in listed {
-        entries.push((*path, content.as_bytes()))?;
-    }
-    files_of(alloc, &entries, failures)
-}
 
 /// Runs words over the files and the sets of the two sources.
 fn run_line(alloc: Global, words: &str, failures: Failures) -> Result<Run, Fail> {

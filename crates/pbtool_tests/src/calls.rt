@@ -1,7 +1,7 @@
 //! What a program calls in place of the command: a listing to an output, and a command over files. Each answer is that of the
 //! rows of the command for the same bytes.
 
-use super::{FLAT, NONE, files_of};
+use crate::raw::FLAT;
 use pb_cli::{
     Afterwards, Command, FloatForm, FrameForm, Layout, Reading, Source, execute, execute_then,
     run_then,
@@ -14,12 +14,9 @@ use pb_listing::{
 };
 use pb_schema::Pool;
 use pb_wire::{FailurePlan, Limits, MemOutput};
+use pbtool_runs::{NONE, SET_OF_M, files_of};
 use std::alloc::Global;
 use std::test::Fail;
-
-/// What protoc writes of m.proto: message M { int32 a = 1; }
-pub const SET: &str =
-    "0a240a076d2e70726f746f22110a014d120c0a0161180120012805520161620670726f746f33";
 
 /// What protoc writes of t.proto, a file of proto2 with the package p: a message M with a field of each shape and two messages in it, and the enum
 /// Color.
@@ -60,7 +57,7 @@ fn records(rt: HostRuntime) -> Result<(), Fail> {
 }
 
 fn set(alloc: Global) -> Result<Vec<FileDecl>, Fail> {
-    let bytes = hex::decode(alloc, SET)?;
+    let bytes = hex::decode(alloc, SET_OF_M)?;
     Ok(read_set(alloc, bytes.as_slice())?)
 }
 
@@ -135,7 +132,7 @@ fn is_done(
     command: &Command<'_>,
     comes: Comes,
 ) -> Result<bool, Fail> {
-    let bytes = hex::decode(alloc, SET)?;
+    let bytes = hex::decode(alloc, SET_OF_M)?;
     let entries = [("s", bytes.as_slice()), ("f", MESSAGE), ("g", FRAME)];
     let mut files = files_of(alloc, &entries, NONE)?;
     let mut out = output(alloc);
@@ -228,7 +225,7 @@ fn commands(rt: HostRuntime) -> Result<(), Fail> {
 #[test]
 fn words(rt: HostRuntime) -> Result<(), Fail> {
     let alloc = rt.alloc();
-    let bytes = hex::decode(alloc, SET)?;
+    let bytes = hex::decode(alloc, SET_OF_M)?;
     let mut files = files_of(alloc, &[("s", bytes.as_slice()), ("f", MESSAGE)], NONE)?;
     let mut args = Vec::new(alloc);
     for word in ["pbtool", "show", "s", "M", "f"] {

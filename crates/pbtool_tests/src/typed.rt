@@ -1,7 +1,7 @@
 //! The commands that read messages by a type. The sets T, F, M, Q and R are what protoc writes of these files; what is told is worked out
 //! by the rules of messages, of their canonical form and of listings.
 
-use super::{Failures, NONE, Run, after, files_of, run_words};
+use pbtool_runs::{Failures, NONE, Run, SET_OF_M, after, files_of, has_lines, run_words};
 use std::alloc::Global;
 use std::test::Fail;
 
@@ -20,9 +20,6 @@ const T: &str =
 /// }
 const F: &str =
     "0af0010a07662e70726f746f22be010a0146120c0a0161180120012805520161120c0a0162180220012809520162120c0a0164180420012801520164120c0a016518062003280552016512110a0170180a200128084800520170880101120c0a0173180b20012811520173120c0a0175180d2003280952017512100a0176180e2003281142021000520176120c0a0177180f2001280c520177120c0a016718102001280252016712100a016b18112001280e32022e4552016b120c0a016818122003280752016842040a025f702a1c0a014512050a015a100012100a034e454710ffffffffffffffffff01620670726f746f33";
-
-/// message M { int32 a = 1; }
-const M: &str = "0a240a076d2e70726f746f22110a014d120c0a0161180120012805520161620670726f746f33";
 
 /// Of proto2: enum E { ONE = 1; TWO = 2; }
 /// message Q {
@@ -151,7 +148,7 @@ fn bytes_of(alloc: Global, word: &str) -> Result<Vec<u8>, Fail> {
     let digits = match word {
         "T" => T,
         "F" => F,
-        "M" => M,
+        "M" => SET_OF_M,
         "Q" => Q,
         "R" => R,
         "-" => "",
@@ -172,38 +169,6 @@ fn run_on(
     run_words(alloc, words, &mut files, failures)
 }
 
-/// A line that is printed, or without the mark before it one that is told; and which of the two it is.
-fn marked(line: &str) -> (bool, &str) {
-    match line.strip_prefix('!') {
-        Some(line) => (true, line),
-        None => (false, line),
-    }
-}
-
-/// Of lines those that are printed, or those that are told.
-fn lines_of(alloc: Global, lines: &str, are_told: bool) -> Result<String, Fail> {
-    let mut text = String::new(alloc);
-    for line in lines.split('|') {
-        let (is_told, line) = marked(line);
-        if is_told == are_told {
-            text.push_str(line)?;
-            text.push_str("\n")?;
-        }
-    }
-    Ok(text)
-}
-
-/// Whether a run printed and told these lines, or none.
-pub fn is_told(alloc: Global, run: &Run, lines: Option<&str>) -> Result<bool, Fail> {
-    let Some(lines) = lines else {
-        return Ok(run.is(0, b"", b""));
-    };
-    let printed = lines_of(alloc, lines, false)?;
-    let told = lines_of(alloc, lines, true)?;
-    let status = u8::from(lines.contains('!'));
-    Ok(run.is(status, printed.as_bytes(), told.as_bytes()))
-}
-
 /// Whether a command over a set, a type of it and a file prints and tells these lines.
 fn tells(
     alloc: Global,
@@ -216,7 +181,7 @@ fn tells(
     let set = bytes_of(alloc, set)?;
     let file = bytes_of(alloc, file)?;
     let run = run_on(alloc, &[command, "s", kind, "f"], &set, &file, NONE)?;
-    is_told(alloc, &run, lines)
+    has_lines(alloc, &run, lines)
 }
 
 /// What stands before the first bar, and what is behind it, if there is one.
@@ -289,7 +254,7 @@ fn fails_at(alloc: Global, set: &[u8], call: u64) -> Result<bool, Fail> {
 // Each read of the set fails in turn, and then each of the message. At the last byte of an input its end is still to be read.
 #[test]
 fn inputs_fail(rt: HostRuntime) -> Result<(), Fail> {
-    let set = bytes_of(rt.alloc(), M)?;
+    let set = bytes_of(rt.alloc(), SET_OF_M)?;
     for call in 0..62 {
         assert!(rt; fails_at(rt.alloc(), &set, call)?, "call {call}");
     }
@@ -308,7 +273,7 @@ const UNOPENED: &[(&[&str], u64, &str)] = &[
 ];
 
 fn is_unopened(alloc: Global, words: &[&str], calls: u64, line: &str) -> Result<bool, Fail> {
-    let set = bytes_of(alloc, M)?;
+    let set = bytes_of(alloc, SET_OF_M)?;
     let open = Failures {
         open: after(calls),
         ..NONE
@@ -340,7 +305,7 @@ const PRINTED: &[(&str, &[u8], &[u8])] = &[
 
 /// Whether what went out before a write failed stands, and the device is told.
 fn is_cut(alloc: Global, command: &str, file: &[u8], printed: &[u8]) -> Result<bool, Fail> {
-    let set = bytes_of(alloc, M)?;
+    let set = bytes_of(alloc, SET_OF_M)?;
     let out = Failures {
         out: after(printed.len() as u64),
         ..NONE
@@ -365,7 +330,7 @@ fn outputs_fail(rt: HostRuntime) -> Result<(), Fail> {
 
 /// Whether `canon --out` writes the canonical bytes to the file, and prints nothing.
 fn is_saved(alloc: Global) -> Result<bool, Fail> {
-    let set = bytes_of(alloc, M)?;
+    let set = bytes_of(alloc, SET_OF_M)?;
     let entries: [(&str, &[u8]); 2] = [("s", &set), ("f", b"\x08\x85\x00")];
     let mut files = files_of(alloc, &entries, NONE)?;
     let words = ["canon", "--out", "o", "s", "M", "f"];
@@ -381,7 +346,7 @@ fn saved(rt: HostRuntime) -> Result<(), Fail> {
 
 /// Whether a thousand empty messages are shown, through a buffer that is passed on many times.
 fn are_shown(alloc: Global) -> Result<bool, Fail> {
-    let set = bytes_of(alloc, M)?;
+    let set = bytes_of(alloc, SET_OF_M)?;
     let mut lines = String::new(alloc);
     for index in 0..1000 {
         lines.push_str(format!(in alloc; "frame {index} at {index} size 1\n")?.as_str())?;

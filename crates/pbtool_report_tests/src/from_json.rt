@@ -1,7 +1,7 @@
 //! Messages that are read from JSON. Canonical bytes are those of the encoding guide's rules.
 
-use super::{NONE, files_of, run_words};
 use pb_cli::MemFiles;
+use pbtool_runs::{NONE, files_of, run_words};
 use std::alloc::Global;
 use std::test::Fail;
 

@@ -1,7 +1,7 @@
 //! Refusals of sources that are explained. What may follow is read off the grammar of proto3, and bytes and columns are counted by hand.
 
-use super::NONE;
-use super::explain::{files_in, lines_of, run_separate};
+use crate::explain::lines_of;
+use pbtool_runs::{NONE, files_in, run_separate};
 use std::alloc::Global;
 use std::test::Fail;
 

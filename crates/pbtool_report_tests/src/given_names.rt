@@ -1,8 +1,7 @@
 //! Names that fields are given by `json_name`, in `json`, `from-json` and `frames --json`. The set is what protoc writes of g.proto, with the package
 //! g, and the JSON what Python's `json_format` makes of the messages.
 
-use super::typed::is_told;
-use super::{NONE, Run, files_of, run_words};
+use pbtool_runs::{NONE, Run, files_of, has_lines, run_words};
 use std::alloc::Global;
 use std::test::Fail;
 
@@ -55,9 +54,9 @@ fn is_answered(alloc: Global, row: &str) -> Result<bool, Fail> {
     let (all, _none) = run_on(alloc, &words, &stream)?;
     let (read, written) = run_on(alloc, &["from-json", "s", "g.M", "f", "o"], json.as_bytes())?;
     Ok(
-        is_told(alloc, &printed, Some(json))?
-            && is_told(alloc, &framed, Some(json))?
-            && is_told(alloc, &all, Some(json))?
+        has_lines(alloc, &printed, Some(json))?
+            && has_lines(alloc, &framed, Some(json))?
+            && has_lines(alloc, &all, Some(json))?
             && read.is(0, b"", b"")
             && written.as_deref() == Some(digits),
     )

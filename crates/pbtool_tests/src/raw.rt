@@ -1,27 +1,9 @@
 //! The command over files in memory: worked rows, usage, and devices that fail. Expected values are those of the
 //! encoding guide's rules, worked out by hand.
 
-mod calls;
-mod compat;
-mod compiled;
-mod decimal;
-mod early;
-mod explain;
-mod explain_apart;
-mod from_json;
-mod given_names;
-mod json;
-mod json_frames;
-mod keep_going;
-mod lenient;
-mod nested;
-mod reasons;
-mod refused_sets;
-mod refused_sources;
-mod typed;
-
-use pb_cli::{Files, HostFiles, MemFiles, run};
-use pb_wire::{FailurePlan, MemOutput, ReadFault, read_up_to};
+use pb_cli::{Files, HostFiles, MemFiles};
+use pb_wire::{FailurePlan, ReadFault, read_up_to};
+use pbtool_runs::{Failures, NONE, after, run_over};
 use std::alloc::Global;
 use std::test::Fail;
 
@@ -119,78 +101,6 @@ const ROWS: &[Row] = &[
         Told::Refused("byte 4 path 1[0] cause Truncated\n"),
     ),
 ];
-
-/// How the devices of a run fail.
-#[derive(Clone, Copy)]
-struct Failures {
-    open: FailurePlan,
-    input: FailurePlan,
-    out: FailurePlan,
-    err: FailurePlan,
-}
-
-const NONE: Failures = Failures {
-    open: FailurePlan::NEVER,
-    input: FailurePlan::NEVER,
-    out: FailurePlan::NEVER,
-    err: FailurePlan::NEVER,
-};
-
-fn after(others: u64) -> FailurePlan {
-    FailurePlan {
-        fails_after: Some(others),
-    }
-}
-
-/// What a run leaves.
-#[derive(Drop)]
-struct Run {
-    status: u8,
-    out: MemOutput,
-    err: MemOutput,
-}
-
-impl Run {
-    fn is(&self, status: u8, out: &[u8], err: &[u8]) -> bool {
-        self.status == status && self.out.bytes() == out && self.err.bytes() == err
-    }
-}
-
-/// Files in memory, which give one byte a call.
-fn files_of<'a>(
-    alloc: Global,
-    entries: &[(&str, &'a [u8])],
-    failures: Failures,
-) -> Result<MemFiles<'a>, Fail> {
-    let mut named = Vec::new(alloc);
-    for (path, bytes) in entries {
-        named.push((String::from_str(alloc, path)?, *bytes))?;
-    }
-    Ok(MemFiles::new(alloc, named, 1, failures.input, failures.open))
-}
-
-/// Runs the words behind the program's name over files. The outputs take one byte a call.
-fn run_words(
-    alloc: Global,
-    words: &[&str],
-    files: &mut MemFiles<'_>,
-    failures: Failures,
-) -> Result<Run, Fail> {
-    let mut args = vec![in alloc; String::from_str(alloc, "pbtool")?]?;
-    for word in words {
-        args.push(String::from_str(alloc, word)?)?;
-    }
-    let mut out = MemOutput::new(alloc, 1, failures.out);
-    let mut err = MemOutput::new(alloc, 1, failures.err);
-    let status = run(alloc, args.as_slice(), files, &mut out, &mut err);
-    Ok(Run { status, out, err })
-}
-
-/// Runs words over a file `f`.
-fn run_over(alloc: Global, words: &[&str], file: &[u8], failures: Failures) -> Result<Run, Fail> {
-    let mut files = files_of(alloc, &[("f", file)], failures)?;
-    run_words(alloc, words, &mut files, failures)
-}
 
 fn is_told(alloc: Global, row: Row) -> Result<bool, Fail> {
     let Row(digits, told) = row;
@@ -316,7 +226,7 @@ fn usage(rt: HostRuntime) -> Result<(), Fail> {
 const WITHOUT_A_FILE: &[u8] =
     b"error: the following required arguments were not provided:\n  <FILE>\n\nUsage: pbtool show <SET> <TYPE> <FILE>\n\nFor more information, try '--help'.\n";
 
-const FLAT: &[u8] = b"\x08\x96\x81\x00\x12\x01\x7a\x2d\x01\x00\x00\x00";
+pub(crate) const FLAT: &[u8] = b"\x08\x96\x81\x00\x12\x01\x7a\x2d\x01\x00\x00\x00";
 
 // Each read of the file fails in turn, and opening it does.
 #[test]

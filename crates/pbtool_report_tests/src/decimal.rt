@@ -1,8 +1,7 @@
 //! Floats in decimal: `show` and `frames` with `--decimal`. The set is what protoc writes of d.proto. Of each float the digits are the fewest that
 //! Python reads back as it, and the point and the exponent are put by hand as LISTINGS.md says.
 
-use super::typed::is_told;
-use super::{Failures, NONE, Run, after, files_of, run_words};
+use pbtool_runs::{Failures, NONE, Run, after, files_of, has_lines, run_words};
 use std::alloc::Global;
 use std::test::Fail;
 
@@ -71,7 +70,7 @@ fn is_answered(alloc: Global, row: &str) -> Result<bool, Fail> {
     };
     let (command, file) = words.split_once(' ').ok_or("no file")?;
     let run = run_on(alloc, command, file, NONE)?;
-    is_told(alloc, &run, lines)
+    has_lines(alloc, &run, lines)
 }
 
 #[test]

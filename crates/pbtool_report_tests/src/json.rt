@@ -1,8 +1,7 @@
 //! Messages as JSON. The set is what protoc writes of w.proto and o.proto, the messages what Python's protobuf encodes by them, and the JSON what its
 //! `json_format` makes of them; which parts have no JSON form is worked out by the rules of pb_json.
 
-use super::typed::is_told;
-use super::{Failures, NONE, Run, after, files_of, run_words};
+use pbtool_runs::{Failures, NONE, Run, after, files_of, has_lines, run_words};
 use std::alloc::Global;
 use std::test::Fail;
 
@@ -74,7 +73,7 @@ fn is_order(alloc: Global, row: &str) -> Result<bool, Fail> {
         file,
         NONE,
     )?;
-    Ok(is_told(alloc, &compact, Some(line))? && is_told(alloc, &pretty, Some(lines))?)
+    Ok(has_lines(alloc, &compact, Some(line))? && has_lines(alloc, &pretty, Some(lines))?)
 }
 
 #[test]
@@ -90,7 +89,7 @@ fn is_answered(alloc: Global, row: &str) -> Result<bool, Fail> {
     let (name, file) = words.split_once(' ').ok_or("no file")?;
     let run = run_on(alloc, &["json", "s", name, "f"], file, NONE)?;
     let pretty = run_on(alloc, &["json", "s", name, "f", "--pretty"], file, NONE)?;
-    Ok(is_told(alloc, &run, Some(line))? && pretty.status == run.status)
+    Ok(has_lines(alloc, &run, Some(line))? && pretty.status == run.status)
 }
 
 #[test]
