@@ -20,7 +20,7 @@ message Basket { Order order = 1; }
 message Thing { string n = 1; string name = 2; }
 message Node { Node next = 1; map<string, Item> items = 2; oneof o { int32 x = 3; int32 y = 4; int32 z = 6; } repeated int32 size = 5; }";
 
-/// Words, and after bars the status and each line that is printed, or after a mark told.
+/// Words, and after bars the status and each line that is printed, or after a mark reported.
 const ROWS: &str = r#"
 compat old new|1|shop.Gone breaks missing|shop.Order.price 4 breaks double was int64|shop.Order.note 5 loses string|shop.Order.count 6 converts int64 was int32|shop.Item.name 2 renames title was name|shop.Node.x 3 breaks oneof o int32 was oneof o int32|shop.Node.y 4 breaks oneof o int32 was oneof o int32|shop.Node.size 5 converts repeated int32 was shop.Size|shop.Node.z 6 breaks oneof o int32 was int32|shop.Item.n 1 breaks string was int32
 compat old new shop.Order|1|shop.Order.price 4 breaks double was int64|shop.Order.note 5 loses string|shop.Order.count 6 converts int64 was int32|shop.Item.name 2 renames title was name|shop.Item.n 1 breaks string was int32

@@ -5,7 +5,7 @@ use pbtool_runs::{NONE, Run, has_lines, run_over};
 use std::alloc::Global;
 use std::test::Fail;
 
-/// The bytes of a file; behind each bar a line that is printed, or behind a mark told.
+/// The bytes of a file; after each bar a line that is printed, or after a mark reported.
 const ROWS: &str = "
 -
 0801|1 varint 1

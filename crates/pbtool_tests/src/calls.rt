@@ -32,7 +32,7 @@ field p.M.In.b 1 optional bytes\nenum p.Color t.proto\nvalue p.Color RED 0\nvalu
 
 const MESSAGE: &[u8] = b"\x08\x96\x01";
 
-/// The same message behind its length.
+/// The same message after its length.
 const FRAME: &[u8] = b"\x03\x08\x96\x01";
 
 /// What a command comes to: the exit status, and what goes to standard output and to standard error.
@@ -124,8 +124,8 @@ fn types(rt: HostRuntime) -> Result<(), Fail> {
     Ok(())
 }
 
-/// Whether a command over the set, the message and its frame comes to this; by `execute` where nothing is told of what comes behind
-/// it.
+/// Whether a command over the set, the message and its frame comes to this; by `execute` where nothing is said of what comes
+/// after it.
 fn is_done(
     alloc: Global,
     afterwards: Option<Afterwards>,
@@ -221,7 +221,7 @@ fn commands(rt: HostRuntime) -> Result<(), Fail> {
     Ok(())
 }
 
-// The words of a program that ends behind its command.
+// The words of a program that ends after its command.
 #[test]
 fn words(rt: HostRuntime) -> Result<(), Fail> {
     let alloc = rt.alloc();

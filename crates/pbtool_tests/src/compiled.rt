@@ -1,4 +1,4 @@
-//! `compile` over sources in memory. What is written and told is worked out by the rules of sources, of linking and of
+//! `compile` over sources in memory. What is written and reported is worked out by the rules of sources, of linking and of
 //! sets.
 
 use pb_cli::MemFiles;
@@ -6,7 +6,7 @@ use pbtool_runs::{Failures, NONE, Run, after, files_of, run_words};
 use std::alloc::Global;
 use std::test::Fail;
 
-/// What a run comes to: the bytes of the set in hexadecimal, or the status and the line that is told.
+/// What a run comes to: the bytes of the set in hexadecimal, or the status and the line that is reported.
 #[derive(Clone, Copy)]
 enum Told {
     Written(&'static str),
@@ -79,7 +79,7 @@ const ROWS: &[Row] = &[
         &["a.proto"],
         Told::Written(PAIR),
     ),
-    // Each file stands once, behind its imports, however often it is named.
+    // Each file is there once, after its imports, however often it is named.
     Row(
         &[
             ("ROOT/a.proto", "syntax = \"proto3\"; import \"b.proto\";"),
@@ -174,7 +174,7 @@ const ELSEWHERE: &[Elsewhere] = &[
             Told::Written(PAIR),
         ),
     ),
-    // A file that is given, whose import stands under the root.
+    // A file that is given, whose import is under the root.
     Elsewhere(
         &["D"],
         Row(
@@ -233,7 +233,7 @@ const ELSEWHERE: &[Elsewhere] = &[
             Told::Written(PAIR),
         ),
     ),
-    // What no directory has is told as without them.
+    // What no directory has is reported as without them.
     Elsewhere(
         &["D", "E"],
         Row(&[], &["a.proto"], Told::Refused(3, "device ROOT/a.proto\n")),
@@ -272,7 +272,7 @@ const MAPS: &str =
 const LISTED: &str =
     "0a710a07622e70726f746f12016222470a014e12160a016d18012003280b320b2e622e4e2e4d456e7472791a2a0a064d456e747279120b0a036b657918012001280912130a0576616c756518022001280e32042e622e452a1a0a014512050a01581000120e0a015910ffffffffffffffffff010ac8010a07612e70726f746f1201611a07622e70726f746f22b0010a014d12160a016d18012003280b320b2e612e4d2e4d456e74727912110a016718022001280a32062e612e4d2e4712090a01721803200128051a2a0a064d456e747279120b0a036b657918012001280512130a0576616c756518022001280e32042e622e451a490a014712180a016718012003280b320d2e612e4d2e472e47456e7472791a2a0a0647456e747279120b0a036b657918012001280812130a0576616c756518022001280e32042e622e45";
 
-/// Sources that are read leniently, beside what `compile` tells of them without the flag.
+/// Sources that are read leniently, beside what `compile` reports of them without the flag.
 const LENIENT: &[(&str, Row)] = &[
     (
         "source m.proto byte 44 cause CustomOption\n",
@@ -462,7 +462,7 @@ fn lenient_sources(rt: HostRuntime) -> Result<(), Fail> {
     Ok(())
 }
 
-/// The import is longer than the file that is given, and stands under the second directory.
+/// The import is longer than the file that is given, and is under the second directory.
 const CHAIN: &[(&str, &str)] = &[
     ("ROOT/a.proto", "syntax = \"proto3\"; import \"b.proto\";"),
     (
@@ -471,7 +471,7 @@ const CHAIN: &[(&str, &str)] = &[
     ),
 ];
 
-/// After how many calls the files fail, and the device that is told. A failure ends the search.
+/// After how many calls the files fail, and the device that is reported. A failure ends the search.
 const UNOPENED: &[(u64, &str)] = &[
     (0, "device ROOT/a.proto\n"),
     (1, "device ROOT/b.proto\n"),
@@ -480,7 +480,7 @@ const UNOPENED: &[(u64, &str)] = &[
     (4, "device OUT\n"),
 ];
 
-/// After how many reads each file fails, and the device that is told.
+/// After how many reads each file fails, and the device that is reported.
 const UNREAD: &[(u64, &str)] = &[
     (0, "device ROOT/a.proto\n"),
     (36, "device ROOT/a.proto\n"),

@@ -1,5 +1,5 @@
 //! Sets of proto2 that are read leniently, and what a set declares. The set is what protoc writes of b.proto and a.proto, the message what protoc
-//! encodes by them; what is told is worked out by the rules of messages, of lenient reading and of listings.
+//! encodes by them; what is printed is worked out by the rules of messages, of lenient reading and of listings.
 
 use pb_cli::MemFiles;
 use pbtool_runs::{Failures, NONE, Run, after, has_lines, run_separate};
@@ -20,7 +20,7 @@ const FILES: &[(&str, &str)] = &[
     ("s", SET),
     // id: 5 name: "x" sizes { key: "a" value: LARGE } [tags.note]: "hi" [shop.Item.inner]: 7
     ("m", "08051201781a050a01611001a206026869a80607"),
-    // The same behind its length, and the empty message.
+    // The same after its length, and the empty message.
     ("f", "1408051201781a050a01611001a206026869a8060700"),
     // An entry of sizes with a number that Size does not declare.
     ("u", "1a050a01621009"),
@@ -36,7 +36,7 @@ const FILES: &[(&str, &str)] = &[
     ("e", ""),
 ];
 
-/// Words, and behind each bar a line that is printed, or behind a mark told.
+/// Words, and after each bar a line that is printed, or after a mark reported.
 const ROWS: &str = r#"
 check s shop.Item m|!set file 0 cause Extension
 show s shop.Item m|!set file 0 cause Extension

@@ -7,14 +7,14 @@ use pbtool_runs::{Failures, NONE, after, run_over};
 use std::alloc::Global;
 use std::test::Fail;
 
-/// What `raw` tells of a file, and `raw --short` of it: both on standard output, or the line on standard error.
+/// What `raw` prints of a file, and `raw --short` of it: both on standard output, or the line on standard error.
 #[derive(Clone, Copy)]
 enum Told {
     Shown(&'static str, &'static str),
     Refused(&'static str),
 }
 
-/// The bytes of a file in hexadecimal, and what is told of them.
+/// The bytes of a file in hexadecimal, and what is printed of them.
 #[derive(Clone, Copy)]
 struct Row(&'static str, Told);
 
@@ -260,7 +260,7 @@ const ANSWERS: &[(&[&str], &[u8])] = &[
     (&["raw", "--short", "f"], b"08960112017a2d01000000\n"),
 ];
 
-// Each write of standard output fails in turn: what went out before stands.
+// Each write of standard output fails in turn: what went out before stays.
 #[test]
 fn output_fails(rt: HostRuntime) -> Result<(), Fail> {
     let alloc = rt.alloc();

@@ -1,4 +1,4 @@
-//! The commands that read messages by a type. The sets T, F, M, Q and R are what protoc writes of these files; what is told is worked out
+//! The commands that read messages by a type. The sets T, F, M, Q and R are what protoc writes of these files; what is printed is worked out
 //! by the rules of messages, of their canonical form and of listings.
 
 use pbtool_runs::{Failures, NONE, Run, SET_OF_M, after, files_of, has_lines, run_words};
@@ -37,7 +37,7 @@ const Q: &str =
 const R: &str =
     "0a8f020a07722e70726f746f2283020a015212120a016c18012003280a32042e522e4c52016c12140a016818022001280a32042e522e484800520168120e0a016e180320012805480052016e12170a016d18042003280b32092e522e4d456e74727952016d12100a01701805200328114202100052017012100a016618062003280742021001520166120c0a017318072001280952017312100a017218082001280b32022e525201721a110a014c120c0a01781801200128055201781a150a014812100a017218012001280b32022e525201721a380a064d456e74727912100a036b657918012001280552036b657912180a0576616c756518022001280b32022e52520576616c75653a02380142030a016f";
 
-/// A set, whose message type has its name, and the bytes of a message; behind the first bar its canonical bytes, and behind each
+/// A set, whose message type has its name, and the bytes of a message; after the first bar its canonical bytes, and after each
 /// other one a line of its listing.
 const MESSAGES: &str = r#"
 T -|
@@ -102,7 +102,7 @@ R 3501000000|320401000000|f: 1
 R 3a004200|3a004200|s: ""|r {|}
 "#;
 
-/// A command, a set, a type and the bytes of a file; behind each bar a line that is printed, or behind a mark told.
+/// A command, a set, a type and the bytes of a file; after each bar a line that is printed, or after a mark reported.
 const COMMANDS: &str = "
 frames T T 03089601000208|frame 0 at 0 size 4|  a: 150|frame 1 at 4 size 1|!frame 2 byte 2 path 1[0] cause Truncated
 frames T T 010805|!frame 0 byte 2 path 1[0] cause PastEnd
@@ -138,12 +138,12 @@ show T T 1a050896|!byte 4 path 3[0].1[0] cause Truncated
 canon T T 0b|!byte 1 path 1[0] cause Truncated
 ";
 
-/// The first word of a row, and what is behind it.
+/// The first word of a row, and what is after it.
 fn word(row: &str) -> (&str, &str) {
     row.split_once(' ').unwrap_or((row, ""))
 }
 
-/// A set by its name, or bytes in hexadecimal. A dash stands for none.
+/// A set by its name, or bytes in hexadecimal. A dash is for none.
 fn bytes_of(alloc: Global, word: &str) -> Result<Vec<u8>, Fail> {
     let digits = match word {
         "T" => T,
@@ -169,7 +169,7 @@ fn run_on(
     run_words(alloc, words, &mut files, failures)
 }
 
-/// Whether a command over a set, a type of it and a file prints and tells these lines.
+/// Whether a command over a set, a type of it and a file prints these lines.
 fn tells(
     alloc: Global,
     command: &str,
@@ -184,7 +184,7 @@ fn tells(
     has_lines(alloc, &run, lines)
 }
 
-/// What stands before the first bar, and what is behind it, if there is one.
+/// What is before the first bar, and what is after it, if there is one.
 fn bar(row: &str) -> (&str, Option<&str>) {
     match row.split_once('|') {
         Some((words, lines)) => (words, Some(lines)),
@@ -261,7 +261,7 @@ fn inputs_fail(rt: HostRuntime) -> Result<(), Fail> {
     Ok(())
 }
 
-/// Words, after how many calls the files fail, and the device that is told.
+/// Words, after how many calls the files fail, and the device that is reported.
 const UNOPENED: &[(&[&str], u64, &str)] = &[
     (&["check", "x", "M", "x"], 9, "device x\n"),
     (&["check", "s", "M", "x"], 9, "device x\n"),
@@ -291,7 +291,7 @@ fn files_fail(rt: HostRuntime) -> Result<(), Fail> {
     Ok(())
 }
 
-/// What each command prints of the bytes of a file; `frames` of two messages, behind which the last one is cut short.
+/// What each command prints of the bytes of a file; `frames` of two messages, after which the last one is cut short.
 const PRINTED: &[(&str, &[u8], &[u8])] = &[
     ("check", b"\x08\x05", b"ok\n"),
     ("show", b"\x08\x05", b"a: 5\n"),
@@ -303,7 +303,7 @@ const PRINTED: &[(&str, &[u8], &[u8])] = &[
     ),
 ];
 
-/// Whether what went out before a write failed stands, and the device is told.
+/// Whether what went out before a write failed stays, and the device is reported.
 fn is_cut(alloc: Global, command: &str, file: &[u8], printed: &[u8]) -> Result<bool, Fail> {
     let set = bytes_of(alloc, SET_OF_M)?;
     let out = Failures {
