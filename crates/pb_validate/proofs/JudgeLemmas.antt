@@ -1,6 +1,7 @@
 -- Whole records from one place to another, and what refuses the others.
 use Rattle.std.proofs.Common.{◌≡◌, ◌≢◌, ℕ, zero, suc, ◌+◌, ◌-◌, ◌<◌, ◌≤◌, ◌^◌, List, [], ◌∷◌, ◌++◌, length, take, drop, refl, sym, ap, subst, ◌∙◌, arith, length-drop, Option, Some, None, Result, Ok, Err, inl, inr, ◌⊎◌}
 use Rattle.std.specs.Prelude.{reverse, IfOk, IfErr, IsErrAnd}
+use Rattle.std.specs.Result.{result_ok}
 use Rattle.std.proofs.lemmas.List.{reverse-append, take_at, length-take}
 use Rattle.pb_wire.specs.Record.{Payload, varint, fixed64, fixed32, len, group, Record, group_of}
 use Rattle.pb_wire.specs.Spell.{Body, Spells, AreRecords}
@@ -10,7 +11,8 @@ use Rattle.pb_wire.specs.Sound.{Sound, AllSound}
 use Rattle.pb_wire.specs.Grammar.{Bad, RecordFault, Begins, HasFault, beyond}
 use Rattle.pb_wire.specs.Exact.{IsOver, IsSomeText}
 use Rattle.pb_wire.specs.Limits.{Bounds}
-use Rattle.pb_wire.specs.Token.{given_at}
+use Rattle.pb_wire.specs.Scan.{given_at, NumberFault}
+use Rattle.pb_wire.specs.declared.scan.Number.TheVariants as number
 use Rattle.pb_wire.specs.declared.fault.Cause.TheVariants.{TooDeep, PastEnd}
 use Rattle.pb_wire.specs.declared.fault.PathStep.{PathStep}
 use Rattle.pb_wire.specs.declared.fault.WireFault.{WireFault}
@@ -27,13 +29,21 @@ use Rattle.pb_schema.specs.Types.{Types}
 use Rattle.pb_schema.specs.Context.{Context, schema_of, group_in}
 use Rattle.pb_validate.specs.declared.refusal.Refusal.{Refusal}
 use Rattle.pb_validate.specs.declared.refusal.Refusal.TheVariants as refusal
-use Rattle.pb_validate.specs.Here.{here}
-use Rattle.pb_validate.specs.Numbers.{IsNumberOfType, NumberFault}
-use Rattle.pb_validate.specs.Payloads.{UnreadFault, TextFault, ListFault, MessageFault}
-use Rattle.pb_validate.specs.Judging.{Front, ReadsAll, ReadsValue, opened, Refuses, RefusesFrom, RefusesRecord, IsRefusal, IsFault}
+use Rattle.pb_wire.specs.Scan.{here}
+use Rattle.pb_validate.specs.Payloads.{IsNumberOfType, ReadsPayload, UnreadFault, TextFault, ListFault, MessageFault}
+use Rattle.pb_validate.specs.Judging.{Front, ReadsAll, ReadsValue, ReadsRecord, opened, Refuses, RefusesBelow, IsRefusal, IsFault}
+use Rattle.pb_validate.specs.Whole.{AreWhole}
 use Rattle.pb_validate.proofs.HereLemmas.{payload_leads}
 
 -- ---- answers
+
+-- what is open from p on is refused, and the record of a number that begins there
+abbrev pub Refused : Types → Open Context → ℕ → Place → Refusal → List PathStep → Type 0
+Refused pool o levels p e steps = Refuses e steps (Bad (schema_of pool) o levels p)
+
+abbrev pub RefusedOne : Types → Open Context → ℕ → ℕ → Place → Refusal → List PathStep → Type 0
+RefusedOne pool o levels k p e steps =
+    (before : List Record) → RefusesBelow e (step k before) steps (RecordFault (schema_of pool) o before levels p)
 
 pub ok_map : {A E : Type 0} (r : Result A E) (P Q : A → Type 0) → ((a : A) → P a → Q a) → IfOk r P → IfOk r Q
 ok_map (Ok a) P Q f h = f a h
@@ -128,14 +138,19 @@ group_value S c (suc n) k p q some (rs, all) =
 
 pub number_value :
     (S : Schema) (c : S.Context) (levels k w : ℕ) (p q : Place) → IsNumberOfType w p q → (payload : Payload) × ReadsValue S c levels k w p payload q
-number_value S c levels k w p q (IsNumberOfType.a_varint {n} e reads) =
+number_value S c levels k w p q (number.Varint n, type, follows) =
+    (varint n, record { type = type; spelled = follows; sound = Sound.is_varint })
+number_value S c levels k w p q (number.I64 n, type, follows) =
+    (fixed64 n, record { type = type; spelled = follows; sound = Sound.is_fixed64 })
+number_value S c levels k w p q (number.I32 n, type, follows) =
+    (fixed32 n, record { type = type; spelled = follows; sound = Sound.is_fixed32 })
+
+-- a varint is a number of the wire type 0
+pub varint_number : {p q : Place} (n : ℕ) → Reads p n q → IsNumberOfType 0 p q
+varint_number n reads =
     let is = reads.1.value in
     let small : n < 2 ^ 64 = omega (arith, is) in
-    (varint n, record { type = sym e; spelled = (reads.0, (small, reads.1), reads.2); sound = Sound.is_varint })
-number_value S c levels k w p q (IsNumberOfType.eight_bytes e (n, small, leads)) =
-    (fixed64 n, record { type = sym e; spelled = (leads.0, (small, leads.1), leads.2); sound = Sound.is_fixed64 })
-number_value S c levels k w p q (IsNumberOfType.four_bytes e (n, small, leads)) =
-    (fixed32 n, record { type = sym e; spelled = (leads.0, (small, leads.1), leads.2); sound = Sound.is_fixed32 })
+    (number.Varint n, refl, (reads.0, (small, reads.1), reads.2))
 
 pub message_sound :
     (S : Schema) (c d : S.Context) (levels k : ℕ) (s : List ℕ) (rs : List Record) → 0 < levels → S.reading c k ≡ message d → AreRecords rs s
@@ -148,7 +163,7 @@ message_sound S c d (suc n) k s rs some read spelled sound =
 pub message_whole :
     (S : Schema) (c : S.Context) (levels : ℕ) (b : List ℕ) (at start size end : ℕ) (to : Option ℕ) → HasLength (here b at to) size (here b start to)
     → end ≤ length b → (rs : List Record) × ReadsAll S (records c) levels (here b start (Some (start + size))) rs (here b end (Some (start + size)))
-    → (rs : List Record) × (s : List ℕ) × AreRecords rs s × AllSound S c levels rs × ((k : ℕ) → Leads (Body k (len s)) (here b at to) (here b end to))
+    → ReadsPayload (AreWhole S c levels) (here b at to) (here b end to)
 message_whole S c levels b at start size end to l within (rs, all) =
     let front = all.0 in
     let moves = front.spelled.2 in
@@ -156,10 +171,8 @@ message_whole S c levels b at start size end to l within (rs, all) =
     let n : length front.spelled.0 ≡ size = let h = moves.at in let w = moves.within in omega (arith, h, w, past) in
     let there : start + size ≡ end = let h = moves.at in omega (arith, h, n) in
     let same : front.spelled.0 ≡ take size (drop start b) = sym (ap (take size) moves.given ∙ take_at front.spelled.0 (drop end b) size n) in (
-      rs,
       take size (drop start b),
-      subst (AreRecords rs) same front.spelled.1,
-      front.sound,
+      (rs, subst (AreRecords rs) same front.spelled.1, front.sound),
       λ k. subst (λ (z : ℕ). Leads (Body k (len (take size (drop start b)))) (here b at to) (here b z to)) there
           (payload_leads b at start size to l (omega (arith, there, within)) k),
     )
@@ -234,8 +247,8 @@ tag_refused pool (Some k) c levels p q rs f front goes bad = by_end (known_is q.
 -- a record that is refused, after whole records
 pub record_refused :
     (pool : Types) (g : Option ℕ) (c : Context) (levels k w : ℕ) (p q u : Place) (rs : List Record) (old new : List PathStep) (e : Refusal)
-    → Front (schema_of pool) c levels p rs q → HasTag q k w u → new ≡ old ++ step k rs ∷ [] → RefusesRecord pool (opened g c) levels k q e old
-    → RefusesFrom pool (opened g c) levels p e new
+    → Front (schema_of pool) c levels p rs q → HasTag q k w u → new ≡ old ++ step k rs ∷ [] → RefusedOne pool (opened g c) levels k q e old
+    → Refused pool (opened g c) levels p e new
 record_refused pool g c levels k w p q u rs old new (refusal.Fault f) front tag is bad =
     let last : reverse new ≡ step k rs ∷ reverse old = ap reverse is ∙ reverse-append old (step k rs ∷ []) in
     rw last (bad_from pool g c levels p q rs (fault f.byte (step k rs ∷ reverse old) f.cause) front (begins_number g c tag.tag) (bad rs))
@@ -245,7 +258,7 @@ record_refused pool g c levels k w p q u rs old new refusal.Memory front tag is 
 -- there is a fault where its path can't be kept
 pub some_fault :
     (pool : Types) (g : Option ℕ) (c : Context) (levels k w : ℕ) (p q u : Place) (rs : List Record) (old : List PathStep) (e : Refusal)
-    → Front (schema_of pool) c levels p rs q → HasTag q k w u → RefusesRecord pool (opened g c) levels k q e old
+    → Front (schema_of pool) c levels p rs q → HasTag q k w u → RefusedOne pool (opened g c) levels k q e old
     → (f : Fault) × Bad (schema_of pool) (opened g c) levels p f
 some_fault pool g c levels k w p q u rs old (refusal.Fault f) front tag bad =
     (fault f.byte (step k rs ∷ reverse old) f.cause, bad_from pool g c levels p q rs _ front (begins_number g c tag.tag) (bad rs))
@@ -254,18 +267,20 @@ some_fault pool g c levels k w p q u rs old refusal.Memory front tag bad =
 
 -- a record that is refused is none
 pub refused_is_none :
-    {A : Type 0} (result : Result A Refusal) (pool : Types) (c : Context) (levels k w : ℕ) (p q : Place) (steps : List PathStep)
-    → ((a : A) → result ≡ Ok a → ⊥) → IfErr result (λ e. RefusesRecord pool (records c) levels k p e steps) → HasTag p k w q
-    → (payload : Payload) (r : Place) → ReadsValue (schema_of pool) c levels k w q payload r → ⊥
-refused_is_none (Ok a) pool c levels k w p q steps not_ok err tag payload r v = not_ok a refl
-refused_is_none (Err e) pool c levels k w p q steps not_ok err tag payload r v = by_refusal e err
+    {A : Type 0} (result : Result A Refusal) (pool : Types) (g : Option ℕ) (c : Context) (levels k w : ℕ) (p q : Place) (steps : List PathStep)
+    → IfErr result (λ e. RefusedOne pool (opened g c) levels k p e steps) → HasTag p k w q → result_ok result ≡ None
+    → (r : Place) → ReadsRecord (schema_of pool) c levels k w q r → ⊥
+refused_is_none (Ok a) pool g c levels k w p q steps err tag none r v = absurd cc
+refused_is_none (Err e) pool g c levels k w p q steps err tag none r (payload, v) = by_refusal g e err
   where
     value : ValueAt (schema_of pool) c levels k w q r
     value = record { payload = payload; type = v.type; body = v.spelled.0; spelled = v.spelled.1; sound = v.sound; moves = v.spelled.2 }
 
-    by_refusal : (e : Refusal) → RefusesRecord pool (records c) levels k p e steps → ⊥
-    by_refusal (refusal.Fault w) bad = bad_not_record (bad []) (record_of tag value)
-    by_refusal refusal.Memory bad = bad_not_record (bad []).1 (record_of tag value)
+    by_refusal : (g : Option ℕ) (e : Refusal) → RefusedOne pool (opened g c) levels k p e steps → ⊥
+    by_refusal None (refusal.Fault w) bad = bad_not_record (bad []) (record_of tag value)
+    by_refusal None refusal.Memory bad = bad_not_record (bad []).1 (record_of tag value)
+    by_refusal (Some m) (refusal.Fault w) bad = bad_not_record (bad []) (record_of tag value)
+    by_refusal (Some m) refusal.Memory bad = bad_not_record (bad []).1 (record_of tag value)
 
 -- ---- faults of one record
 
@@ -273,19 +288,19 @@ refused_is_none (Err e) pool c levels k w p q steps not_ok err tag payload r v =
 pub below_tag :
     (pool : Types) (o : Open Context) (levels k : ℕ) (p : Place) (e : Refusal) (steps : List PathStep) (P : Fault → Type 0)
     → ((before : List Record) (f : Fault) → P f → RecordFault (schema_of pool) o before levels p (inside (step k before) f)) → Refuses e steps P
-    → RefusesRecord pool o levels k p e steps
+    → RefusedOne pool o levels k p e steps
 below_tag pool o levels k p (refusal.Fault w) steps P g h = λ before. g before (fault w.byte (reverse steps) w.cause) h
 below_tag pool o levels k p refusal.Memory steps P g h = λ before. (inside (step k before) h.0, g before h.0 h.1)
 
 pub group_too_deep :
     (pool : Types) (o : Open Context) (levels k : ℕ) (p q : Place) (w : WireFault) (steps : List PathStep) → HasTag p k 3 q → levels ≡ 0 → steps ≡ []
-    → w ≡ record { byte = p.at; cause = TooDeep } → RefusesRecord pool o levels k p (refusal.Fault w) steps
+    → w ≡ record { byte = p.at; cause = TooDeep } → RefusedOne pool o levels k p (refusal.Fault w) steps
 group_too_deep pool o levels k p q w steps tag none no_steps is = λ before. rw (no_steps, is) (RecordFault.group_too_deep tag none refl)
 
 pub message_too_deep :
     (pool : Types) (g : Option ℕ) (c d : Context) (levels k : ℕ) (p q : Place) (w : WireFault) (steps : List PathStep) → HasTag p k 2 q
     → (schema_of pool).reading c k ≡ message d → levels ≡ 0 → steps ≡ [] → w ≡ record { byte = p.at; cause = TooDeep }
-    → RefusesRecord pool (opened g c) levels k p (refusal.Fault w) steps
+    → RefusedOne pool (opened g c) levels k p (refusal.Fault w) steps
 message_too_deep pool None c d levels k p q w steps tag read none no_steps is =
     λ before. rw (no_steps, is) (RecordFault.message_too_deep tag read none refl)
 message_too_deep pool (Some m) c d levels k p q w steps tag read none no_steps is =

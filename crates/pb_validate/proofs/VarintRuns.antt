@@ -9,10 +9,10 @@ use Rattle.pb_wire.specs.Fault.{Place, Reads, Moves}
 use Rattle.pb_wire.specs.Schema.{Element, a_varint}
 use Rattle.pb_wire.specs.Sound.{IsElement, AreElements, no_elements, element}
 use Rattle.pb_wire.proofs.Transfers.{take-add}
-use Rattle.pb_wire.proofs.TokenLemmas.{moves_passed}
-use Rattle.pb_validate.specs.Here.{here}
+use Rattle.pb_wire.proofs.ScanLemmas.{moves_passed}
+use Rattle.pb_wire.specs.Scan.{here}
 use Rattle.pb_validate.specs.Whole.{ends_varint, Begun}
-use Rattle.pb_validate.proofs.HereLemmas.{here_passed}
+use Rattle.pb_wire.proofs.HereLemmas.{here_passed}
 
 -- ---- one varint
 

@@ -1,10 +1,10 @@
--- What records stand in and how they are read, as the code has it.
+-- What holds records and how they are read, as the code has it.
 use Rattle.std.specs.Prelude.{ℕ, ◌<◌, length}
 use Rattle.pb_wire.specs.Schema as wire
 use Rattle.pb_wire.specs.Schema.{a_varint, four_bytes, eight_bytes}
 use Rattle.pb_schema.specs.declared.types.Kind.{Kind}
 use Rattle.pb_schema.specs.Types.{Types}
-use Rattle.pb_schema.specs.Rules.{NamesType}
+use Rattle.pb_schema.specs.Rules.{NamesType, IsPool}
 use Rattle.pb_schema.specs.Context as schema
 use Rattle.pb_validate.specs.declared.context.Context.{Context}
 use Rattle.pb_validate.specs.declared.context.Context.TheVariants as context
@@ -53,3 +53,8 @@ IsReadingIn pool c wire.text = Unit {0}
 IsReadingIn pool c (wire.message d) = IsIn pool d
 IsReadingIn pool c (wire.same_level d) = IsIn pool d × (rank d < rank c)
 IsReadingIn pool c (wire.packed e) = Unit {0}
+
+-- records of a context can be read: the pool's rules hold, and the context is of its types
+pub record CanRead (pool : Types) (c : schema.Context) : Type 0 where
+  pub rules : IsPool pool
+  pub of_pool : IsIn pool c

@@ -1,5 +1,5 @@
 -- What the parts of the judge say of one another.
-use Rattle.std.specs.Prelude.{◌≡◌, ℕ, List, ◌∷◌, reverse, Option, Some, None}
+use Rattle.std.specs.Prelude.{◌≡◌, ℕ, ◌<◌, ◌≤◌, ◌^◌, List, [], ◌∷◌, length, reverse, Option, Some, None}
 use Rattle.pb_wire.specs.Record.{Payload, wire_type, Record}
 use Rattle.pb_wire.specs.Spell.{Body, AreRecords}
 use Rattle.pb_wire.specs.Fault.{Fault, fault, step, Place, Leads, HasTag}
@@ -10,12 +10,11 @@ use Rattle.pb_wire.specs.Exact.{IsOver}
 use Rattle.pb_wire.specs.declared.fault.PathStep.{PathStep}
 use Rattle.pb_wire.specs.declared.fault.RawError.{RawError}
 use Rattle.pb_wire.specs.declared.fault.RawError.TheVariants as raw
-use Rattle.pb_schema.specs.Types.{Types}
 use Rattle.pb_schema.specs.Context.{Context, schema_of}
 use Rattle.pb_validate.specs.declared.refusal.Refusal.{Refusal}
 use Rattle.pb_validate.specs.declared.refusal.Refusal.TheVariants as refusal
-use Rattle.pb_validate.specs.declared.judging.Scope.{Scope}
-use Rattle.pb_validate.specs.Contexts.{context_view}
+use Rattle.pb_validate.specs.declared.scope.Scope.{Scope}
+use Rattle.pb_validate.specs.Contexts.{context_view, CanRead}
 
 -- ---- records
 
@@ -35,13 +34,33 @@ pub record ReadsValue (S : Schema) (c : S.Context) (levels k code : ℕ) (p : Pl
   pub spelled : Leads (Body k payload) p q
   pub sound : Sound S c levels k payload
 
+-- a record of a number and a wire type goes from p, after its tag, to q
+abbrev pub ReadsRecord : (S : Schema) → S.Context → (levels k code : ℕ) → Place → Place → Type 0
+ReadsRecord S c levels k code p q = (payload : Payload) × ReadsValue S c levels k code p payload q
+
 -- what is open innermost: a group of a number, if there is one, or all else
 abbrev pub opened : Option ℕ → Context → Open Context
 opened None c = records c
 opened (Some k) c = in_group k c
 
+-- ---- in a scope
+
 abbrev pub open_view : Scope → Open Context
 open_view f = opened f.group (context_view f.context)
+
+-- records of this scope can be judged from an index of the bytes on, where no step is reported so far
+pub record CanJudge (f : Scope) (bytes : List ℕ) (at : ℕ) (steps : List PathStep) : Type 0 where
+  pub of_pool : CanRead f.pool.now (context_view f.context)
+  pub levels : f.levels ≤ 100
+  pub small : length bytes < 2 ^ 31
+  pub at_in_bounds : at ≤ length bytes
+  pub no_steps : steps ≡ []
+
+abbrev pub ReadsRecords : Scope → Place → Place → Type 0
+ReadsRecords f p q = (rs : List Record) × ReadsAll (schema_of f.pool.now) (open_view f) f.levels p rs q
+
+abbrev pub ReadsOne : Scope → (k code : ℕ) → Place → Place → Type 0
+ReadsOne f k code p q = ReadsRecord (schema_of f.pool.now) (context_view f.context) f.levels k code p q
 
 -- ---- refusals
 
@@ -55,14 +74,14 @@ abbrev pub RefusesBelow : Refusal → PathStep → List PathStep → (Fault → 
 RefusesBelow (refusal.Fault w) first steps P = P (fault w.byte (first ∷ reverse steps) w.cause)
 RefusesBelow refusal.Memory first steps P = (f : Fault) × P f
 
--- what is open from p on is refused
-abbrev pub RefusesFrom : Types → Open Context → ℕ → Place → Refusal → List PathStep → Type 0
-RefusesFrom pool o levels p e steps = Refuses e steps (Bad (schema_of pool) o levels p)
+-- the records of a scope from p on are refused
+abbrev pub RefusesRecords : Scope → Place → Refusal → List PathStep → Type 0
+RefusesRecords f p e steps = Refuses e steps (Bad (schema_of f.pool.now) (open_view f) f.levels p)
 
 -- the record of a number that begins at p is refused, whatever records come before it
-abbrev pub RefusesRecord : Types → Open Context → ℕ → ℕ → Place → Refusal → List PathStep → Type 0
-RefusesRecord pool o levels k p e steps =
-    (before : List Record) → RefusesBelow e (step k before) steps (RecordFault (schema_of pool) o before levels p)
+abbrev pub RefusesRecord : Scope → ℕ → Place → Refusal → List PathStep → Type 0
+RefusesRecord f k p e steps =
+    (before : List Record) → RefusesBelow e (step k before) steps (RecordFault (schema_of f.pool.now) (open_view f) before f.levels p)
 
 -- the error is a fault of which this holds, or there is one where memory is refused
 abbrev pub IsRefusal : RawError → (Fault → Type 0) → Type 0

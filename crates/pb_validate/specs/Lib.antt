@@ -1,6 +1,5 @@
 pub mod Contexts
 pub mod Here
-pub mod Numbers
 pub mod Payloads
 pub mod Judging
 pub mod Whole

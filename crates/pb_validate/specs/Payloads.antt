@@ -1,10 +1,22 @@
--- What is wrong with a payload that holds no records, at its length or after it.
-use Rattle.std.specs.Prelude.{◌≡◌, ℕ, ◌+◌, ◌≤◌, [], length, take, IsUtf8}
+-- What is after a tag, a number or a length and its payload, and what is wrong with them.
+use Rattle.std.specs.Prelude.{◌≡◌, ℕ, ◌+◌, ◌≤◌, List, [], length, take, IsUtf8}
 use Rattle.std.specs.Str.Lossy.{utf8_valid_len}
 use Rattle.pb_wire.specs.declared.fault.Cause.TheVariants.{BadText}
-use Rattle.pb_wire.specs.Fault.{Fault, fault, Place, HasLength, LengthFault, CutFault}
+use Rattle.pb_wire.specs.Fault.{Fault, fault, Place, Leads, HasLength, LengthFault, CutFault}
+use Rattle.pb_wire.specs.Record.{len, wire_type}
+use Rattle.pb_wire.specs.Spell.{Body}
+use Rattle.pb_wire.specs.Scan.{Follows, number_view}
+use Rattle.pb_wire.specs.declared.scan.Number.{Number}
 use Rattle.pb_wire.specs.Schema.{Schema, Element, records}
 use Rattle.pb_wire.specs.Grammar.{Bad, BadElements, payload_at}
+
+-- a number of a wire type leads from p to q
+abbrev pub IsNumberOfType : ℕ → Place → Place → Type 0
+IsNumberOfType w p q = (x : Number) × (wire_type (number_view x) ≡ w) × Follows p (number_view x) q
+
+-- a length and a payload of which this holds lead from p to q
+abbrev pub ReadsPayload : (List ℕ → Type 0) → Place → Place → Type 0
+ReadsPayload Holds p q = (s : List ℕ) × Holds s × ((k : ℕ) → Leads (Body k (len s)) p q)
 
 pub data UnreadFault (p : Place) (f : Fault) : Type 0 where
   a_length : LengthFault p f → UnreadFault p f

@@ -1,4 +1,4 @@
-//! What records stand in, and how a record of a number is read there.
+//! What holds records, and how a record of a number is read there.
 
 ghost use Rattle.std.specs.Prelude.{◌≡◌};
 ghost use Rattle.pb_wire.specs.Schema.{Element as WireElement};
@@ -10,7 +10,7 @@ ghost use Rattle.pb_validate.specs.Contexts.{context_view, element_view, reading
 
 use pb_schema::{Field, Kind, MessageId, Pool, Shape};
 
-/// What records stand in.
+/// What holds records.
 #[derive(Clone, Copy)]
 pub(crate) enum Context {
     Message(MessageId),
@@ -48,7 +48,7 @@ fn message_in(context: Context, message: MessageId) -> Reading
 {
     match context {
         Context::Entry(_, _) => Reading::SameLevel(Context::Message(message)),
-        Context::Message(_) | Context::UnknownGroup => Reading::Message(Context::Message(message)),
+        _ => Reading::Message(Context::Message(message)),
     }
 }
 
@@ -60,23 +60,7 @@ fn singular(context: Context, kind: Kind) -> Reading
     match kind {
         Kind::Text => Reading::Text,
         Kind::Message(message) => message_in(context, message),
-        Kind::Double
-        | Kind::Float
-        | Kind::Int64
-        | Kind::Uint64
-        | Kind::Int32
-        | Kind::Fixed64
-        | Kind::Fixed32
-        | Kind::Bool
-        | Kind::Bytes
-        | Kind::Uint32
-        | Kind::Sfixed32
-        | Kind::Sfixed64
-        | Kind::Sint32
-        | Kind::Sint64
-        | Kind::Enum(_)
-        | Kind::Group(_)
-        | Kind::ClosedEnum(_) => Reading::Unread,
+        _ => Reading::Unread,
     }
 }
 
@@ -86,20 +70,10 @@ fn listed(context: Context, kind: Kind) -> Reading
     ensures { reading_view result ≡ read_listed (context_view context) kind }
 {
     match kind {
-        Kind::Text => Reading::Text,
-        Kind::Bytes | Kind::Group(_) => Reading::Unread,
-        Kind::Message(message) => message_in(context, message),
+        Kind::Text | Kind::Bytes | Kind::Message(_) | Kind::Group(_) => singular(context, kind),
         Kind::Double | Kind::Fixed64 | Kind::Sfixed64 => Reading::Packed(Element::EightBytes),
         Kind::Float | Kind::Fixed32 | Kind::Sfixed32 => Reading::Packed(Element::FourBytes),
-        Kind::Int64
-        | Kind::Uint64
-        | Kind::Int32
-        | Kind::Bool
-        | Kind::Uint32
-        | Kind::Sint32
-        | Kind::Sint64
-        | Kind::Enum(_)
-        | Kind::ClosedEnum(_) => Reading::Packed(Element::Varint),
+        _ => Reading::Packed(Element::Varint),
     }
 }
 
@@ -111,7 +85,7 @@ fn of_field(context: Context, field: &Field) -> Reading
     match field.shape {
         Shape::Map { key } => Reading::Message(Context::Entry(key, field.kind)),
         Shape::List { packed: _ } => listed(context, field.kind),
-        Shape::Implicit | Shape::Explicit | Shape::OneofMember(_) => singular(context, field.kind),
+        _ => singular(context, field.kind),
     }
 }
 
@@ -127,15 +101,11 @@ pub(crate) fn reading_of(pool: &Pool, context: Context, number: u32) -> Reading
             Some(field) => of_field(context, field),
             None => Reading::Unread,
         },
-        Context::Entry(key, value) => {
-            if number == 1 {
-                singular(context, key)
-            } else if number == 2 {
-                singular(context, value)
-            } else {
-                Reading::Unread
-            }
-        }
+        Context::Entry(key, value) => match number {
+            1 => singular(context, key),
+            2 => singular(context, value),
+            _ => Reading::Unread,
+        },
         Context::UnknownGroup => Reading::Unread,
     }
 }
@@ -166,6 +136,6 @@ pub(crate) fn group_context(pool: &Pool, context: Context, number: u32) -> Conte
             Some(field) => group_of(field),
             None => Context::UnknownGroup,
         },
-        Context::Entry(_, _) | Context::UnknownGroup => Context::UnknownGroup,
+        _ => Context::UnknownGroup,
     }
 }

@@ -7,17 +7,13 @@
 #![tactic(auto)]
 
 mod context;
-mod elements;
 mod judging;
 mod payload;
-mod record;
 mod refusal;
-mod step;
-mod tokens;
+mod scope;
 mod varints;
 mod whole;
 
-pub use judging::{find_fault, judge};
+pub use judging::{find_fault, judge, record_end};
 pub use payload::payload_at;
-pub use record::record_end;
-pub use tokens::{RecordTag, tag_at};
+pub use pb_wire::{RecordTag, tag_at};

@@ -1,13 +1,16 @@
-//! Why bytes are refused, while the steps of the path are kept elsewhere.
+//! Why bytes are refused, while the steps of the path are kept elsewhere, and those steps.
 
-ghost use Rattle.std.specs.Prelude.{◌≡◌, reverse};
-ghost use Rattle.pb_wire.specs.Fault.{fault as fault_with};
+ghost use Rattle.std.specs.Prelude.{◌≡◌, ◌<◌, ◌^◌, List, length, reverse};
+ghost use Rattle.pb_wire.specs.Record.{Record};
+ghost use Rattle.pb_wire.specs.Fault.{fault as fault_with, step};
 ghost use Rattle.pb_wire.specs.Grammar.{beyond};
+ghost use Rattle.pb_wire.specs.Schema.{blank};
+ghost use Rattle.pb_wire.specs.Spell.{AreRecords};
+ghost use Rattle.pb_wire.specs.Sound.{AllSound};
 ghost use Rattle.pb_validate.specs.Judging.{IsFault};
 ghost use Rattle.pb_validate.specs.declared.refusal.Refusal.TheVariants.{Fault, Memory};
 
-use crate::tokens::refused;
-use pb_wire::{Cause, PathStep, RawError, WireFault};
+use pb_wire::{Cause, Limits, PathStep, RawError, RecordIter, WireFault, refused};
 use std::alloc::{AllocError, AllocFailed};
 
 /// A fault whose path is kept elsewhere, or no memory for a step of it.
@@ -62,4 +65,19 @@ pub(crate) fn of_longer(max_bytes: usize, fault: WireFault, mut steps: Vec<PathS
         return below(refused(max_bytes, Cause::InputTooLarge), steps);
     }
     below(fault, steps)
+}
+
+/// The step to a record of this number after these bytes, which spell whole records.
+pub(crate) fn step_after(bytes: &[u8], number: u32) -> PathStep
+    requires { length bytes.now < 2 ^ 31 }
+    ensures { (rs : List Record) → AreRecords rs bytes.now → AllSound blank tt 100 rs → result ≡ step number rs }
+{
+    let mut occurrence = 0;
+    for item in RecordIter::new(bytes, Limits::FULL) {
+        let Ok((other, _)) = item else { break };
+        if other == number {
+            occurrence += 1;
+        }
+    }
+    PathStep { number, occurrence }
 }

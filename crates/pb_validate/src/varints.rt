@@ -5,21 +5,21 @@ ghost use Rattle.std.specs.Slice.Scan.{little_endian, Flags};
 ghost use Rattle.pb_wire.specs.Fault.{Reads};
 ghost use Rattle.pb_wire.specs.Schema.{a_varint};
 ghost use Rattle.pb_wire.specs.Sound.{AreElements};
-ghost use Rattle.pb_validate.specs.Here.{here};
+ghost use Rattle.pb_wire.specs.Scan.{here};
 ghost use Rattle.pb_validate.specs.Whole.{ends_varint, Begun};
 
-use crate::tokens::varint_at;
+use pb_wire::varint_at;
 
 /// The high bit of each of eight bytes.
 const HIGH_BITS: u64 = 0x8080_8080_8080_8080;
 
-/// The eight bytes from an index on as a number, the least first.
+/// The high bits of those of the eight bytes from an index on that end a varint.
 #[inline(always)]
-fn word_at(bytes: &[u8], at: usize) -> u64
+fn last_bytes(bytes: &[u8], at: usize) -> u64
     requires { at + 8 ≤ length bytes.now }
-    ensures { result ≡ little_endian bytes.now at }
+    ensures { Flags (ends_varint bytes.now) at result }
 {
-    u64::from_le_bytes([
+    let word = u64::from_le_bytes([
         bytes[at],
         bytes[at + 1],
         bytes[at + 2],
@@ -28,16 +28,8 @@ fn word_at(bytes: &[u8], at: usize) -> u64
         bytes[at + 5],
         bytes[at + 6],
         bytes[at + 7],
-    ])
-}
-
-/// The high bits of those of the eight bytes from an index on that end a varint.
-#[inline(always)]
-fn last_bytes(bytes: &[u8], at: usize) -> u64
-    requires { at + 8 ≤ length bytes.now }
-    ensures { Flags (ends_varint bytes.now) at result }
-{
-    (word_at(bytes, at) & HIGH_BITS) ^ HIGH_BITS
+    ]);
+    (word & HIGH_BITS) ^ HIGH_BITS
 }
 
 /// The index after the varint that begins at an index, if it is whole.
@@ -86,22 +78,6 @@ fn begun_after_word(bytes: &[u8], at: usize, begun: usize) -> Option<usize>
     Some(last.leading_zeros() as usize / 8)
 }
 
-/// As `begun_after_word`, one byte further.
-#[inline(always)]
-fn begun_after_byte(bytes: &[u8], at: usize, begun: usize) -> Option<usize>
-    requires within { at < length bytes.now }
-    requires begun { Begun bytes.now at begun }
-    ensures { IfSome result (λ n. Begun bytes.now (at + 1) n) }
-{
-    if bytes[at] < 0x80 {
-        Some(0)
-    } else if begun < 9 {
-        Some(begun + 1)
-    } else {
-        None
-    }
-}
-
 /// Says that bytes are whole varints, one after another.
 pub(crate) fn are_varints(bytes: &[u8]) -> bool
     ensures { result ≡ true → AreElements a_varint bytes.now }
@@ -116,9 +92,12 @@ pub(crate) fn are_varints(bytes: &[u8]) -> bool
         at += 8;
     }
     while at < bytes.len() {
-        match begun_after_byte(bytes, at, begun) {
-            Some(after) => begun = after,
-            None => return false,
+        if bytes[at] < 0x80 {
+            begun = 0;
+        } else if begun < 9 {
+            begun += 1;
+        } else {
+            return false;
         }
         at += 1;
     }

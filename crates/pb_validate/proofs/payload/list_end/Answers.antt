@@ -6,7 +6,7 @@ use Rattle.pb_wire.specs.Spell.{Body}
 use Rattle.pb_wire.specs.Grammar.{BadElements}
 use Rattle.pb_validate.specs.Contexts.{element_view}
 use Rattle.pb_validate.specs.Payloads.{ListFault}
-use Rattle.pb_validate.specs.Here.{here}
+use Rattle.pb_wire.specs.Scan.{here}
 use Rattle.pb_validate.proofs.HereLemmas.{payload_leads, payload_here}
 use Rattle.pb_validate.proofs.JudgeLemmas.{both_ok, err_map}
 use Rattle.pb_validate.proofs.payload.list_end.Goals as goal

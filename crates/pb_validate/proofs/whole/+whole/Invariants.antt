@@ -1,7 +1,7 @@
 use Rattle.std.proofs.Common.{◌+◌, ◌-◌, ◌*◌, ◌≤◌, None, List, length}
 use Rattle.pb_wire.specs.Record.{Record}
 use Rattle.pb_schema.specs.Context.{schema_of}
-use Rattle.pb_validate.specs.Here.{here}
+use Rattle.pb_wire.specs.Scan.{here}
 use Rattle.pb_validate.specs.Contexts.{context_view, rank}
 use Rattle.pb_validate.specs.Judging.{Front}
 use Rattle.pb_validate.proofs.whole.+whole.Given as goal
@@ -21,14 +21,11 @@ decreases-records_are_whole l = 16 * l.levels + 8 * rank (context_view l.context
 abbrev pub decreases-record_end : goal.decreases-record_end
 decreases-record_end l = 16 * l.levels + 8 * rank (context_view l.context) + 2
 
-abbrev pub decreases-length_record_end : goal.decreases-length_record_end
-decreases-length_record_end l = 16 * l.levels + 8 * rank (context_view l.context) + 1
-
 abbrev pub decreases-payload_is_whole : goal.decreases-payload_is_whole
 decreases-payload_is_whole l = 16 * l.levels + 8 * rank (context_view l.context)
 
-abbrev pub decreases-group_record_end : goal.decreases-group_record_end
-decreases-group_record_end l = 16 * l.levels + 8 * rank (context_view l.context)
+abbrev pub decreases-group_end : goal.decreases-group_end
+decreases-group_end l = 16 * l.levels + 8 * rank (context_view l.context)
 
 abbrev pub invariant-records_are_whole-loop-at : goal.invariant-records_are_whole-loop-at
 invariant-records_are_whole-loop-at l =
@@ -38,10 +35,10 @@ invariant-records_are_whole-loop-at l =
 abbrev pub decreases-records_are_whole-loop-at : goal.decreases-records_are_whole-loop-at
 decreases-records_are_whole-loop-at l = length l.bytes - l.at
 
-abbrev pub invariant-group_record_end-loop-next : goal.invariant-group_record_end-loop-next
-invariant-group_record_end-loop-next l =
+abbrev pub invariant-group_end-loop-next : goal.invariant-group_end-loop-next
+invariant-group_end-loop-next l =
     (l.tag.end ≤ l.at) × (l.at ≤ length l.bytes)
     × (rs : List Record) × Front (schema_of l.pool) (context_view l.inner) (l.levels - 1) (here l.bytes l.tag.end None) rs (here l.bytes l.at None)
 
-abbrev pub decreases-group_record_end-loop-next : goal.decreases-group_record_end-loop-next
-decreases-group_record_end-loop-next l = length l.bytes - l.at
+abbrev pub decreases-group_end-loop-next : goal.decreases-group_end-loop-next
+decreases-group_end-loop-next l = length l.bytes - l.at
