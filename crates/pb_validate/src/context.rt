@@ -1,12 +1,10 @@
 //! What holds records, and how a record of a number is read there.
 
 ghost use Rattle.std.specs.Prelude.{◌≡◌};
-ghost use Rattle.pb_wire.specs.Schema.{Element as WireElement};
-ghost use Rattle.pb_schema.specs.Context.{element_of, message_in as message_read_in, read_singular, read_listed, read_field, read_shaped};
+ghost use Rattle.pb_schema.specs.Context.{message_in as message_read_in, read_singular, read_listed, read_shaped};
 ghost use Rattle.pb_schema.specs.Context.{schema_of, group_in, group_of_field};
 ghost use Rattle.pb_schema.specs.View.{field_view};
-ghost use Rattle.pb_schema.specs.Rules.{IsFieldOf};
-ghost use Rattle.pb_validate.specs.Contexts.{context_view, element_view, reading_view, IsIn, IsReadingIn, KindIn};
+ghost use Rattle.pb_validate.specs.Contexts.{context_view, reading_view, IsIn, IsReadingIn};
 
 use pb_schema::{Field, Kind, MessageId, Pool, Shape};
 

@@ -1,7 +1,7 @@
 //! Varints whose numbers do not matter, eight bytes at a time.
 
-ghost use Rattle.std.specs.Prelude.{◌≡◌, ◌+◌, ◌-◌, ◌≤◌, ◌<◌, ◌^◌, ℕ, None, true, length, take, IfSome};
-ghost use Rattle.std.specs.Slice.Scan.{little_endian, Flags};
+ghost use Rattle.std.specs.Prelude.{◌≡◌, ◌+◌, ◌-◌, ◌≤◌, ◌<◌, ◌^◌, ℕ, None, true, length, IfSome};
+ghost use Rattle.std.specs.Slice.Scan.{Flags};
 ghost use Rattle.pb_wire.specs.Fault.{Reads};
 ghost use Rattle.pb_wire.specs.Schema.{a_varint};
 ghost use Rattle.pb_wire.specs.Sound.{AreElements};

@@ -1,6 +1,6 @@
 //! Whether bytes are whole records in a context, and no more. It is fast since nothing is kept for a fault: `scope` finds that.
 
-ghost use Rattle.std.specs.Prelude.{◌≡◌, ◌≢◌, ◌⊎◌, ◌≤◌, ◌<◌, None, true, length, IfSome, IsUtf8};
+ghost use Rattle.std.specs.Prelude.{◌≡◌, ◌≢◌, ◌≤◌, ◌<◌, None, true, length, IfSome, IsUtf8};
 ghost use Rattle.pb_wire.specs.Fault.{HasTag};
 ghost use Rattle.pb_wire.specs.Record.{len};
 ghost use Rattle.pb_wire.specs.Scan.{here, IsNumberType};
