@@ -216,7 +216,7 @@ after_length {scope = scope} {now = now} k meant n a is bytes l =
       ends = ends_along l.length_is.0 scope.end l.length_is.2 a.ends;
     }
 
--- THE PATH: the steps of the frames
+-- THE PATH: the steps of the parents
 pub path_held :
     {pool : Types} {m depth levels : ℕ} {base : List Record} {p0 : Place} {parents : List Parent} {now : Part} {o : Open Context} {depth_left inner : ℕ} {path : List PathStep} {p : Place} {earlier : List Record}
     → Held pool m depth levels base p0 parents now o depth_left inner path p earlier → path ≡ path_of parents
@@ -228,7 +228,7 @@ path_held (inside {parent = parent} {parents = parents} {rs = rs} up h begun for
 pub step_here : (k : ℕ) (scope : Scope) (rs : List Record) → CountsOf scope.counts rs → step_into k rs ≡ next_step k scope
 step_here k scope rs counts = ap (λ (z : ℕ). record { number = k; occurrence = z }) (sym (counts k))
 
--- A FAULT OF THE RECORD THAT COMES NEXT is the fault of the whole, below the steps of the frames
+-- A FAULT OF THE RECORD THAT COMES NEXT is the fault of the whole, below the steps of the parents
 pub reported_here :
     {pool : Types} {m depth levels : ℕ} {base : List Record} {p0 : Place} {parents : List Parent} {scope : Scope} {now : Part} {q : Place} (f : Fault)
     → (s : Stands pool m depth levels base p0 parents now scope q) → Begins s.open_now q → RecordFault (schema_of pool) s.open_now s.records_so_far scope.depth_left q f

@@ -21,6 +21,8 @@ use Rattle.pb_value.specs.Value.{last_of, all_elements, one_value, value_within}
 use Rattle.pb_value.proofs.OneofLemmas.{pool_differ}
 use Rattle.pb_value.proofs.StepLemmas.{filter-fails, self_equal}
 use Rattle.pb_value.proofs.MessageSteps.{message_unknown}
+use Rattle.pb_schema.specs.declared.types.MessageId.{MessageId}
+use Rattle.pb_parts.specs.declared.open.part.Slot.{Slot}
 use Rattle.pb_parts.specs.declared.open.part.Slot.TheVariants as slot
 use Rattle.pb_parts.specs.declared.open.target.Target.{Target}
 use Rattle.pb_parts.specs.declared.open.target.Target.TheVariants as target
@@ -150,6 +152,10 @@ no_group_field (Some f) n (target.Packed k2) h never = no_group_shape f.shape f.
 no_group_field (Some f) n (target.Entry k2 k3) h never = no_group_shape f.shape f.kind n (target.Entry k2 k3) h.0 h.1 never
 no_group_field (Some f) n (target.Key k2) h never = no_group_shape f.shape f.kind n (target.Key k2) h.0 h.1 never
 no_group_field (Some f) n (target.EntryValue k2) h never = no_group_shape f.shape f.kind n (target.EntryValue k2) h.0 h.1 never
+
+pub no_message : (meant : Target) → ((j : MessageId) (s : Slot) → meant ≡ target.Message j s → ⊥) → IsNoMessage meant
+no_message (target.Message j s) none = absurd (none j s refl)
+no_message meant none = tt
 
 pub unknown_group_means : (pool : Types) (now : Part) (n : ℕ) (meant : Target) → CanHold pool now → Means pool (part_context now) n 3 meant → IsNoMessage meant → Means pool (part_context now) n 3 target.Unknown
 unknown_group_means pool now n meant can means never = subst (Means pool (part_context now) n 3) (is_unknown now can means) means

@@ -10,7 +10,7 @@ pub mod CountLemmas
 pub mod StepCounts
 -- for the open part: a fault inside is the fault of the whole, and a payload that ends is one more record of its parent
 pub mod OpenedLemmas
--- for the frames of the open part: what is reported from them, and how they change
+-- for the parents of the open part: what is reported from them, and how they change
 pub mod ParentLemmas
 -- for the same wherever the reader is: it is well formed
 pub mod WellLemmas

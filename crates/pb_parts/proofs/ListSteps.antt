@@ -24,8 +24,8 @@ use Rattle.pb_schema.specs.Context.{Context, a_message as in_message, element_of
 use Rattle.pb_value.specs.Data.{Message, scalar, body, fields_of, unknown_of}
 use Rattle.pb_value.proofs.OneofLemmas.{pool_differ}
 use Rattle.pb_value.proofs.StepLemmas.{found_number}
-use Rattle.pb_parts.specs.declared.tokens.number.Number.{Number}
-use Rattle.pb_parts.specs.declared.tokens.number.Number.TheVariants as number
+use Rattle.pb_wire.specs.declared.scan.Number.{Number}
+use Rattle.pb_wire.specs.declared.scan.Number.TheVariants as number
 use Rattle.pb_parts.specs.declared.open.target.Target.TheVariants as target
 use Rattle.pb_parts.specs.declared.tokens.step.Step.{Step}
 use Rattle.pb_parts.specs.declared.tokens.step.Step.TheVariants as step

@@ -28,8 +28,8 @@ use Rattle.pb_value.specs.Data.{Datum, Message, scalar, one, fields_of}
 use Rattle.pb_value.specs.Change.{IsSingle, stored_at, push_at, push_each, with_fields}
 use Rattle.pb_value.proofs.OneofLemmas.{pool_differ}
 use Rattle.pb_value.proofs.StepLemmas.{found_number, self_equal}
-use Rattle.pb_parts.specs.declared.tokens.number.Number.{Number}
-use Rattle.pb_parts.specs.declared.tokens.number.Number.TheVariants as number
+use Rattle.pb_wire.specs.declared.scan.Number.{Number}
+use Rattle.pb_wire.specs.declared.scan.Number.TheVariants as number
 use Rattle.pb_parts.specs.declared.open.target.Target.{Target}
 use Rattle.pb_parts.specs.declared.open.target.Target.TheVariants as target
 use Rattle.pb_parts.specs.declared.tokens.step.Step.{Step}

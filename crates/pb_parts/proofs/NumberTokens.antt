@@ -1,45 +1,22 @@
--- What pb_wire says of a token, as what is reported of a number.
+-- What pb_wire says of a number.
 use Rattle.std.proofs.Common.{ℕ, ◌<◌, ◌^◌, ◌-◌, ◌++◌, refl, sym, ◌∙◌, arith, ◌≡◌, ◌≤◌, List, length, take, drop, ap, subst, append_assoc, Option, Some, None, IfSome}
 use Rattle.std.proofs.lemmas.List.{take-append-drop, drop-append-le, length-take}
 use Rattle.pb_wire.specs.Record.{Payload}
 use Rattle.pb_wire.specs.Fault.{Place, Reads as ReadsNumber}
-use Rattle.pb_wire.specs.Token.{TellsVarint, TellsFixed64, TellsFixed32, given_at, passed}
-use Rattle.pb_wire.specs.declared.token.Token.TheVariants as wire
-use Rattle.pb_wire.specs.declared.fault.Cause.{Cause}
-use Rattle.pb_parts.specs.declared.tokens.number.Number.TheVariants as number
-use Rattle.pb_parts.specs.declared.tokens.number_token.NumberToken.TheVariants as token
-use Rattle.pb_parts.specs.Tokens.Numbers.{a_varint, eight_bytes, four_bytes, TellsNumber, Follows}
+use Rattle.pb_wire.specs.Scan.{TellsNumber as Tells, Follows, number_view, given_at, passed}
+use Rattle.pb_wire.specs.declared.scan.Number.TheVariants as number
+use Rattle.pb_wire.specs.declared.scan.Scanned.{Scanned}
+use Rattle.pb_wire.specs.declared.scan.Scanned.TheVariants as scanned
+use Rattle.pb_parts.specs.Tokens.Numbers.{TellsNumber}
 use Rattle.pb_wire.proofs.Tokens.{ends_some}
 use Rattle.pb_wire.specs.Spell.{Body}
-use Rattle.pb_parts.specs.Tokens.Number.{number_view}
-use Rattle.pb_parts.specs.declared.tokens.number.Number.{Number}
+use Rattle.pb_wire.specs.declared.scan.Number.{Number}
 
-pub varint_whole : (p : Place) (n size : ℕ) → TellsVarint p (wire.Whole n size) → TellsNumber 0 p (token.Whole (number.Varint n) size)
-varint_whole p n size h = let reads = h.1 in let e = reads.1.value in let small : n < 2 ^ 64 = omega (arith, e) in (refl, h.0, (reads.0, (small, reads.1), reads.2))
-
-pub varint_short : (p : Place) → TellsVarint p wire.Short → TellsNumber 0 p token.Short
-varint_short p h = a_varint refl h
-
-pub varint_fault : (p : Place) (c : Cause) → TellsVarint p (wire.Fault c) → TellsNumber 0 p (token.Fault c)
-varint_fault p c h = (h.0, a_varint refl h.1)
-
-pub eight_whole : (p : Place) (n size : ℕ) → n < 2 ^ 64 → TellsFixed64 p (wire.Whole n size) → TellsNumber 1 p (token.Whole (number.I64 n) size)
-eight_whole p n size small h = let leads = h.1 in (refl, h.0, (leads.0, (small, leads.1), leads.2))
-
-pub eight_short : (p : Place) → TellsFixed64 p wire.Short → TellsNumber 1 p token.Short
-eight_short p h = eight_bytes refl h
-
-pub eight_fault : (p : Place) (c : Cause) → TellsFixed64 p (wire.Fault c) → TellsNumber 1 p (token.Fault c)
-eight_fault p c h = (h.0, eight_bytes refl h.1)
-
-pub four_whole : (p : Place) (n size : ℕ) → TellsFixed32 p (wire.Whole n size) → TellsNumber 5 p (token.Whole (number.I32 n) size)
-four_whole p n size h = let leads = h.1.1 in (refl, h.0, (leads.0, (h.1.0, leads.1), leads.2))
-
-pub four_short : (p : Place) → TellsFixed32 p wire.Short → TellsNumber 5 p token.Short
-four_short p h = four_bytes refl h
-
-pub four_fault : (p : Place) (c : Cause) → TellsFixed32 p (wire.Fault c) → TellsNumber 5 p (token.Fault c)
-four_fault p c h = (h.0, four_bytes refl h.1)
+-- in the order in which a number's readers take it
+pub told_number : (w : ℕ) (p : Place) (s : Scanned Number) → Tells w p s → TellsNumber w p s
+told_number w p (scanned.Whole a size) h = (h.1.0, h.0, h.1.1)
+told_number w p scanned.Short h = h
+told_number w p (scanned.Fault c) h = h
 
 -- WHAT IS REPORTED of the number at the start of some bytes
 pub front_there :

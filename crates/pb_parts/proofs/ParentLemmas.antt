@@ -1,4 +1,4 @@
--- A decoder's frames: what is reported from them, and how they change.
+-- The parents of the open part: what is reported from them, and how they change.
 use Rattle.std.proofs.Common.{◌≡◌, ℕ, ◌-◌, ◌<◌, ◌≤◌, List, [], ◌∷◌, ◌++◌, length, refl, sym, ap, ◌∙◌, subst, arith, append_assoc, Option, Some, None, IsTrue}
 use Rattle.std.specs.Prelude.{true, false, option_map, MatchOption}
 use Rattle.std.proofs.lemmas.List.{append-nil}
@@ -338,7 +338,7 @@ pub is_payload :
     → parent.group ≡ false → s.open_now ≡ records (context_of s.open_now)
 is_payload s none = payload_open s.open_now (sym (flag_held s.held) ∙ ap opening_type none)
 
--- what a group is open in has the number of the frame
+-- what a group is open in has the number of its parent's record
 begun_group : (pool : Types) {a o : Open Context} {depth_left below k : ℕ} {q u : Place} → Begun (schema_of pool) a depth_left k q o below u → open_type o ≡ 3 → o ≡ in_group k (context_of o)
 begun_group pool (opened.a_message levels tag re l is_open is_place) e = absurd (let type = sym (ap open_type is_open) ∙ e in omega (arith, type))
 begun_group pool (opened.a_value levels tag re l is_open is_place) e = absurd (let type = sym (ap open_type is_open) ∙ e in omega (arith, type))
@@ -376,7 +376,7 @@ ends_at_known_end {pool} {m} {depth} {levels} {base} {p0} {parent} {parents} {sc
         subst (λ (z : Place). Stands pool m depth levels base p0 parents there (one_more_in parent.number parent.scope) z) same_place
         (closed_stands parent up h form deep counts ends s.bytes (len b.front) to there (put_child-form pool parent.slot parent.part now) (completes (len b.front) now (sym (ap opening_type none)) (same_self now) inside_worth))
 
--- AN ENTRY is open in a payload, whatever its frame says
+-- AN ENTRY is open in a payload, whatever its parent says
 pub entry_is_payload :
     {pool : Types} {m depth levels : ℕ} {base : List Record} {p0 : Place} {parents : List Parent} {scope : Scope} {key kd : Kind} {x : Option Scalar} {d : Option Datum} {q : Place}
     (s : Stands pool m depth levels base p0 parents (entry_part key kd x d) scope q) → s.open_now ≡ records (context_of s.open_now)

@@ -2,7 +2,7 @@
 use Rattle.std.proofs.Common.{◌≡◌, ℕ, ◌+◌, ◌-◌, ◌≤◌, List, take, drop, length, refl, sym, ap, ◌∙◌, arith, length-drop, drop-drop, Option, Some, None, option_map}
 use Rattle.std.proofs.lemmas.List.{take_all, length-take-le}
 use Rattle.pb_wire.specs.Fault.{Place}
-use Rattle.pb_wire.specs.Token.{given_at, passed}
+use Rattle.pb_wire.specs.Scan.{given_at, passed}
 
 -- a slice from here on
 pub slice_from : (n : ℕ) (l : List ℕ) → take (length l - n) (drop n l) ≡ drop n l

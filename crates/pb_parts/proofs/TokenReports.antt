@@ -71,7 +71,7 @@ tag_number_reported {pool} {m} {depth} {p0 = p0} {parents} {q = q} c s open_here
 
 -- THE ENDS OF GROUPS
 
--- the group that is open innermost is that of the innermost frame
+-- the group that is open innermost is that of the innermost parent
 begun_open : (pool : Types) {a o : Open Context} {depth_left below n : ℕ} {q u : Place} (group : Bool) → Begun (schema_of pool) a depth_left n q o below u → opening_type group ≡ open_type o → open_group o ≡ (if group then Some n else None)
 begun_open pool true (opened.a_message levels has re l is_open is_place) type = absurd (let two : 3 ≡ 2 = type ∙ ap open_type is_open in omega (arith, two))
 begun_open pool false (opened.a_message levels has re l is_open is_place) type = ap open_group is_open

@@ -19,7 +19,7 @@ use Rattle.pb_value.specs.Data.{Message}
 use Rattle.pb_value.specs.Change.{IsSingle}
 use Rattle.pb_value.proofs.OneofLemmas.{pool_differ}
 use Rattle.pb_value.proofs.StepLemmas.{self_equal}
-use Rattle.pb_parts.specs.declared.tokens.number.Number.{Number}
+use Rattle.pb_wire.specs.declared.scan.Number.{Number}
 use Rattle.pb_parts.specs.declared.open.target.Target.{Target}
 use Rattle.pb_parts.specs.declared.open.target.Target.TheVariants as target
 use Rattle.pb_parts.specs.declared.tokens.step.Step.{Step}

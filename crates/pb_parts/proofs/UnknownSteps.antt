@@ -17,8 +17,8 @@ use Rattle.pb_value.proofs.KnownLemmas.{IsWhole}
 use Rattle.pb_schema.specs.Context.{schema_of}
 use Rattle.pb_value.proofs.JudgeLemmas.{fits_any-found, fits_any-none}
 use Rattle.pb_value.proofs.OneofLemmas.{pool_differ}
-use Rattle.pb_parts.specs.declared.tokens.number.Number.{Number}
-use Rattle.pb_parts.specs.declared.tokens.number.Number.TheVariants as number
+use Rattle.pb_wire.specs.declared.scan.Number.{Number}
+use Rattle.pb_wire.specs.declared.scan.Number.TheVariants as number
 use Rattle.pb_parts.specs.declared.open.part.Slot.TheVariants as slot
 use Rattle.pb_parts.specs.declared.open.target.Target.{Target}
 use Rattle.pb_parts.specs.declared.open.target.Target.TheVariants as target

@@ -10,6 +10,9 @@ use std::alloc::{AllocError, AllocFailed};
 #[derive(Clone, Copy)]
 pub struct NoMemory;
 
+/// What putting something into a message or a part answers.
+pub type Put = Result<(), NoMemory>;
+
 impl From<AllocError> for NoMemory {
     fn from(_e: AllocError) -> NoMemory {
         NoMemory

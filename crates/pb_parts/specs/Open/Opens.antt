@@ -16,7 +16,7 @@ use Rattle.pb_parts.specs.Open.PartView.{part_view, scope_view, parent_view}
 use Rattle.pb_parts.specs.Open.Targets.{Means, part_context}
 use Rattle.pb_parts.specs.Tokens.After.{After}
 
--- after a length its payload is open, up to its end, and the frame is that of its parent
+-- after a length its payload is open, up to its end, in this parent
 abbrev pub OpensAtLength : ℕ → Target → ℕ → Part → Scope → ParentKept → Part → Scope → Type 0
 OpensAtLength number meant end outer around parent inner scope =
     (pool : Types) (m depth levels n : ℕ) (base : List Record) (p0 u t : Place) (parents : List Parent)

@@ -203,7 +203,7 @@ Takes (slot.Unknown n) (group_part vs) (message_part m v) = ⊥
 Takes (slot.Unknown n) (group_part vs) (entry_part key k x d) = ⊥
 Takes (slot.Unknown n) (group_part vs) (group_part us) = Unit {0}
 
--- These frames, innermost first, hold the open part: it has this many levels left and may hold this many levels of values, is below this path, begins at p,
+-- These parents, innermost first, hold the open part: it has this many levels left and may hold this many levels of values, is below this path, begins at p,
 -- and goes on from the earlier records.
 pub data Held (pool : Types) (m depth levels : ℕ) (base : List Record) (p0 : Place) :
     List Parent → Part → Open Context → ℕ → ℕ → List PathStep → Place → List Record → Type 0 where

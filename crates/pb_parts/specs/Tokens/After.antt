@@ -112,7 +112,7 @@ pub data Underway (pool : Types) (depth_left : ℕ) (v : Part) (q : Place) : Ste
       → Elements (element_of kd) (payload_at t n) u front → v ≡ message_part m w
       → now ≡ message_part m (with_elements pool k kd front w) → Underway pool depth_left v q next now u
 
--- These frames and this part are what there is of the bytes from p0 on, and the reader is at u, where `next` comes. The scope is that of the part; inside
+-- These parents and this part are what there is of the bytes from p0 on, and the reader is at u, where `next` comes. The scope is that of the part; inside
 -- a packed list its end is the list's.
 pub record After
     (pool : Types) (m depth levels : ℕ) (base : List Record) (p0 : Place) (parents : List Parent) (next : Step) (now : Part) (scope : Scope)

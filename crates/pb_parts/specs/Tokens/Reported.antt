@@ -5,7 +5,7 @@ use Rattle.pb_wire.specs.Record.{Record}
 use Rattle.pb_wire.specs.declared.fault.Cause.{Cause}
 use Rattle.pb_wire.specs.declared.fault.Cause.TheVariants.{TooDeep}
 use Rattle.pb_wire.specs.Fault.{Fault, fault, Place, Reads, HasTag, HasLength}
-use Rattle.pb_wire.specs.Token.{given_at, passed}
+use Rattle.pb_wire.specs.Scan.{given_at, passed}
 use Rattle.pb_wire.specs.Schema.{records}
 use Rattle.pb_wire.specs.Grammar.{Bad, payload_at}
 use Rattle.pb_schema.specs.declared.types.Kind.{Kind}

@@ -4,15 +4,14 @@ ghost use Rattle.std.specs.Prelude.{◌≡◌, ℕ, true, IfSome, IfNone, option
 ghost use Rattle.pb_value.specs.Data.{empty};
 ghost use Rattle.pb_value.specs.View.{body_view, content_view, value_view};
 ghost use Rattle.pb_parts.specs.declared.open.target.Target.TheVariants as target;
-ghost use Rattle.pb_parts.specs.Open.PartView.{part_view};
+ghost use Rattle.pb_parts.specs.Open.Parents.{parent_of};
+ghost use Rattle.pb_parts.specs.Open.PartView.{part_view, scope_view, parent_view};
 ghost use Rattle.pb_parts.specs.Open.Occurrences.{counts_view};
 ghost use Rattle.pb_parts.specs.Open.Targets.{IsNoMessage};
 ghost use Rattle.pb_parts.specs.Open.Openings.{message_given, message_held, taken_message, without_message, depth_left_in as levels_in};
 ghost use Rattle.pb_parts.specs.Open.Opens.{OpensAtLength, OpensAtTag};
 
-use crate::open::occurrences::Occurrences;
-use crate::open::part::{Entry, Parent, Part, Scope, Slot};
-use crate::open::target::Target;
+use crate::{Entry, Occurrences, Parent, Part, Scope, Slot, Target};
 use pb_schema::{Kind, MessageId};
 use pb_value::bodies::{empty_body, take_field};
 use pb_value::{Body, Content, Value};
@@ -36,9 +35,7 @@ fn message_in(alloc: Global, content: Option<Content>) -> Body
 {
     match content {
         Some(Content::One(value)) => message_of(alloc, Some(value)),
-        Some(Content::List(_)) => empty_body(alloc),
-        Some(Content::Map(_)) => empty_body(alloc),
-        None => empty_body(alloc),
+        Some(Content::List(_)) | Some(Content::Map(_)) | None => empty_body(alloc),
     }
 }
 
@@ -47,17 +44,11 @@ fn message_in(alloc: Global, content: Option<Content>) -> Body
 pub fn is_free(part: &Part, slot: Slot) -> bool
     ensures { result ≡ true → (taken_message slot (part_view part.now) ≡ empty) × (without_message slot (part_view part.now) ≡ part_view part.now) }
 {
-    match part {
-        Part::Message(_, body) => match slot {
-            Slot::One(_, number) => !body.fields.contains_key(&number),
-            Slot::List(_) => true,
-            Slot::Map(_) | Slot::Entry | Slot::Unknown(_) => false,
-        },
-        Part::Entry(entry) => match slot {
-            Slot::Entry => entry.value.is_none(),
-            Slot::One(_, _) | Slot::List(_) | Slot::Map(_) | Slot::Unknown(_) => false,
-        },
-        Part::Group(_) => false,
+    match (part, slot) {
+        (Part::Message(_, body), Slot::One(_, number)) => !body.fields.contains_key(&number),
+        (Part::Message(_, _), Slot::List(_)) => true,
+        (Part::Entry(entry), Slot::Entry) => entry.value.is_none(),
+        _ => false,
     }
 }
 
@@ -100,10 +91,7 @@ pub fn depth_left_in(slot: Slot, depth_left: u8) -> u8
 {
     match slot {
         Slot::Entry => depth_left,
-        Slot::One(_, _) => depth_left.saturating_sub(1),
-        Slot::List(_) => depth_left.saturating_sub(1),
-        Slot::Map(_) => depth_left.saturating_sub(1),
-        Slot::Unknown(_) => depth_left.saturating_sub(1),
+        _ => depth_left.saturating_sub(1),
     }
 }
 
@@ -121,8 +109,31 @@ fn new_scope(alloc: Global, depth_left: u8, end: Option<u32>) -> Scope
     }
 }
 
-/// After the length of a record of a message the message is open, up to its end. It goes on from what its slot holds, and
-/// the scope and slot of its parent are kept.
+/// Another part is open, with its scope, and the one before it is its parent.
+#[inline(always)]
+fn open_part(
+    part: &mut Part,
+    scope: &mut Scope,
+    inner: Part,
+    inner_scope: Scope,
+    number: u32,
+    slot: Slot,
+    group: bool,
+) -> Parent
+    ensures parent { parent_view result ≡ parent_of (part_view part.old) number slot group (scope_view scope.old) }
+    ensures part { part.new ≡ inner }
+    ensures scope { scope.new ≡ inner_scope }
+{
+    Parent {
+        part: mem::replace(part, inner),
+        number,
+        slot,
+        group,
+        scope: mem::replace(scope, inner_scope),
+    }
+}
+
+/// After the length of a record of a message the message is open, up to its end. It goes on from what its slot holds.
 #[inline(always)]
 pub fn open_message(
     alloc: Global,
@@ -135,17 +146,9 @@ pub fn open_message(
 ) -> Parent
     ensures { OpensAtLength number (target.Message message_type slot) end part.old scope.old result part.new scope.new }
 {
-    let message = take_message(alloc, slot, part);
+    let message = Part::Message(message_type, take_message(alloc, slot, part));
     let inner = new_scope(alloc, depth_left_in(slot, scope.depth_left), Some(end));
-    let outer = mem::replace(part, Part::Message(message_type, message));
-    let around = mem::replace(scope, inner);
-    Parent {
-        part: outer,
-        number,
-        slot,
-        group: false,
-        scope: around,
-    }
+    open_part(part, scope, message, inner, number, slot, false)
 }
 
 /// After the length of a record of a map an entry is open, up to its end.
@@ -161,64 +164,39 @@ pub fn open_entry(
 ) -> Parent
     ensures { OpensAtLength number (target.Entry key_kind value_kind) end part.old scope.old result part.new scope.new }
 {
-    let inner = new_scope(alloc, scope.depth_left.saturating_sub(1), Some(end));
     let entry = Part::Entry(Entry {
         key_kind,
         value_kind,
         key: None,
         value: None,
     });
-    let outer = mem::replace(part, entry);
-    let around = mem::replace(scope, inner);
-    Parent {
-        part: outer,
-        number,
-        slot: Slot::Map(number),
-        group: false,
-        scope: around,
-    }
+    let inner = new_scope(alloc, scope.depth_left.saturating_sub(1), Some(end));
+    open_part(part, scope, entry, inner, number, Slot::Map(number), false)
 }
 
-/// After the first tag of a group that is a field its message is open. It goes on from what its slot holds, and its end is
-/// known where that of its parent is.
+/// After the first tag of a group the group is open, by what its record is for: a message, which goes on from what its slot
+/// holds, or a group that is no field. Its end is known where that of its parent is.
 #[inline(always)]
-fn open_field_group(
+pub fn open_group(
     alloc: Global,
     part: &mut Part,
     scope: &mut Scope,
     number: u32,
-    message_type: MessageId,
-    slot: Slot,
+    meant: Target,
 ) -> Parent
-    ensures { OpensAtTag number (target.Message message_type slot) part.old scope.old result part.new scope.new }
-{
-    let message = take_message(alloc, slot, part);
-    let inner = new_scope(alloc, scope.depth_left.saturating_sub(1), scope.end);
-    let outer = mem::replace(part, Part::Message(message_type, message));
-    let around = mem::replace(scope, inner);
-    Parent {
-        part: outer,
-        number,
-        slot,
-        group: true,
-        scope: around,
-    }
-}
-
-/// After the first tag of a group that is no field the group is open. Its end is known where that of its parent is.
-#[inline(always)]
-fn open_unknown_group(alloc: Global, part: &mut Part, scope: &mut Scope, number: u32) -> Parent
-    ensures { OpensAtTag number target.Unknown part.old scope.old result part.new scope.new }
+    ensures { OpensAtTag number meant part.old scope.old result part.new scope.new }
 {
     let inner = new_scope(alloc, scope.depth_left.saturating_sub(1), scope.end);
-    let outer = mem::replace(part, Part::Group(Vec::new(alloc)));
-    let around = mem::replace(scope, inner);
-    Parent {
-        part: outer,
-        number,
-        slot: Slot::Unknown(number),
-        group: true,
-        scope: around,
+    match meant {
+        Target::Message(kind, slot) => {
+            let message = Part::Message(kind, take_message(alloc, slot, part));
+            open_part(part, scope, message, inner, number, slot, true)
+        }
+        _ => {
+            let group = Part::Group(Vec::new(alloc));
+            let slot = Slot::Unknown(number);
+            open_part(part, scope, group, inner, number, slot, true)
+        }
     }
 }
 
@@ -230,29 +208,6 @@ pub fn message_slot(meant: Target) -> Option<(MessageId, Slot)>
 {
     match meant {
         Target::Message(kind, slot) => Some((kind, slot)),
-        Target::One(_, _) => None,
-        Target::Element(_) => None,
-        Target::Packed(_) => None,
-        Target::Entry(_, _) => None,
-        Target::Key(_) => None,
-        Target::EntryValue(_) => None,
-        Target::Unknown => None,
-    }
-}
-
-/// After the first tag of a group the group is open, by what its record is for.
-#[inline(always)]
-pub fn open_group(
-    alloc: Global,
-    part: &mut Part,
-    scope: &mut Scope,
-    number: u32,
-    meant: Target,
-) -> Parent
-    ensures { OpensAtTag number meant part.old scope.old result part.new scope.new }
-{
-    match message_slot(meant) {
-        Some((kind, slot)) => open_field_group(alloc, part, scope, number, kind, slot),
-        None => open_unknown_group(alloc, part, scope, number),
+        _ => None,
     }
 }

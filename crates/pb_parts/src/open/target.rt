@@ -5,9 +5,9 @@ ghost use Rattle.pb_schema.specs.Fits.{fits_type};
 ghost use Rattle.pb_schema.specs.View.{field_view};
 ghost use Rattle.pb_parts.specs.Open.Parents.{CanHold};
 ghost use Rattle.pb_parts.specs.Open.PartView.{part_view};
-ghost use Rattle.pb_parts.specs.Open.Targets.{OfSingle, OfField, OfEntry, Means, part_context};
+ghost use Rattle.pb_parts.specs.Open.Targets.{OfField, OfEntry, Means, part_context};
 
-use crate::open::part::{Part, Slot};
+use crate::{Part, Slot};
 use pb_schema::{Field, Kind, MessageId, Pool, Shape, fits};
 
 /// What becomes of a record's value.
@@ -41,28 +41,13 @@ fn of_field(field: &Field, number: u32, wire_type: u8) -> Target
         Shape::Map { key } => Target::Entry(key, field.kind),
         Shape::List { packed: _ } => match field.kind.message() {
             Some(message) => Target::Message(message, Slot::List(number)),
-            None => {
-                if field.kind.wire_type() == wire_type {
-                    Target::Element(field.kind)
-                } else {
-                    Target::Packed(field.kind)
-                }
-            }
+            None if field.kind.wire_type() == wire_type => Target::Element(field.kind),
+            None => Target::Packed(field.kind),
         },
-        Shape::Implicit => of_single(field.kind, Shape::Implicit, number),
-        Shape::Explicit => of_single(field.kind, Shape::Explicit, number),
-        Shape::OneofMember(oneof) => of_single(field.kind, Shape::OneofMember(oneof), number),
-    }
-}
-
-/// What a record is for that fits a field of one value.
-#[inline(always)]
-fn of_single(kind: Kind, shape: Shape, number: u32) -> Target
-    ensures { OfSingle kind shape number result }
-{
-    match kind.message() {
-        Some(message) => Target::Message(message, Slot::One(shape, number)),
-        None => Target::One(kind, shape),
+        _ => match field.kind.message() {
+            Some(message) => Target::Message(message, Slot::One(field.shape, number)),
+            None => Target::One(field.kind, field.shape),
+        },
     }
 }
 
@@ -91,13 +76,8 @@ pub fn target_of(pool: &Pool, part: &Part, number: u32, wire_type: u8) -> Target
 {
     match part {
         Part::Message(kind, _) => match pool.field_by_number(*kind, number) {
-            Some(field) => {
-                if fits(field, wire_type) {
-                    of_field(field, number, wire_type)
-                } else {
-                    Target::Unknown
-                }
-            }
+            Some(field) if fits(field, wire_type) => of_field(field, number, wire_type),
+            Some(_) => Target::Unknown,
             None => Target::Unknown,
         },
         Part::Entry(entry) => of_entry(entry.key_kind, entry.value_kind, number, wire_type),

@@ -1,20 +1,15 @@
-//! Runs of elements of a packed list.
+//! Packed lists: runs of their elements, and the values of one that is complete.
 
-ghost use Rattle.std.specs.Prelude.{◌≡◌, ◌⊎◌, ◌≤◌, ◌<◌, length, IfOk, IfSome, IfNone};
-ghost use Rattle.pb_schema.specs.Kinds.{wire_type_of};
-ghost use Rattle.pb_parts.specs.Values.Puts.{GoesOn, TellsRun};
-ghost use Rattle.pb_parts.specs.Tokens.Number.{IsNumberType};
+ghost use Rattle.std.specs.Prelude.{◌≡◌, ◌⊎◌, ◌≤◌, ◌<◌, [], None, IsTrue, length, IfOk, IfSome, IfNone};
+ghost use Rattle.pb_schema.specs.Kinds.{wire_type_of, closed_enum};
+ghost use Rattle.pb_parts.specs.Values.Puts.{GoesOn, TellsRun, ListGoesOn};
+ghost use Rattle.pb_wire.specs.Scan.{IsNumberType};
 
-use crate::error::NoMemory;
-use crate::tokens::number::number_value;
-use crate::tokens::number_token::{NumberToken, number_here};
-use crate::tokens::record_tag::left_after;
-use crate::values::put_number::is_undeclared;
-use crate::values::put_unknown::unknown_number;
+use crate::values::put::{is_undeclared, unknown_number};
+use crate::{NoMemory, number_value};
 use pb_schema::{Kind, Pool};
 use pb_value::Value;
-use pb_wire::Unknown;
-use pb_wire::token::before_end;
+use pb_wire::{Scanned, Unknown, before_end, left_after, scan_number};
 use std::alloc::Global;
 
 /// What the elements of a run are, each sort in its order. The unknown records have the number of the list.
@@ -34,7 +29,7 @@ fn varint_ends(bytes: &[u8]) -> usize {
 }
 
 /// How many elements of a kind end within some bytes, where they are sound: space for all of them.
-pub(crate) fn most_elements(kind: Kind, bytes: &[u8]) -> usize {
+fn most_elements(kind: Kind, bytes: &[u8]) -> usize {
     match kind.wire_type() {
         1 => bytes.len() / 8,
         5 => bytes.len() / 4,
@@ -58,8 +53,8 @@ fn add_element(
     ensures none { IfOk result (λ o. IfNone o (run.new ≡ run.old)) }
     ensures put { IfOk result (λ o. IfSome o (GoesOn pool.now number kind bytes.now left run.old run.new)) }
 {
-    match number_here(kind.wire_type(), bytes, left) {
-        NumberToken::Whole(value, size) => {
+    match scan_number(kind.wire_type(), bytes, left) {
+        Scanned::Whole(value, size) => {
             if is_undeclared(pool, kind, value) {
                 run.undeclared.push((number, unknown_number(value)))?;
             } else {
@@ -67,8 +62,7 @@ fn add_element(
             }
             Ok(Some(size))
         }
-        NumberToken::Short => Ok(None),
-        NumberToken::Fault(_) => Ok(None),
+        Scanned::Short | Scanned::Fault(_) => Ok(None),
     }
 }
 
@@ -98,8 +92,8 @@ fn add_elements(
     Ok(here)
 }
 
-/// The elements that are complete at the start of some bytes, one after another, with this many bytes before the known end, and how
-/// many bytes they take. Their list has this number.
+/// The elements that are complete at the start of some bytes, with this many bytes before the known end, and how many bytes they take.
+/// Their list has this number.
 pub fn read_run(
     alloc: Global,
     pool: &Pool,
@@ -112,15 +106,65 @@ pub fn read_run(
     ensures within { IfOk result (λ r. r.1 ≤ length bytes.now) }
     ensures put { TellsRun pool.now number kind bytes.now left result }
 {
+    let most = most_elements(kind, &bytes[..before_end(bytes, left)]);
     let mut run = Run {
-        values: Vec::with_capacity(
-            alloc,
-            most_elements(kind, &bytes[..before_end(bytes, left)]),
-        )?,
+        values: Vec::with_capacity(alloc, most)?,
         undeclared: Vec::new(alloc),
     };
     let used = add_elements(pool, kind, number, bytes, left, &mut run)?;
     // Undeclared numbers took none of the space.
     run.values.shrink_to_fit();
     Ok((run, used))
+}
+
+/// Puts the values of the elements of a payload after the others, and says whether each is complete.
+#[inline(always)]
+fn push_values(kind: Kind, payload: &[u8], values: &mut Vec<Value>) -> Result<bool, NoMemory>
+    requires number { IsNumberType (wire_type_of kind) }
+    requires open { closed_enum kind ≡ None }
+    ensures { IfOk result (λ all. IsTrue all → ListGoesOn kind payload.now values.old.items values.new.items (length payload.now)) }
+{
+    let mut here = 0;
+    while here < payload.len() {
+        let token = scan_number(kind.wire_type(), &payload[here..], None);
+        let Scanned::Whole(value, size) = token else {
+            return Ok(false);
+        };
+        values.push(number_value(kind, value))?;
+        here += size;
+    }
+    Ok(true)
+}
+
+/// As `push_values`, by a loop for each kind that has numbers. The numbers of a closed enum are not read here.
+#[inline(always)]
+fn push_by_kind(kind: Kind, payload: &[u8], values: &mut Vec<Value>) -> Result<bool, NoMemory>
+    ensures { IfOk result (λ all. IsTrue all → ListGoesOn kind payload.now values.old.items values.new.items (length payload.now)) }
+{
+    match kind {
+        Kind::Int32 => push_values(Kind::Int32, payload, values),
+        Kind::Int64 => push_values(Kind::Int64, payload, values),
+        Kind::Uint32 => push_values(Kind::Uint32, payload, values),
+        Kind::Uint64 => push_values(Kind::Uint64, payload, values),
+        Kind::Sint32 => push_values(Kind::Sint32, payload, values),
+        Kind::Sint64 => push_values(Kind::Sint64, payload, values),
+        Kind::Bool => push_values(Kind::Bool, payload, values),
+        Kind::Enum(id) => push_values(Kind::Enum(id), payload, values),
+        Kind::Fixed64 => push_values(Kind::Fixed64, payload, values),
+        Kind::Sfixed64 => push_values(Kind::Sfixed64, payload, values),
+        Kind::Double => push_values(Kind::Double, payload, values),
+        Kind::Fixed32 => push_values(Kind::Fixed32, payload, values),
+        Kind::Sfixed32 => push_values(Kind::Sfixed32, payload, values),
+        Kind::Float => push_values(Kind::Float, payload, values),
+        _ => Ok(false),
+    }
+}
+
+/// The values of a packed list whose payload this is, if each element is complete. Its kind is not a closed enum.
+pub fn read_list(alloc: Global, kind: Kind, payload: &[u8]) -> Result<Option<Vec<Value>>, NoMemory>
+    ensures { IfOk result (λ o. IfSome o (λ values. ListGoesOn kind payload.now [] values.items (length payload.now))) }
+{
+    let mut values = Vec::with_capacity(alloc, most_elements(kind, payload))?;
+    let all = push_by_kind(kind, payload, &mut values)?;
+    if all { Ok(Some(values)) } else { Ok(None) }
 }

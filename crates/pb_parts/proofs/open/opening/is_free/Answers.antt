@@ -8,7 +8,7 @@ use Rattle.pb_parts.proofs.AnswerLemmas.{not_yes}
 use Rattle.pb_parts.proofs.OpenMore.{without_absent}
 use Rattle.pb_parts.proofs.open.opening.is_free.Goals as goal
 
-pub returns-in-One : goal.returns-in-One
-returns-in-One c = λ free.
-    let none = absent c.in-One.number c.in-Message.body (sym c.contains_key.ensures ∙ not_yes c.contains_key.result free) in
-    rw (c.in-Message.is, c.in-One.is) (ap message_held none, ap (message_part c.in-Message.field-0.0) (without_absent c.in-One.number (body_view c.in-Message.body) none))
+pub returns-in-Message-One : goal.returns-in-Message-One
+returns-in-Message-One c = λ free.
+    let none = absent c.in-Message-One.number c.in-Message-One.body (sym c.contains_key.ensures ∙ not_yes c.contains_key.result free) in
+    rw (c.in-Message-One.is-0, c.in-Message-One.is-1) (ap message_held none, ap (message_part c.in-Message-One.field-0-0.0) (without_absent c.in-Message-One.number (body_view c.in-Message-One.body) none))

@@ -1,5 +1,5 @@
 -- The number at the start is the tag's.
-use Rattle.pb_wire.specs.Token.{given_at, passed}
+use Rattle.pb_wire.specs.Scan.{given_at, passed}
 use Rattle.pb_parts.proofs.NumberTokens.{number_size, front_there}
 use Rattle.pb_parts.proofs.tokens.record_tag.record_tag.Goals as goal
 

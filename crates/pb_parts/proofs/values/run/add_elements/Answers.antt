@@ -2,7 +2,7 @@
 use Rattle.std.proofs.Common.{◌≡◌, ◌+◌, ℕ, Option, ap, ◌∙◌, sym, subst, arith, length, length-drop}
 use Rattle.std.specs.Prelude.{IfNone}
 use Rattle.pb_wire.specs.Fault.{Place}
-use Rattle.pb_wire.specs.Token.{given_at, passed}
+use Rattle.pb_wire.specs.Scan.{given_at, passed}
 use Rattle.pb_parts.specs.declared.tokens.step.Step.TheVariants.{Elements}
 use Rattle.pb_parts.specs.declared.values.run.Run.{Run}
 use Rattle.pb_parts.specs.Values.Run.{put_run}

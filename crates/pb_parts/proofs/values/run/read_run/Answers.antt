@@ -1,6 +1,6 @@
 -- They go into the part of their list from the run on that has none.
 use Rattle.std.proofs.Common.{List, map, sym, subst}
-use Rattle.pb_wire.specs.Token.{given_at, passed}
+use Rattle.pb_wire.specs.Scan.{given_at, passed}
 use Rattle.pb_wire.specs.Unknown.{records_of}
 use Rattle.pb_value.specs.declared.body.Value.{Value}
 use Rattle.pb_value.specs.View.{value_view}

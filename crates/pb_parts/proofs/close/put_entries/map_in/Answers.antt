@@ -1,9 +1,0 @@
-use Rattle.std.proofs.Common.{Some, ap, sym, ◌∙◌}
-use Rattle.pb_value.specs.Data.{Holding}
-use Rattle.pb_value.specs.Change.{entries_of}
-use Rattle.pb_value.specs.View.{content_view}
-use Rattle.pb_value.proofs.Views.{content_view-Map}
-use Rattle.pb_parts.proofs.close.put_entries.map_in.Goals as goal
-
-pub returns-in-Map : goal.returns-in-Map
-returns-in-Map c = sym (ap (λ (h : Holding). entries_of (Some h)) (ap content_view c.in-Map.is ∙ content_view-Map c.in-Map.map))
