@@ -8,17 +8,17 @@ use Rattle.pb_wire.specs.declared.fault.PathStep.{PathStep}
 use Rattle.pb_wire.specs.Fault.{fault, Place, input_end, Reads as ReadsNumber, VarintFault, LengthFault}
 use Rattle.pb_wire.specs.Schema.{records}
 use Rattle.pb_wire.specs.Grammar.{Bad}
-use Rattle.pb_wire.specs.Token.{given_at, passed}
+use Rattle.pb_wire.specs.Scan.{given_at, passed}
 use Rattle.pb_schema.specs.Types.{Types}
 use Rattle.pb_schema.specs.Context.{a_message as in_message, schema_of}
-use Rattle.pb_parts.specs.declared.open.target.Target.{Target}
-use Rattle.pb_parts.specs.declared.tokens.step.Step.{Step}
-use Rattle.pb_parts.specs.declared.tokens.step.Step.TheVariants as step
-use Rattle.pb_parts.specs.Open.Parents.{EndsAt, path_of, next_step}
-use Rattle.pb_parts.specs.Tokens.After.{awaited, After}
+use Rattle.pb_building.specs.declared.open.target.Target.{Target}
+use Rattle.pb_building.specs.declared.tokens.step.Step.{Step}
+use Rattle.pb_building.specs.declared.tokens.step.Step.TheVariants as step
+use Rattle.pb_building.specs.Open.Parents.{EndsAt, path_of, next_step}
+use Rattle.pb_building.specs.Tokens.After.{awaited, After}
 use Rattle.pb_decode.specs.Reader.{State, left_of, here, own_step, path_here, Reads, Stops, cut, Reported}
-use Rattle.pb_parts.proofs.ParentLemmas.{ends_along}
-use Rattle.pb_parts.proofs.TokenReports.{length_refused}
+use Rattle.pb_building.proofs.ParentLemmas.{ends_along}
+use Rattle.pb_building.proofs.TokenReports.{length_refused}
 
 -- AFTER THE LENGTH the known end is where it was
 pub length_ends :

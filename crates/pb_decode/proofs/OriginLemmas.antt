@@ -5,7 +5,7 @@ use Rattle.pb_wire.specs.Sound.{AllSound}
 use Rattle.pb_wire.specs.declared.fault.Cause.TheVariants.{Truncated}
 use Rattle.pb_wire.specs.declared.fault.PathStep.{PathStep}
 use Rattle.pb_wire.specs.Fault.{fault, Place, Moves}
-use Rattle.pb_wire.specs.Token.{given_at}
+use Rattle.pb_wire.specs.Scan.{given_at}
 use Rattle.pb_wire.specs.Schema.{Open, context_of}
 use Rattle.pb_wire.specs.Grammar.{Begins}
 use Rattle.pb_wire.specs.Exact.{IsOver, longer}
@@ -16,15 +16,15 @@ use Rattle.pb_value.specs.Data.{Message, empty}
 use Rattle.pb_value.specs.Value.{value, value_within}
 use Rattle.pb_value.proofs.MessageSteps.{value_of_nothing}
 use Rattle.pb_value.specs.WellFormed.{IsWellFormed}
-use Rattle.pb_parts.specs.declared.tokens.step.Step.{Step}
-use Rattle.pb_parts.specs.declared.tokens.step.Step.TheVariants as step
-use Rattle.pb_parts.specs.Open.Opened.{SoFar}
-use Rattle.pb_parts.specs.Open.Parents.{Part, message_part, Parent, Scope, EndsAt, Held, at_top, Stands}
-use Rattle.pb_parts.specs.Tokens.After.{After}
+use Rattle.pb_building.specs.declared.tokens.step.Step.{Step}
+use Rattle.pb_building.specs.declared.tokens.step.Step.TheVariants as step
+use Rattle.pb_building.specs.Open.Opened.{SoFar}
+use Rattle.pb_building.specs.Open.Parents.{Part, message_part, Parent, Scope, EndsAt, Held, at_top, Stands}
+use Rattle.pb_building.specs.Tokens.After.{After}
 use Rattle.pb_decode.specs.Reader.{State, here, path_here, Reads, IsReading, Stops, over, cut}
 use Rattle.pb_decode.specs.Reader.Origin.{Origin, origin, further, TookFrom, IsOverAt, IsWhole, BadFrom}
-use Rattle.pb_parts.proofs.AfterLemmas.{after_record, at_record}
-use Rattle.pb_parts.proofs.ParentLemmas.{stands_at_start}
+use Rattle.pb_building.proofs.AfterLemmas.{after_record, at_record}
+use Rattle.pb_building.proofs.ParentLemmas.{stands_at_start}
 use Rattle.pb_decode.proofs.FinishLemmas.{cut_reported}
 use Rattle.pb_whole.proofs.Top.{is_top, top_well_formed}
 

@@ -5,25 +5,25 @@ use Rattle.pb_wire.specs.declared.fault.Cause.{Cause}
 use Rattle.pb_wire.specs.declared.fault.Cause.TheVariants.{Truncated, BadText}
 use Rattle.pb_wire.specs.declared.fault.PathStep.{PathStep}
 use Rattle.pb_wire.specs.Fault.{fault, Place, Moves}
-use Rattle.pb_wire.specs.Token.{passed}
+use Rattle.pb_wire.specs.Scan.{passed}
 use Rattle.pb_wire.specs.Schema.{records}
 use Rattle.pb_wire.specs.Grammar.{Bad}
 use Rattle.pb_wire.proofs.TokenLemmas.{moves_passed}
 use Rattle.pb_schema.specs.Types.{Types}
 use Rattle.pb_schema.specs.Rules.{IsPool}
 use Rattle.pb_schema.specs.Context.{a_message as in_message, schema_of}
-use Rattle.pb_parts.specs.declared.open.target.Target.{Target}
-use Rattle.pb_parts.specs.declared.tokens.step.Step.{Step}
-use Rattle.pb_parts.specs.declared.tokens.step.Step.TheVariants as step
-use Rattle.pb_parts.specs.Open.Parents.{CanHold, next_step, path_of}
-use Rattle.pb_parts.specs.declared.values.payload_value.PayloadError.{PayloadError}
-use Rattle.pb_parts.specs.declared.values.payload_value.PayloadError.TheVariants as error
-use Rattle.pb_parts.specs.Values.PayloadValue.{IsBytesTarget, IfBadText}
-use Rattle.pb_parts.specs.Tokens.After.{After}
+use Rattle.pb_building.specs.declared.open.target.Target.{Target}
+use Rattle.pb_building.specs.declared.tokens.step.Step.{Step}
+use Rattle.pb_building.specs.declared.tokens.step.Step.TheVariants as step
+use Rattle.pb_building.specs.Open.Parents.{CanHold, next_step, path_of}
+use Rattle.pb_building.specs.declared.values.payload_value.PayloadError.{PayloadError}
+use Rattle.pb_building.specs.declared.values.payload_value.PayloadError.TheVariants as error
+use Rattle.pb_building.specs.Values.PayloadValue.{IsBytesTarget, IfBadText}
+use Rattle.pb_building.specs.Tokens.After.{After}
 use Rattle.pb_decode.specs.Reader.{State, here, own_step, path_here, Reads, Stops, cut, Reported}
-use Rattle.pb_parts.proofs.AfterLemmas.{at_payload}
-use Rattle.pb_parts.proofs.PayloadSteps.{payload_cut}
-use Rattle.pb_parts.proofs.WellLemmas.{can_hold}
+use Rattle.pb_building.proofs.AfterLemmas.{at_payload}
+use Rattle.pb_building.proofs.PayloadSteps.{payload_cut}
+use Rattle.pb_building.proofs.WellLemmas.{can_hold}
 use Rattle.pb_decode.proofs.FewRecords.{counts_fit}
 
 -- the step of a payload's record

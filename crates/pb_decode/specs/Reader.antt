@@ -9,7 +9,7 @@ use Rattle.std.specs.Prelude.{◌≡◌, ℕ, ◌+◌, ◌*◌, ◌-◌, ◌<◌
 use Rattle.pb_wire.specs.Record.{Record}
 use Rattle.pb_wire.specs.declared.fault.PathStep.{PathStep}
 use Rattle.pb_wire.specs.Fault.{Fault, fault, Place}
-use Rattle.pb_wire.specs.Token.{given_at}
+use Rattle.pb_wire.specs.Scan.{given_at}
 use Rattle.pb_wire.specs.Exact.{IsOver}
 use Rattle.pb_wire.specs.Schema.{records}
 use Rattle.pb_wire.specs.Grammar.{Bad}
@@ -18,13 +18,13 @@ use Rattle.pb_schema.specs.Types.{Types}
 use Rattle.pb_schema.specs.Context.{a_message, schema_of}
 use Rattle.pb_decode.specs.declared.error.DecodeError.{DecodeError}
 use Rattle.pb_decode.specs.declared.error.DecodeError.TheVariants as error
-use Rattle.pb_parts.specs.declared.open.part.Parent.{Parent as ParentKept}
+use Rattle.pb_building.specs.declared.open.part.Parent.{Parent as ParentKept}
 use Rattle.pb_decode.specs.declared.reader.state.Reader.{Reader}
-use Rattle.pb_parts.specs.declared.tokens.step.Step.{Step}
-use Rattle.pb_parts.specs.declared.tokens.step.Step.TheVariants as step
-use Rattle.pb_parts.specs.Open.Parents.{Part, Scope, Parent, path_of, path_to, next_step, Stands}
-use Rattle.pb_parts.specs.Open.PartView.{part_view, scope_view, parent_view}
-use Rattle.pb_parts.specs.Tokens.After.{After}
+use Rattle.pb_building.specs.declared.tokens.step.Step.{Step}
+use Rattle.pb_building.specs.declared.tokens.step.Step.TheVariants as step
+use Rattle.pb_building.specs.Open.Parents.{Part, Scope, Parent, path_of, path_to, next_step, Stands}
+use Rattle.pb_building.specs.Open.PartView.{part_view, scope_view, parent_view}
+use Rattle.pb_building.specs.Tokens.After.{After}
 
 -- where a reader is: the innermost part with its scope, its parents, innermost first, and what comes next at a position
 pub record State : Type 0 where

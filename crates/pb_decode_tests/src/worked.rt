@@ -6,7 +6,7 @@ use super::answers::{is_answered, is_answered_or_memory, is_refused};
 use super::sample::Schema;
 use super::words::{bytes_of, word};
 use pb_decode::{DecodeError, PushDecoder};
-use pb_parts::error::NoMemory;
+use pb_building::error::NoMemory;
 use pb_value::DynamicMessage;
 use pb_wire::Limits;
 use std::alloc::AllocError;

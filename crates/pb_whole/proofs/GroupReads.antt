@@ -2,26 +2,26 @@
 use Rattle.std.proofs.Common.{◌≡◌, ℕ, ◌+◌, ◌-◌, ◌<◌, List, [], ◌∷◌, take, drop, length, refl, sym, ap, ◌∙◌, subst, true, Some}
 use Rattle.pb_wire.specs.Record.{Record}
 use Rattle.pb_wire.specs.Fault.{Place, HasTag}
-use Rattle.pb_wire.specs.Token.{given_at, passed}
+use Rattle.pb_wire.specs.Scan.{given_at, passed}
 use Rattle.pb_schema.specs.declared.types.MessageId.{MessageId}
 use Rattle.pb_schema.specs.Types.{Types}
 use Rattle.pb_schema.specs.Rules.{IsPool}
 use Rattle.pb_value.specs.Data.{Message}
-use Rattle.pb_parts.specs.declared.open.part.Slot.{Slot}
-use Rattle.pb_parts.specs.Open.Parents.{Part, message_part, group_part, put_message, put_group, Scope, Parent, parent_of, one_more_in, Stands}
-use Rattle.pb_parts.specs.Open.Openings.{taken_message, without_message}
-use Rattle.pb_parts.specs.Open.Targets.{Means, part_context}
+use Rattle.pb_building.specs.declared.open.part.Slot.{Slot}
+use Rattle.pb_building.specs.Open.Parents.{Part, message_part, group_part, put_message, put_group, Scope, Parent, parent_of, one_more_in, Stands}
+use Rattle.pb_building.specs.Open.Openings.{taken_message, without_message}
+use Rattle.pb_building.specs.Open.Targets.{Means, part_context}
 use Rattle.pb_whole.specs.Reads.{StandsIn, IsOpen, HasTagAt, ReadsTo}
 use Rattle.pb_whole.specs.Reads.Groups.{ReadsToEnd}
-use Rattle.pb_parts.proofs.WellLemmas.{can_hold}
-use Rattle.pb_parts.proofs.PlaceLemmas.{place_after, passed_twice}
+use Rattle.pb_building.proofs.WellLemmas.{can_hold}
+use Rattle.pb_building.proofs.PlaceLemmas.{place_after, passed_twice}
 use Rattle.pb_whole.proofs.Tags.{there_after}
-use Rattle.pb_parts.proofs.OpenSteps.{message_group_opened}
-use Rattle.pb_parts.proofs.GroupSteps.{group_opened}
-use Rattle.pb_parts.proofs.GroupLemmas.{part_closes}
+use Rattle.pb_building.proofs.OpenSteps.{message_group_opened}
+use Rattle.pb_building.proofs.GroupSteps.{group_opened}
+use Rattle.pb_building.proofs.GroupLemmas.{part_closes}
 use Rattle.pb_whole.proofs.Payloads.{filled_so_far, typed_tag}
-use Rattle.pb_parts.specs.declared.open.part.Slot.TheVariants as slot
-use Rattle.pb_parts.specs.declared.open.target.Target.TheVariants as target
+use Rattle.pb_building.specs.declared.open.part.Slot.TheVariants as slot
+use Rattle.pb_building.specs.declared.open.target.Target.TheVariants as target
 
 -- THE GROUP OF A FIELD begins after its first tag, inside its parent
 pub field_group_begun :

@@ -10,11 +10,11 @@ use Rattle.pb_schema.specs.Rules.{IsPool}
 use Rattle.pb_schema.specs.Scalar.{Scalar}
 use Rattle.pb_schema.specs.Context.{Context}
 use Rattle.pb_value.specs.Data.{Datum}
-use Rattle.pb_parts.specs.declared.open.part.Slot.{Slot}
-use Rattle.pb_parts.specs.Open.Parents.{Part, message_part, entry_part, group_part, CanHold, Scope, Parent, Held, inside, Stands}
-use Rattle.pb_parts.specs.Close.Closing.{FitsSlot, CanGoInto}
-use Rattle.pb_parts.proofs.WellLemmas.{can_hold, fits_keys}
-use Rattle.pb_parts.specs.declared.open.part.Slot.TheVariants as slot
+use Rattle.pb_building.specs.declared.open.part.Slot.{Slot}
+use Rattle.pb_building.specs.Open.Parents.{Part, message_part, entry_part, group_part, CanHold, Scope, Parent, Held, inside, Stands}
+use Rattle.pb_building.specs.Close.Closing.{FitsSlot, CanGoInto}
+use Rattle.pb_building.proofs.WellLemmas.{can_hold, fits_keys}
+use Rattle.pb_building.specs.declared.open.part.Slot.TheVariants as slot
 
 -- THE PARENT may be changed
 pub parent_can_hold :

@@ -13,13 +13,13 @@ use Rattle.pb_value.specs.WellFormed.{HasOneMemberEach}
 use Rattle.pb_value.proofs.MessageSteps.{value_members}
 use Rattle.pb_value.proofs.OneofLemmas.{pool_differ}
 use Rattle.pb_value.proofs.StepLemmas.{found_number}
-use Rattle.pb_parts.specs.Open.Parents.{Part, CanHold, Parent, Scope}
-use Rattle.pb_parts.specs.Tokens.After.{with_elements, After}
-use Rattle.pb_parts.proofs.ClosedLists.{list_value}
-use Rattle.pb_parts.proofs.WellLemmas.{type_in_pool}
-use Rattle.pb_parts.proofs.NumberSteps.{fits_is}
-use Rattle.pb_parts.proofs.ListSteps.{AtList, at_list, packed_field}
-use Rattle.pb_parts.specs.declared.tokens.step.Step.TheVariants as step
+use Rattle.pb_building.specs.Open.Parents.{Part, CanHold, Parent, Scope}
+use Rattle.pb_building.specs.Tokens.After.{with_elements, After}
+use Rattle.pb_building.proofs.ClosedLists.{list_value}
+use Rattle.pb_building.proofs.WellLemmas.{type_in_pool}
+use Rattle.pb_building.proofs.NumberSteps.{fits_is}
+use Rattle.pb_building.proofs.ListSteps.{AtList, at_list, packed_field}
+use Rattle.pb_building.specs.declared.tokens.step.Step.TheVariants as step
 
 -- inside the list's payload the message is that of the records before it and of the elements so far
 members_in :

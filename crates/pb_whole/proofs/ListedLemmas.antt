@@ -11,15 +11,15 @@ use Rattle.pb_value.specs.View.{body_view, value_view}
 use Rattle.pb_value.specs.declared.body.Body.{Body}
 use Rattle.pb_value.specs.declared.body.Value.{Value}
 use Rattle.pb_value.proofs.Views.{value_view-Message}
-use Rattle.pb_parts.specs.declared.open.part.Slot.TheVariants.{List as ListSlot}
-use Rattle.pb_parts.specs.declared.open.target.Target.{Target}
-use Rattle.pb_parts.specs.declared.open.target.Target.TheVariants.{Element, Message}
-use Rattle.pb_parts.specs.Open.Parents.{Part, message_part, entry_part, group_part, put_message}
-use Rattle.pb_parts.specs.Open.Targets.{Means, part_context}
-use Rattle.pb_parts.specs.Values.Run.{put_listed, put_each}
+use Rattle.pb_building.specs.declared.open.part.Slot.TheVariants.{List as ListSlot}
+use Rattle.pb_building.specs.declared.open.target.Target.{Target}
+use Rattle.pb_building.specs.declared.open.target.Target.TheVariants.{Element, Message}
+use Rattle.pb_building.specs.Open.Parents.{Part, message_part, entry_part, group_part, put_message}
+use Rattle.pb_building.specs.Open.Targets.{Means, part_context}
+use Rattle.pb_building.specs.Values.Run.{put_listed, put_each}
 use Rattle.pb_whole.specs.Reads.{ReadsTo}
 use Rattle.pb_whole.specs.Listed.{ReadsRun, ReadsList, IsListOpen}
-use Rattle.pb_parts.proofs.RunLemmas.{each_next}
+use Rattle.pb_building.proofs.RunLemmas.{each_next}
 use Rattle.pb_whole.proofs.Payloads.{nothing_filled, still_open, filled_further}
 use Rattle.pb_value.specs.declared.body.Value.TheVariants as value
 

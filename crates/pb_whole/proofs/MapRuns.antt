@@ -3,7 +3,7 @@ use Rattle.std.proofs.Common.{◌≡◌, ℕ, zero, suc, ◌+◌, ◌-◌, ◌<�
 use Rattle.std.specs.Prelude.{false, unwrap_or}
 use Rattle.pb_wire.specs.Record.{Record}
 use Rattle.pb_wire.specs.Fault.{Place, HasLength}
-use Rattle.pb_wire.specs.Token.{given_at, passed}
+use Rattle.pb_wire.specs.Scan.{given_at, passed}
 use Rattle.pb_schema.specs.declared.types.Kind.{Kind}
 use Rattle.pb_schema.specs.Types.{Types}
 use Rattle.pb_schema.specs.Rules.{IsPool}
@@ -16,20 +16,20 @@ use Rattle.pb_value.specs.WellFormed.{RisesFrom, IsBody}
 use Rattle.pb_value.specs.View.{key_view, value_view}
 use Rattle.pb_value.specs.declared.body.MapKey.{MapKey}
 use Rattle.pb_value.specs.declared.body.Value.{Value}
-use Rattle.pb_parts.specs.Close.Mapped.{pairs_view, put_mapped, put_all_mapped, FitsMapped, FitMapped, RisesIn}
-use Rattle.pb_parts.specs.Open.Parents.{Part, message_part, entry_part, group_part, put_entry, Scope, Parent, parent_of, one_more_in, EndsAt, up_to, Stands}
-use Rattle.pb_parts.specs.Open.Targets.{Means, part_context}
-use Rattle.pb_parts.specs.Close.Closing.{FitsSlot}
+use Rattle.pb_building.specs.Close.Mapped.{pairs_view, put_mapped, put_all_mapped, FitsMapped, FitMapped, RisesIn}
+use Rattle.pb_building.specs.Open.Parents.{Part, message_part, entry_part, group_part, put_entry, Scope, Parent, parent_of, one_more_in, EndsAt, up_to, Stands}
+use Rattle.pb_building.specs.Open.Targets.{Means, part_context}
+use Rattle.pb_building.specs.Close.Closing.{FitsSlot}
 use Rattle.pb_whole.specs.Reads.{StandsIn, IsOpen, HasTagAt}
 use Rattle.pb_whole.specs.Entries.{more_in, IsMapOpen}
-use Rattle.pb_parts.proofs.PlaceLemmas.{passed_twice, place_after, slice_from}
-use Rattle.pb_parts.proofs.WellLemmas.{message_good}
+use Rattle.pb_building.proofs.PlaceLemmas.{passed_twice, place_after, slice_from}
+use Rattle.pb_building.proofs.WellLemmas.{message_good}
 use Rattle.pb_whole.proofs.Held.{entry_fits}
-use Rattle.pb_parts.proofs.GroupLemmas.{part_closes}
+use Rattle.pb_building.proofs.GroupLemmas.{part_closes}
 use Rattle.pb_whole.proofs.Payloads.{payload_place, place_before, after_inner, entry_begun, none_left}
-use Rattle.pb_parts.proofs.MapPuts.{mapped_next, pairs_next, fit_next, size_next, all_context}
-use Rattle.pb_parts.specs.declared.open.part.Slot.TheVariants as slot
-use Rattle.pb_parts.specs.declared.open.target.Target.TheVariants as target
+use Rattle.pb_building.proofs.MapPuts.{mapped_next, pairs_next, fit_next, size_next, all_context}
+use Rattle.pb_building.specs.declared.open.part.Slot.TheVariants as slot
+use Rattle.pb_building.specs.declared.open.target.Target.TheVariants as target
 
 -- THE LEVELS stay
 pub more_depth : (k n : ℕ) (s : Scope) → (more_in k n s).depth_left ≡ s.depth_left

@@ -3,28 +3,28 @@ use Rattle.std.proofs.Common.{◌≡◌, ℕ, ◌+◌, ◌-◌, ◌<◌, List, �
 use Rattle.std.proofs.lemmas.Bool.{false≢true}
 use Rattle.pb_wire.specs.Record.{Record}
 use Rattle.pb_wire.specs.Fault.{Place, HasTag, HasLength}
-use Rattle.pb_wire.specs.Token.{given_at, passed}
+use Rattle.pb_wire.specs.Scan.{given_at, passed}
 use Rattle.pb_schema.specs.declared.types.Kind.{Kind}
 use Rattle.pb_schema.specs.declared.types.MessageId.{MessageId}
 use Rattle.pb_schema.specs.Types.{Types}
 use Rattle.pb_schema.specs.Rules.{IsPool}
 use Rattle.pb_value.specs.Data.{Message}
-use Rattle.pb_parts.specs.declared.open.part.Slot.{Slot}
-use Rattle.pb_parts.specs.Open.Parents.{Part, message_part, entry_part, put_message, Scope, Parent, parent_of, CanHold, up_to, one_more_in, EndsAt, Stands}
-use Rattle.pb_parts.specs.Open.Openings.{taken_message, without_message, depth_left_in}
-use Rattle.pb_parts.specs.Open.Targets.{Means, part_context}
-use Rattle.pb_parts.specs.Tokens.After.{HasLevelFor, After}
+use Rattle.pb_building.specs.declared.open.part.Slot.{Slot}
+use Rattle.pb_building.specs.Open.Parents.{Part, message_part, entry_part, put_message, Scope, Parent, parent_of, CanHold, up_to, one_more_in, EndsAt, Stands}
+use Rattle.pb_building.specs.Open.Openings.{taken_message, without_message, depth_left_in}
+use Rattle.pb_building.specs.Open.Targets.{Means, part_context}
+use Rattle.pb_building.specs.Tokens.After.{HasLevelFor, After}
 use Rattle.pb_whole.specs.Reads.{StandsIn, IsOpen, HasTagAt, ReadsTo}
-use Rattle.pb_parts.proofs.WellLemmas.{can_hold}
-use Rattle.pb_parts.proofs.PlaceLemmas.{slice_from, passed_twice, place_after}
-use Rattle.pb_parts.proofs.ListSteps.{list_begins, list_over}
+use Rattle.pb_building.proofs.WellLemmas.{can_hold}
+use Rattle.pb_building.proofs.PlaceLemmas.{slice_from, passed_twice, place_after}
+use Rattle.pb_building.proofs.ListSteps.{list_begins, list_over}
 use Rattle.pb_whole.proofs.ListHolds.{list_can_hold}
 use Rattle.pb_whole.proofs.Tags.{tag_next, opening_next}
-use Rattle.pb_parts.proofs.OpenSteps.{message_opened, entry_opened}
-use Rattle.pb_parts.proofs.GroupLemmas.{part_closes}
-use Rattle.pb_parts.specs.declared.open.part.Slot.TheVariants as slot
-use Rattle.pb_parts.specs.declared.open.target.Target.TheVariants as target
-use Rattle.pb_parts.specs.declared.tokens.step.Step.TheVariants as step
+use Rattle.pb_building.proofs.OpenSteps.{message_opened, entry_opened}
+use Rattle.pb_building.proofs.GroupLemmas.{part_closes}
+use Rattle.pb_building.specs.declared.open.part.Slot.TheVariants as slot
+use Rattle.pb_building.specs.declared.open.target.Target.TheVariants as target
+use Rattle.pb_building.specs.declared.tokens.step.Step.TheVariants as step
 
 -- the open part may be changed
 pub open_can : {pool : Types} {now : Part} {bytes : List ℕ} {left depth_left : ℕ} → IsPool pool → IsOpen pool now bytes left depth_left → CanHold pool now

@@ -4,21 +4,21 @@ use Rattle.std.specs.Prelude.{true}
 use Rattle.std.proofs.lemmas.Bool.{false≢true}
 use Rattle.pb_wire.specs.Record.{Record}
 use Rattle.pb_wire.specs.Fault.{Place, Moves, Reads as ReadsNumber, HasTag, HasLength}
-use Rattle.pb_wire.specs.Token.{given_at, passed}
+use Rattle.pb_wire.specs.Scan.{given_at, passed}
 use Rattle.pb_wire.proofs.TokenLemmas.{moves_passed}
 use Rattle.pb_schema.specs.Types.{Types}
-use Rattle.pb_parts.specs.declared.open.target.Target.{Target}
-use Rattle.pb_parts.specs.declared.tokens.step.Step.{Step}
-use Rattle.pb_parts.specs.Values.PayloadValue.{IsBytesTarget}
-use Rattle.pb_parts.specs.Open.Targets.{Means, part_context}
-use Rattle.pb_parts.specs.Open.Parents.{Part, Scope, Parent, EndsAt, Stands}
-use Rattle.pb_parts.specs.Tokens.After.{tag, awaited, goes_down, HasLevelFor, After}
-use Rattle.pb_parts.specs.Tokens.Number.{IsNumberType}
-use Rattle.pb_parts.proofs.AfterLemmas.{after_tag, after_length}
-use Rattle.pb_parts.proofs.DeepLemmas.{reads_below}
-use Rattle.pb_parts.proofs.PlaceLemmas.{slice_from, passed_twice}
-use Rattle.pb_parts.specs.declared.open.target.Target.TheVariants as target
-use Rattle.pb_parts.specs.declared.tokens.step.Step.TheVariants as step
+use Rattle.pb_building.specs.declared.open.target.Target.{Target}
+use Rattle.pb_building.specs.declared.tokens.step.Step.{Step}
+use Rattle.pb_building.specs.Values.PayloadValue.{IsBytesTarget}
+use Rattle.pb_building.specs.Open.Targets.{Means, part_context}
+use Rattle.pb_building.specs.Open.Parents.{Part, Scope, Parent, EndsAt, Stands}
+use Rattle.pb_building.specs.Tokens.After.{tag, awaited, goes_down, HasLevelFor, After}
+use Rattle.pb_building.specs.Tokens.Number.{IsNumberType}
+use Rattle.pb_building.proofs.AfterLemmas.{after_tag, after_length}
+use Rattle.pb_building.proofs.DeepLemmas.{reads_below}
+use Rattle.pb_building.proofs.PlaceLemmas.{slice_from, passed_twice}
+use Rattle.pb_building.specs.declared.open.target.Target.TheVariants as target
+use Rattle.pb_building.specs.declared.tokens.step.Step.TheVariants as step
 
 -- WHAT BEGINS the bytes after some of them comes after those
 pub there_after :

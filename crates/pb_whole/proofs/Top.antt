@@ -10,17 +10,17 @@ use Rattle.pb_schema.specs.Types.{Types}
 use Rattle.pb_schema.specs.Context.{Context, a_message as in_message, schema_of}
 use Rattle.pb_value.specs.Data.{Message, empty}
 use Rattle.pb_value.specs.Derives.{Text}
-use Rattle.pb_parts.specs.Open.Parents.{Part, message_part, entry_part, group_part, Parent, Scope, Held, at_top, inside, IsSameForm, Stands}
+use Rattle.pb_building.specs.Open.Parents.{Part, message_part, entry_part, group_part, Parent, Scope, Held, at_top, inside, IsSameForm, Stands}
 use Rattle.pb_wire.specs.Sound.{AllSound}
 use Rattle.pb_wire.specs.declared.fault.PathStep.{PathStep}
-use Rattle.pb_wire.specs.Token.{given_at, passed}
+use Rattle.pb_wire.specs.Scan.{given_at, passed}
 use Rattle.pb_schema.specs.Rules.{IsPool}
 use Rattle.pb_value.specs.Value.{value, value_within}
 use Rattle.pb_value.proofs.MessageSteps.{value_of_nothing}
 use Rattle.pb_value.specs.WellFormed.{IsBody, IsWellFormed}
-use Rattle.pb_parts.specs.Open.Opened.{SoFar}
-use Rattle.pb_parts.proofs.ParentLemmas.{stands_at_start}
-use Rattle.pb_parts.proofs.WellLemmas.{message_good}
+use Rattle.pb_building.specs.Open.Opened.{SoFar}
+use Rattle.pb_building.proofs.ParentLemmas.{stands_at_start}
+use Rattle.pb_building.proofs.WellLemmas.{message_good}
 use Rattle.pb_wire.specs.Spell.{AreRecords}
 use Rattle.std.proofs.Math.Seq.{drop-length}
 use Rattle.pb_whole.specs.Reads.{StandsIn, IsOpen, ReadsTo}

@@ -3,16 +3,16 @@ use Rattle.std.specs.Prelude.{◌≡◌, ℕ, zero, suc, List, [], ◌∷◌, �
 use Rattle.std.specs.declared.alloc.Global.{Global}
 use Rattle.pb_wire.specs.Record.{Record}
 use Rattle.pb_wire.specs.Fault.{Place}
-use Rattle.pb_wire.specs.Token.{given_at, passed}
+use Rattle.pb_wire.specs.Scan.{given_at, passed}
 use Rattle.pb_schema.specs.declared.types.Kind.{Kind}
 use Rattle.pb_schema.specs.Types.{Types}
 use Rattle.pb_value.specs.declared.body.MapKey.{MapKey}
 use Rattle.pb_value.specs.declared.body.Value.{Value}
 use Rattle.pb_value.specs.View.{key_view, value_view}
-use Rattle.pb_parts.specs.declared.open.target.Target.TheVariants.{Entry}
-use Rattle.pb_parts.specs.Open.Parents.{Part, Scope, Parent, one_more_in, Stands}
-use Rattle.pb_parts.specs.Open.Targets.{Means, part_context}
-use Rattle.pb_parts.specs.Close.Mapped.{pairs_view, put_mapped, put_all_mapped, FitsMapped, FitMapped}
+use Rattle.pb_building.specs.declared.open.target.Target.TheVariants.{Entry}
+use Rattle.pb_building.specs.Open.Parents.{Part, Scope, Parent, one_more_in, Stands}
+use Rattle.pb_building.specs.Open.Targets.{Means, part_context}
+use Rattle.pb_building.specs.Close.Mapped.{pairs_view, put_mapped, put_all_mapped, FitsMapped, FitMapped}
 
 -- this many more records of a number
 abbrev pub more_in : ℕ → ℕ → Scope → Scope

@@ -1,7 +1,7 @@
 -- Lengths after tags.
 use Rattle.std.specs.Prelude.{ℕ, List, Option, IfSome}
 use Rattle.pb_wire.specs.Fault.{HasTag, HasLength}
-use Rattle.pb_wire.specs.Token.{given_at, passed}
+use Rattle.pb_wire.specs.Scan.{given_at, passed}
 
 -- after any tag of this many bytes the length of a payload is read, and where the payload begins
 abbrev pub TellsLength : ℕ → List ℕ → Option ℕ → Option (ℕ × ℕ) → Type 0

@@ -8,12 +8,12 @@ use Rattle.pb_schema.specs.Kinds.{wire_type_of}
 use Rattle.pb_value.specs.declared.body.Value.{Value}
 use Rattle.pb_value.specs.Data.{Datum}
 use Rattle.pb_value.specs.View.{value_view}
-use Rattle.pb_parts.specs.declared.open.part.Slot.TheVariants.{List as ListSlot}
-use Rattle.pb_parts.specs.declared.open.target.Target.{Target}
-use Rattle.pb_parts.specs.declared.open.target.Target.TheVariants.{Element, Message}
-use Rattle.pb_parts.specs.Open.Targets.{Means, part_context}
-use Rattle.pb_parts.specs.Open.Parents.{Part}
-use Rattle.pb_parts.specs.Values.Run.{put_each}
+use Rattle.pb_building.specs.declared.open.part.Slot.TheVariants.{List as ListSlot}
+use Rattle.pb_building.specs.declared.open.target.Target.{Target}
+use Rattle.pb_building.specs.declared.open.target.Target.TheVariants.{Element, Message}
+use Rattle.pb_building.specs.Open.Targets.{Means, part_context}
+use Rattle.pb_building.specs.Open.Parents.{Part}
+use Rattle.pb_building.specs.Values.Run.{put_each}
 use Rattle.pb_whole.specs.Reads.{IsOpen, ReadsTo}
 
 -- where the records of a number are for a list's values, this many bytes are records that put these values at the end of the list

@@ -3,13 +3,13 @@ pub mod Groups
 use Rattle.std.specs.Prelude.{◌≡◌, ◌<◌, ◌≤◌, ◌^◌, ℕ, List, Option, Some, Result, IfOk, OnOk, length}
 use Rattle.pb_wire.specs.Record.{Record}
 use Rattle.pb_wire.specs.Fault.{Place, HasTag}
-use Rattle.pb_wire.specs.Token.{given_at, passed}
+use Rattle.pb_wire.specs.Scan.{given_at, passed}
 use Rattle.pb_schema.specs.Types.{Types}
 use Rattle.pb_schema.specs.Rules.{IsPool}
-use Rattle.pb_parts.specs.declared.tokens.record_tag.RecordTag.{RecordTag}
-use Rattle.pb_parts.specs.declared.open.part.Part.{Part as PartKept}
-use Rattle.pb_parts.specs.Open.Parents.{Part, Scope, Parent, Stands}
-use Rattle.pb_parts.specs.Open.PartView.{part_view}
+use Rattle.pb_building.specs.declared.tokens.record_tag.RecordTag.{RecordTag}
+use Rattle.pb_building.specs.declared.open.part.Part.{Part as PartKept}
+use Rattle.pb_building.specs.Open.Parents.{Part, Scope, Parent, Stands}
+use Rattle.pb_building.specs.Open.PartView.{part_view}
 use Rattle.pb_whole.specs.declared.reader.Left.{Left}
 
 -- with some scope that has this many levels left, whole records of a part end at a place

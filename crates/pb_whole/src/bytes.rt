@@ -1,19 +1,19 @@
 //! Strings, byte strings and unknown payloads.
 
 ghost use Rattle.std.specs.Prelude.{◌≡◌};
-ghost use Rattle.pb_parts.specs.Open.PartView.{part_view};
-ghost use Rattle.pb_parts.specs.Open.Targets.{Means, part_context};
-ghost use Rattle.pb_parts.specs.Values.PayloadValue.{IsBytesTarget};
+ghost use Rattle.pb_building.specs.Open.PartView.{part_view};
+ghost use Rattle.pb_building.specs.Open.Targets.{Means, part_context};
+ghost use Rattle.pb_building.specs.Values.PayloadValue.{IsBytesTarget};
 ghost use Rattle.pb_whole.specs.Reads.{IsAtTag, Passes, ReadsOne};
 
 use crate::reader::{Left, Reader};
 use crate::tokens::payload_after;
-use pb_parts::error::NoMemory;
-use pb_parts::open::part::Part;
-use pb_parts::open::target::Target;
-use pb_parts::tokens::record_tag::RecordTag;
-use pb_parts::values::payload_value::PayloadError;
-use pb_parts::values::put_payload::put_payload;
+use pb_building::error::NoMemory;
+use pb_building::open::part::Part;
+use pb_building::open::target::Target;
+use pb_building::tokens::record_tag::RecordTag;
+use pb_building::values::payload_value::PayloadError;
+use pb_building::values::put_payload::put_payload;
 
 impl Reader<'_> {
     /// Puts the payload after a tag into a part, and how many bytes its record takes.

@@ -4,24 +4,24 @@ ghost use Rattle.std.specs.Prelude.{◌≡◌, ◌⊎◌, ◌≤◌, ◌<◌, �
 ghost use Rattle.pb_schema.specs.Kinds.{wire_type_of};
 ghost use Rattle.pb_schema.specs.Rules.{IsPool};
 ghost use Rattle.pb_value.specs.View.{value_view};
-ghost use Rattle.pb_parts.specs.declared.open.target.Target.TheVariants as targets;
-ghost use Rattle.pb_parts.specs.Open.PartView.{part_view};
-ghost use Rattle.pb_parts.specs.Open.Targets.{Means, part_context};
-ghost use Rattle.pb_parts.specs.Tokens.Number.{IsNumberType};
+ghost use Rattle.pb_building.specs.declared.open.target.Target.TheVariants as targets;
+ghost use Rattle.pb_building.specs.Open.PartView.{part_view};
+ghost use Rattle.pb_building.specs.Open.Targets.{Means, part_context};
+ghost use Rattle.pb_building.specs.Tokens.Number.{IsNumberType};
 ghost use Rattle.pb_whole.specs.Reads.{HasTagAt, IsAtTag, Passes, ReadsOne};
 ghost use Rattle.pb_whole.specs.Listed.{ReadsList, IsElement, AreElements};
 
 use crate::reader::{Left, Reader};
 use crate::tokens::tag_again;
-use pb_parts::error::NoMemory;
-use pb_parts::open::part::Part;
-use pb_parts::open::target::Target;
-use pb_parts::tokens::number::number_value;
-use pb_parts::tokens::number_token::{NumberToken, number_at};
-use pb_parts::tokens::record_tag::{RecordTag, left_after};
-use pb_parts::values::put_elements::put_elements;
-use pb_parts::values::put_number::is_undeclared;
-use pb_parts::values::put_scalar::put_scalar;
+use pb_building::error::NoMemory;
+use pb_building::open::part::Part;
+use pb_building::open::target::Target;
+use pb_building::tokens::number::number_value;
+use pb_building::tokens::number_token::{NumberToken, number_at};
+use pb_building::tokens::record_tag::{RecordTag, left_after};
+use pb_building::values::put_elements::put_elements;
+use pb_building::values::put_number::is_undeclared;
+use pb_building::values::put_scalar::put_scalar;
 use pb_schema::Kind;
 use pb_value::Value;
 

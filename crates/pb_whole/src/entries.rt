@@ -2,22 +2,22 @@
 
 ghost use Rattle.std.specs.Prelude.{◌≡◌, ◌≤◌, ◌<◌, ◌^◌, Some, length, IfOk, IfSome};
 ghost use Rattle.pb_schema.specs.Rules.{IsPool};
-ghost use Rattle.pb_parts.specs.declared.open.target.Target.TheVariants as targets;
-ghost use Rattle.pb_parts.specs.Open.PartView.{part_view};
-ghost use Rattle.pb_parts.specs.Open.Targets.{Means, part_context};
-ghost use Rattle.pb_parts.specs.Values.PayloadValue.{IsBytesTarget};
+ghost use Rattle.pb_building.specs.declared.open.target.Target.TheVariants as targets;
+ghost use Rattle.pb_building.specs.Open.PartView.{part_view};
+ghost use Rattle.pb_building.specs.Open.Targets.{Means, part_context};
+ghost use Rattle.pb_building.specs.Values.PayloadValue.{IsBytesTarget};
 ghost use Rattle.pb_whole.specs.Reads.{CanRead, HasTagAt, IsAtTag, Passes, ReadsAll, ReadsOne};
 ghost use Rattle.pb_whole.specs.Entries.{IsMapOpen, AddsEntry, ReadsEntries};
 
 use crate::heap::keep_heap_after_list;
 use crate::reader::{Left, Reader};
 use crate::tokens::{is_number, payload_after, tag_again};
-use pb_parts::close::closing::{key_or_default, value_or_missing};
-use pb_parts::close::put_entries::put_entries;
-use pb_parts::error::NoMemory;
-use pb_parts::open::part::{Entry, Part};
-use pb_parts::open::target::{Target, target_of};
-use pb_parts::tokens::record_tag::{RecordTag, record_tag};
+use pb_building::close::closing::{key_or_default, value_or_missing};
+use pb_building::close::put_entries::put_entries;
+use pb_building::error::NoMemory;
+use pb_building::open::part::{Entry, Part};
+use pb_building::open::target::{Target, target_of};
+use pb_building::tokens::record_tag::{RecordTag, record_tag};
 use pb_schema::Kind;
 use pb_value::{MapKey, Value};
 

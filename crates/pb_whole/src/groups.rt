@@ -1,20 +1,20 @@
 //! Groups, which end at their end tags.
 
 ghost use Rattle.std.specs.Prelude.{◌≡◌, ◌<◌};
-ghost use Rattle.pb_parts.specs.declared.open.target.Target.TheVariants as targets;
-ghost use Rattle.pb_parts.specs.Open.PartView.{part_view};
-ghost use Rattle.pb_parts.specs.Open.Targets.{Means, part_context};
+ghost use Rattle.pb_building.specs.declared.open.target.Target.TheVariants as targets;
+ghost use Rattle.pb_building.specs.Open.PartView.{part_view};
+ghost use Rattle.pb_building.specs.Open.Targets.{Means, part_context};
 ghost use Rattle.pb_whole.specs.Reads.{CanRead, IsAtTag, Passes, ReadsOne};
 ghost use Rattle.pb_whole.specs.Reads.Groups.{ReadsGroup};
 
 use crate::reader::{Left, Reader};
-use pb_parts::close::closing::put_group;
-use pb_parts::close::put::put_message;
-use pb_parts::error::NoMemory;
-use pb_parts::open::opening::{message_slot, take_message};
-use pb_parts::open::part::{Part, Slot};
-use pb_parts::open::target::target_of;
-use pb_parts::tokens::record_tag::{RecordTag, record_tag};
+use pb_building::close::closing::put_group;
+use pb_building::close::put::put_message;
+use pb_building::error::NoMemory;
+use pb_building::open::opening::{message_slot, take_message};
+use pb_building::open::part::{Part, Slot};
+use pb_building::open::target::target_of;
+use pb_building::tokens::record_tag::{RecordTag, record_tag};
 use pb_schema::MessageId;
 
 impl Reader<'_> {

@@ -1,20 +1,20 @@
 //! Packed lists.
 
 ghost use Rattle.std.specs.Prelude.{◌≡◌};
-ghost use Rattle.pb_parts.specs.declared.open.target.Target.TheVariants as targets;
-ghost use Rattle.pb_parts.specs.Open.PartView.{part_view};
-ghost use Rattle.pb_parts.specs.Open.Targets.{Means, part_context};
+ghost use Rattle.pb_building.specs.declared.open.target.Target.TheVariants as targets;
+ghost use Rattle.pb_building.specs.Open.PartView.{part_view};
+ghost use Rattle.pb_building.specs.Open.Targets.{Means, part_context};
 ghost use Rattle.pb_whole.specs.Reads.{IsAtTag, Passes, ReadsOne};
 
 use crate::reader::{Left, Reader};
 use crate::tokens::payload_after;
-use pb_parts::error::NoMemory;
-use pb_parts::open::part::Part;
-use pb_parts::tokens::record_tag::RecordTag;
-use pb_parts::values::list::read_list;
-use pb_parts::values::put_elements::put_elements;
-use pb_parts::values::put_run::put_run;
-use pb_parts::values::run::read_run;
+use pb_building::error::NoMemory;
+use pb_building::open::part::Part;
+use pb_building::tokens::record_tag::RecordTag;
+use pb_building::values::list::read_list;
+use pb_building::values::put_elements::put_elements;
+use pb_building::values::put_run::put_run;
+use pb_building::values::run::read_run;
 use pb_schema::Kind;
 
 impl Reader<'_> {

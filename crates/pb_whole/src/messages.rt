@@ -2,23 +2,23 @@
 
 ghost use Rattle.std.specs.Prelude.{◌≡◌, ◌≤◌, ◌<◌, ◌^◌, Some, length, IfOk};
 ghost use Rattle.pb_schema.specs.Rules.{IsPool};
-ghost use Rattle.pb_parts.specs.declared.open.part.Slot.TheVariants.{List as ListSlot};
-ghost use Rattle.pb_parts.specs.declared.open.target.Target.TheVariants as targets;
-ghost use Rattle.pb_parts.specs.Open.PartView.{part_view};
-ghost use Rattle.pb_parts.specs.Open.Targets.{Means, part_context};
+ghost use Rattle.pb_building.specs.declared.open.part.Slot.TheVariants.{List as ListSlot};
+ghost use Rattle.pb_building.specs.declared.open.target.Target.TheVariants as targets;
+ghost use Rattle.pb_building.specs.Open.PartView.{part_view};
+ghost use Rattle.pb_building.specs.Open.Targets.{Means, part_context};
 ghost use Rattle.pb_whole.specs.Reads.{HasTagAt, IsAtTag, Passes, ReadsOne};
 ghost use Rattle.pb_whole.specs.Listed.{IsListOpen, IsMessage, AreMessages};
 
 use crate::reader::{Left, Reader};
 use crate::tokens::{payload_after, tag_again};
-use pb_parts::close::put::put_message;
-use pb_parts::error::NoMemory;
-use pb_parts::open::opening::{depth_left_in, take_message};
-use pb_parts::open::part::{Part, Slot};
-use pb_parts::open::target::Target;
-use pb_parts::tokens::record_tag::RecordTag;
-use pb_parts::tokens::tag_step::has_level;
-use pb_parts::values::put_elements::put_elements;
+use pb_building::close::put::put_message;
+use pb_building::error::NoMemory;
+use pb_building::open::opening::{depth_left_in, take_message};
+use pb_building::open::part::{Part, Slot};
+use pb_building::open::target::Target;
+use pb_building::tokens::record_tag::RecordTag;
+use pb_building::tokens::tag_step::has_level;
+use pb_building::values::put_elements::put_elements;
 use pb_schema::MessageId;
 use pb_value::Value;
 use pb_value::bodies::empty_body;

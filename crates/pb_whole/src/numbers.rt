@@ -1,18 +1,18 @@
 //! Numbers.
 
-ghost use Rattle.pb_parts.specs.declared.open.target.Target.TheVariants as targets;
-ghost use Rattle.pb_parts.specs.Open.PartView.{part_view};
-ghost use Rattle.pb_parts.specs.Open.Targets.{Means, part_context};
-ghost use Rattle.pb_parts.specs.Tokens.Number.{IsNumberType};
+ghost use Rattle.pb_building.specs.declared.open.target.Target.TheVariants as targets;
+ghost use Rattle.pb_building.specs.Open.PartView.{part_view};
+ghost use Rattle.pb_building.specs.Open.Targets.{Means, part_context};
+ghost use Rattle.pb_building.specs.Tokens.Number.{IsNumberType};
 ghost use Rattle.pb_whole.specs.Reads.{IsAtTag, Passes, ReadsOne};
 
 use crate::reader::{Left, Reader};
-use pb_parts::error::NoMemory;
-use pb_parts::open::part::Part;
-use pb_parts::open::target::{Target, target_of};
-use pb_parts::tokens::number_token::{NumberToken, number_at};
-use pb_parts::tokens::record_tag::{RecordTag, left_after};
-use pb_parts::values::put_number::put_number;
+use pb_building::error::NoMemory;
+use pb_building::open::part::Part;
+use pb_building::open::target::{Target, target_of};
+use pb_building::tokens::number_token::{NumberToken, number_at};
+use pb_building::tokens::record_tag::{RecordTag, left_after};
+use pb_building::values::put_number::put_number;
 
 impl Reader<'_> {
     /// Puts the number after a tag into a part, and how many bytes its record takes.

@@ -5,10 +5,10 @@ ghost use Rattle.pb_whole.specs.Reads.{CanRead, IsAtTag, Passes, ReadsOne, Reads
 
 use crate::reader::{Left, Reader};
 use crate::tokens::is_number;
-use pb_parts::error::NoMemory;
-use pb_parts::open::part::{Part, Slot};
-use pb_parts::open::target::{Target, target_of};
-use pb_parts::tokens::record_tag::{RecordTag, record_tag};
+use pb_building::error::NoMemory;
+use pb_building::open::part::{Part, Slot};
+use pb_building::open::target::{Target, target_of};
+use pb_building::tokens::record_tag::{RecordTag, record_tag};
 
 impl Reader<'_> {
     /// Puts the record of a length into a part, and how many bytes it takes.

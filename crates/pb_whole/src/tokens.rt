@@ -1,13 +1,13 @@
 //! Lengths after tags, and what a tag is for.
 
 ghost use Rattle.std.specs.Prelude.{◌≡◌, ◌+◌, ◌≤◌, ◌<◌, ◌^◌, true, Some, length, IfSome};
-ghost use Rattle.pb_parts.specs.Tokens.Number.{IsNumberType};
+ghost use Rattle.pb_building.specs.Tokens.Number.{IsNumberType};
 ghost use Rattle.pb_whole.specs.Lengths.{TellsLength};
 ghost use Rattle.pb_whole.specs.Reads.{HasTagAt};
 
-use pb_parts::tokens::prefix::prefix_number;
-use pb_parts::tokens::record_tag::{RecordTag, left_after, record_tag};
-use pb_parts::tokens::tag::payload_size;
+use pb_building::tokens::prefix::prefix_number;
+use pb_building::tokens::record_tag::{RecordTag, left_after, record_tag};
+use pb_building::tokens::tag::payload_size;
 
 /// Where the payload of a record begins whose tag takes this many bytes, and its size. `left` is how many bytes come before the end of
 /// the part, if that is known.

@@ -5,8 +5,8 @@ ghost use Rattle.pb_value.specs.Derives.{Text};
 
 use crate::heap::keep_heap;
 use crate::reader::{Left, Reader};
-use pb_parts::error::NoMemory;
-use pb_parts::open::part::Part;
+use pb_building::error::NoMemory;
+use pb_building::open::part::Part;
 use pb_schema::{MessageId, Pool};
 use pb_value::DynamicMessage;
 use pb_value::bodies::{empty_body, from_well_formed};

@@ -4,7 +4,7 @@ use Rattle.pb_wire.specs.Record.{Record}
 use Rattle.pb_wire.specs.Spell.{AreRecords}
 use Rattle.pb_wire.specs.Sound.{AllSound}
 use Rattle.pb_wire.specs.Fault.{Fault, Place, Moves, input_end}
-use Rattle.pb_wire.specs.Token.{given_at}
+use Rattle.pb_wire.specs.Scan.{given_at}
 use Rattle.pb_wire.specs.Exact.{IsOver, longer}
 use Rattle.pb_wire.specs.Schema.{records as in_records}
 use Rattle.pb_wire.specs.Grammar.{Bad}
@@ -12,7 +12,7 @@ use Rattle.pb_schema.specs.Types.{Types}
 use Rattle.pb_schema.specs.Context.{a_message, schema_of}
 use Rattle.pb_value.specs.Data.{Message}
 use Rattle.pb_value.specs.Value.{value}
-use Rattle.pb_parts.specs.declared.tokens.step.Step.TheVariants as step
+use Rattle.pb_building.specs.declared.tokens.step.Step.TheVariants as step
 use Rattle.pb_decode.specs.Reader.{State, here, Reads, Stops, Reported}
 
 -- where a reader began: a message of a type with this many levels, onto what the base gives, at a place

@@ -3,24 +3,24 @@
 use Rattle.std.specs.Prelude.{◌≡◌, ◌≤◌, ℕ, List, drop, length, Option, Some, Result, IfOk, IfErr, IfSome, OnOk}
 use Rattle.pb_wire.specs.Record.{Record, wire_type}
 use Rattle.pb_wire.specs.Fault.{Place, Moves, HasTag, Reads as HasNumber}
-use Rattle.pb_wire.specs.Token.{passed}
+use Rattle.pb_wire.specs.Scan.{passed}
 use Rattle.pb_schema.specs.declared.types.Kind.{Kind}
 use Rattle.pb_schema.specs.Types.{Types}
 use Rattle.pb_schema.specs.Rules.{IsPool}
 use Rattle.pb_schema.specs.Kinds.{wire_type_of}
 use Rattle.pb_decode.specs.declared.error.DecodeError.{DecodeError}
-use Rattle.pb_parts.specs.declared.open.target.Target.{Target}
+use Rattle.pb_building.specs.declared.open.target.Target.{Target}
 use Rattle.pb_decode.specs.declared.reader.state.Reader.{Reader}
-use Rattle.pb_parts.specs.declared.tokens.number.Number.{Number}
-use Rattle.pb_parts.specs.declared.tokens.record_tag.RecordTag.{RecordTag}
-use Rattle.pb_parts.specs.declared.tokens.step.Step.TheVariants.{Tag, Elements}
-use Rattle.pb_parts.specs.Open.Parents.{CanHold}
-use Rattle.pb_parts.specs.Open.Openings.{innermost_group}
-use Rattle.pb_parts.specs.Open.PartView.{part_view}
-use Rattle.pb_parts.specs.Open.Targets.{Means, part_context}
-use Rattle.pb_parts.specs.Tokens.Number.{number_view}
-use Rattle.pb_parts.specs.Tokens.Numbers.{Follows}
-use Rattle.pb_parts.specs.Tokens.After.{tag, awaited}
+use Rattle.pb_building.specs.declared.tokens.number.Number.{Number}
+use Rattle.pb_building.specs.declared.tokens.record_tag.RecordTag.{RecordTag}
+use Rattle.pb_building.specs.declared.tokens.step.Step.TheVariants.{Tag, Elements}
+use Rattle.pb_building.specs.Open.Parents.{CanHold}
+use Rattle.pb_building.specs.Open.Openings.{innermost_group}
+use Rattle.pb_building.specs.Open.PartView.{part_view}
+use Rattle.pb_building.specs.Open.Targets.{Means, part_context}
+use Rattle.pb_building.specs.Tokens.Number.{number_view}
+use Rattle.pb_building.specs.Tokens.Numbers.{Follows}
+use Rattle.pb_building.specs.Tokens.After.{tag, awaited}
 use Rattle.pb_decode.specs.Reader.{State, parents_view, state_view, here, IsReading, Reads, StandsAt, AfterAt, Stops, Taken, IfFault, Reported}
 
 -- these bytes begin with a tag of this many bytes

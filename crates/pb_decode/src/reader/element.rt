@@ -2,9 +2,9 @@
 
 ghost use Rattle.std.specs.Prelude.{◌≡◌, ◌≢◌, ◌+◌, ◌<◌, ◌^◌, Some, OnOk, IfOk, IfNone};
 ghost use Rattle.pb_schema.specs.Rules.{IsPool};
-ghost use Rattle.pb_parts.specs.declared.tokens.step.Step.TheVariants.{Elements};
-ghost use Rattle.pb_parts.specs.Open.Parents.{CanHold};
-ghost use Rattle.pb_parts.specs.Open.PartView.{part_view};
+ghost use Rattle.pb_building.specs.declared.tokens.step.Step.TheVariants.{Elements};
+ghost use Rattle.pb_building.specs.Open.Parents.{CanHold};
+ghost use Rattle.pb_building.specs.Open.PartView.{part_view};
 ghost use Rattle.pb_decode.specs.Reader.{state_view, left_of, IsReading, Passes};
 ghost use Rattle.pb_decode.specs.Reader.Waiting.{Waits};
 ghost use Rattle.pb_decode.specs.Reader.Steps.{TellsFault, TakesNext, GoesOnAfterElement};
@@ -12,10 +12,10 @@ ghost use Rattle.pb_decode.specs.Reader.Steps.{TellsFault, TakesNext, GoesOnAfte
 use crate::error::DecodeError;
 use crate::reader::fault::fault_at;
 use crate::reader::state::{Reader, left};
-use pb_parts::error::NoMemory;
-use pb_parts::tokens::number::Number;
-use pb_parts::tokens::number_token::{NumberToken, number_at};
-use pb_parts::values::put_number::put_element;
+use pb_building::error::NoMemory;
+use pb_building::tokens::number::Number;
+use pb_building::tokens::number_token::{NumberToken, number_at};
+use pb_building::values::put_number::put_element;
 use pb_schema::{Kind, Pool};
 use std::alloc::Global;
 

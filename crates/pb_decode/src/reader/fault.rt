@@ -3,15 +3,15 @@
 ghost use Rattle.std.specs.Prelude.{◌≡◌, ◌∷◌, [], map, IfOk, IfSome, IfNone};
 ghost use Rattle.pb_wire.specs.Fault.{fault as fault_of};
 ghost use Rattle.pb_wire.specs.declared.fault.Cause.TheVariants.{InputTooLarge};
-ghost use Rattle.pb_parts.specs.Open.Parents.{next_step, Scope as ScopeView};
-ghost use Rattle.pb_parts.specs.Open.PartView.{scope_view};
+ghost use Rattle.pb_building.specs.Open.Parents.{next_step, Scope as ScopeView};
+ghost use Rattle.pb_building.specs.Open.PartView.{scope_view};
 ghost use Rattle.pb_decode.specs.Reader.{state_view, own_step, path_here as steps_here, IfFault, path_inside as steps_inside};
 
 use crate::error::DecodeError;
 use crate::reader::state::Reader;
-use pb_parts::error::NoMemory;
-use pb_parts::open::part::Parent;
-use pb_parts::tokens::step::Step;
+use pb_building::error::NoMemory;
+use pb_building::open::part::Parent;
+use pb_building::tokens::step::Step;
 use pb_wire::{Cause, PathStep};
 use std::alloc::Global;
 

@@ -1,20 +1,20 @@
 //! What begins after the length of a record.
 
 ghost use Rattle.std.specs.Prelude.{◌≡◌, ◌+◌, ◌≤◌, ◌<◌, ◌^◌, ◌∷◌, OnOk};
-ghost use Rattle.pb_parts.specs.declared.open.target.Target.TheVariants as targets;
-ghost use Rattle.pb_parts.specs.declared.tokens.step.Step.TheVariants as steps;
-ghost use Rattle.pb_parts.specs.Open.PartView.{parent_view};
-ghost use Rattle.pb_parts.specs.Values.PayloadValue.{IsBytesTarget};
+ghost use Rattle.pb_building.specs.declared.open.target.Target.TheVariants as targets;
+ghost use Rattle.pb_building.specs.declared.tokens.step.Step.TheVariants as steps;
+ghost use Rattle.pb_building.specs.Open.PartView.{parent_view};
+ghost use Rattle.pb_building.specs.Values.PayloadValue.{IsBytesTarget};
 ghost use Rattle.pb_decode.specs.Reader.{parents_view, weight};
 ghost use Rattle.pb_decode.specs.Reader.Lengths.{PassesLength, PassesLengthAlone};
 
 use crate::reader::state::Reader;
-use pb_parts::error::NoMemory;
-use pb_parts::open::opening::{open_entry, open_message};
-use pb_parts::open::part::{Parent, Slot};
-use pb_parts::open::target::Target;
-use pb_parts::tokens::begin::{begin_list, begin_payload};
-use pb_parts::tokens::step::Step;
+use pb_building::error::NoMemory;
+use pb_building::open::opening::{open_entry, open_message};
+use pb_building::open::part::{Parent, Slot};
+use pb_building::open::target::Target;
+use pb_building::tokens::begin::{begin_list, begin_payload};
+use pb_building::tokens::step::Step;
 use pb_schema::{Kind, MessageId};
 use std::alloc::Global;
 

@@ -2,12 +2,12 @@
 
 ghost use Rattle.std.specs.Prelude.{◌≡◌, ◌⊎◌, ◌+◌, ◌-◌, ◌<◌, ◌≤◌, ◌^◌, Some, drop, length, OnOk, IfOk, IfNone};
 ghost use Rattle.pb_schema.specs.Rules.{IsPool};
-ghost use Rattle.pb_parts.specs.declared.tokens.step.Step.TheVariants.{Tag};
-ghost use Rattle.pb_parts.specs.Open.Parents.{CanHold};
-ghost use Rattle.pb_parts.specs.Open.Occurrences.{counts_view};
-ghost use Rattle.pb_parts.specs.Open.PartView.{part_view};
-ghost use Rattle.pb_parts.specs.Tokens.After.{tag, awaited};
-ghost use Rattle.pb_parts.specs.Tokens.Number.{IsNumberType};
+ghost use Rattle.pb_building.specs.declared.tokens.step.Step.TheVariants.{Tag};
+ghost use Rattle.pb_building.specs.Open.Parents.{CanHold};
+ghost use Rattle.pb_building.specs.Open.Occurrences.{counts_view};
+ghost use Rattle.pb_building.specs.Open.PartView.{part_view};
+ghost use Rattle.pb_building.specs.Tokens.After.{tag, awaited};
+ghost use Rattle.pb_building.specs.Tokens.Number.{IsNumberType};
 ghost use Rattle.pb_decode.specs.Reader.{state_view, left_of, IsReading, Passes};
 ghost use Rattle.pb_decode.specs.Reader.Waiting.{Waits};
 ghost use Rattle.pb_decode.specs.Reader.Steps.{TellsFault, TakesNext, TakesAll, IsAfterNumber};
@@ -15,14 +15,14 @@ ghost use Rattle.pb_decode.specs.Reader.Steps.{TellsFault, TakesNext, TakesAll, 
 use crate::error::DecodeError;
 use crate::reader::fault::fault_at;
 use crate::reader::take_next::take_next;
-use pb_parts::close::put::count_one;
-use pb_parts::error::NoMemory;
-use pb_parts::open::part::{Parent, Part, Scope};
-use pb_parts::open::target::Target;
-use pb_parts::tokens::number::Number;
-use pb_parts::tokens::number_token::{NumberToken, number_at};
-use pb_parts::tokens::step::Step;
-use pb_parts::values::put_number::put_number;
+use pb_building::close::put::count_one;
+use pb_building::error::NoMemory;
+use pb_building::open::part::{Parent, Part, Scope};
+use pb_building::open::target::Target;
+use pb_building::tokens::number::Number;
+use pb_building::tokens::number_token::{NumberToken, number_at};
+use pb_building::tokens::step::Step;
+use pb_building::values::put_number::put_number;
 use pb_schema::Pool;
 use std::alloc::Global;
 

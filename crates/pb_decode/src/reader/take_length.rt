@@ -2,7 +2,7 @@
 
 ghost use Rattle.std.specs.Prelude.{◌≡◌, IfOk, IfNone};
 ghost use Rattle.pb_schema.specs.Rules.{IsPool};
-ghost use Rattle.pb_parts.specs.declared.tokens.step.Step.TheVariants as steps;
+ghost use Rattle.pb_building.specs.declared.tokens.step.Step.TheVariants as steps;
 ghost use Rattle.pb_decode.specs.Reader.{state_view, IsReading, Passes};
 ghost use Rattle.pb_decode.specs.Reader.Waiting.{Waits};
 ghost use Rattle.pb_decode.specs.Reader.Steps.{TellsFault, TakesNext};
@@ -11,9 +11,9 @@ use crate::error::DecodeError;
 use crate::reader::fault::fault_at;
 use crate::reader::pass_length::pass_length;
 use crate::reader::state::{Reader, left};
-use pb_parts::open::target::Target;
-use pb_parts::tokens::prefix::prefix_number;
-use pb_parts::tokens::tag::payload_size;
+use pb_building::open::target::Target;
+use pb_building::tokens::prefix::prefix_number;
+use pb_building::tokens::tag::payload_size;
 use pb_schema::Pool;
 use std::alloc::Global;
 

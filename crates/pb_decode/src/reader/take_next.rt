@@ -14,7 +14,7 @@ use crate::reader::take_length::take_length;
 use crate::reader::take_payload::take_payload;
 use crate::reader::take_tag::take_tag;
 use crate::reader::whole_records::take_records;
-use pb_parts::tokens::step::Step;
+use pb_building::tokens::step::Step;
 use pb_schema::Pool;
 use std::alloc::Global;
 

@@ -2,11 +2,11 @@
 
 ghost use Rattle.std.specs.Prelude.{◌≡◌, ◌+◌, ◌-◌, ◌<◌, ◌^◌, length, OnOk, IfOk, IfNone};
 ghost use Rattle.pb_schema.specs.Rules.{IsPool};
-ghost use Rattle.pb_parts.specs.declared.tokens.step.Step.TheVariants.{Tag, Payload};
-ghost use Rattle.pb_parts.specs.Open.Parents.{CanHold};
-ghost use Rattle.pb_parts.specs.Open.Occurrences.{counts_view};
-ghost use Rattle.pb_parts.specs.Open.PartView.{part_view};
-ghost use Rattle.pb_parts.specs.Values.PayloadValue.{IsBytesTarget};
+ghost use Rattle.pb_building.specs.declared.tokens.step.Step.TheVariants.{Tag, Payload};
+ghost use Rattle.pb_building.specs.Open.Parents.{CanHold};
+ghost use Rattle.pb_building.specs.Open.Occurrences.{counts_view};
+ghost use Rattle.pb_building.specs.Open.PartView.{part_view};
+ghost use Rattle.pb_building.specs.Values.PayloadValue.{IsBytesTarget};
 ghost use Rattle.pb_decode.specs.Reader.{state_view, IsReading, Passes};
 ghost use Rattle.pb_decode.specs.Reader.Waiting.{Waits};
 ghost use Rattle.pb_decode.specs.Reader.Steps.{TellsFault, TakesNext, IsAfterPayload, TellsPayloadFault};
@@ -14,11 +14,11 @@ ghost use Rattle.pb_decode.specs.Reader.Steps.{TellsFault, TakesNext, IsAfterPay
 use crate::error::DecodeError;
 use crate::reader::fault::fault_at;
 use crate::reader::state::Reader;
-use pb_parts::close::put::count_one;
-use pb_parts::open::target::Target;
-use pb_parts::tokens::step::Step;
-use pb_parts::values::payload_value::PayloadError;
-use pb_parts::values::put_payload::put_payload;
+use pb_building::close::put::count_one;
+use pb_building::open::target::Target;
+use pb_building::tokens::step::Step;
+use pb_building::values::payload_value::PayloadError;
+use pb_building::values::put_payload::put_payload;
 use pb_schema::Pool;
 use pb_wire::Cause;
 use std::alloc::Global;

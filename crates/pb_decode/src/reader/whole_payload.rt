@@ -1,19 +1,19 @@
 //! Messages and map entries that are complete in the bytes: each is read by `pb_whole` and goes into its slot, without being opened.
 
 ghost use Rattle.std.specs.Prelude.{◌≡◌, ◌+◌, ◌≤◌, length, IfOk, IfSome, IfNone};
-ghost use Rattle.pb_parts.specs.declared.open.target.Target.TheVariants as targets;
-ghost use Rattle.pb_parts.specs.Open.PartView.{part_view};
-ghost use Rattle.pb_parts.specs.Open.Targets.{Means, part_context};
+ghost use Rattle.pb_building.specs.declared.open.target.Target.TheVariants as targets;
+ghost use Rattle.pb_building.specs.Open.PartView.{part_view};
+ghost use Rattle.pb_building.specs.Open.Targets.{Means, part_context};
 ghost use Rattle.pb_decode.specs.Reader.Steps.{IsAtTag, TakesWhole};
 
 use crate::reader::state::{Reader, left};
-use pb_parts::close::closing::close_part;
-use pb_parts::error::NoMemory;
-use pb_parts::open::opening::{depth_left_in, is_free};
-use pb_parts::open::part::{Entry, Part, Slot};
-use pb_parts::open::target::Target;
-use pb_parts::tokens::record_tag::RecordTag;
-use pb_parts::tokens::tag_step::has_level;
+use pb_building::close::closing::close_part;
+use pb_building::error::NoMemory;
+use pb_building::open::opening::{depth_left_in, is_free};
+use pb_building::open::part::{Entry, Part, Slot};
+use pb_building::open::target::Target;
+use pb_building::tokens::record_tag::RecordTag;
+use pb_building::tokens::tag_step::has_level;
 use pb_schema::{Kind, MessageId};
 use pb_value::bodies::empty_body;
 use pb_whole::reader::{Left, Reader as WholeReader};

@@ -3,7 +3,7 @@
 
 ghost use Rattle.std.specs.Prelude.{◌≡◌, ◌+◌, ◌*◌, ◌≤◌, ◌<◌, length, OnOk, IfOk, IfSome, IfNone};
 ghost use Rattle.pb_schema.specs.Rules.{IsPool};
-ghost use Rattle.pb_parts.specs.declared.tokens.step.Step.TheVariants.{Elements};
+ghost use Rattle.pb_building.specs.declared.tokens.step.Step.TheVariants.{Elements};
 ghost use Rattle.pb_decode.specs.Reader.Ended.{NothingEnds};
 ghost use Rattle.pb_decode.specs.Reader.{state_view, weight, IsReading};
 ghost use Rattle.pb_decode.specs.Reader.Steps.{TellsFault, TakesWhole, TakesMany};
@@ -12,10 +12,10 @@ use crate::error::DecodeError;
 use crate::reader::state::{Reader, left};
 use crate::reader::take_ended::take_ended;
 use crate::reader::whole_record::take_record;
-use pb_parts::error::NoMemory;
-use pb_parts::tokens::step::Step;
-use pb_parts::values::put_run::put_run;
-use pb_parts::values::run::read_run;
+use pb_building::error::NoMemory;
+use pb_building::tokens::step::Step;
+use pb_building::values::put_run::put_run;
+use pb_building::values::run::read_run;
 use pb_schema::{Kind, Pool};
 use std::alloc::Global;
 

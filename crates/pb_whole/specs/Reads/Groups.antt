@@ -1,11 +1,11 @@
 -- Groups: an end tag ends their records.
 use Rattle.std.specs.Prelude.{ℕ, List, Some, Result, IfOk}
 use Rattle.pb_wire.specs.Fault.{HasTag}
-use Rattle.pb_wire.specs.Token.{given_at, passed}
+use Rattle.pb_wire.specs.Scan.{given_at, passed}
 use Rattle.pb_schema.specs.Types.{Types}
-use Rattle.pb_parts.specs.declared.open.part.Part.{Part as PartKept}
-use Rattle.pb_parts.specs.Open.Parents.{Part}
-use Rattle.pb_parts.specs.Open.PartView.{part_view}
+use Rattle.pb_building.specs.declared.open.part.Part.{Part as PartKept}
+use Rattle.pb_building.specs.Open.Parents.{Part}
+use Rattle.pb_building.specs.Open.PartView.{part_view}
 use Rattle.pb_whole.specs.declared.reader.Left.{Left}
 use Rattle.pb_whole.specs.Reads.{ReadsTo}
 

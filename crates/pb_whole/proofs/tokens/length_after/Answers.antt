@@ -1,10 +1,10 @@
 -- The length comes after the tag, and the payload after it.
 use Rattle.std.proofs.Common.{ℕ, ◌+◌, ◌-◌, ap, ◌∙◌, arith, take, drop, length, length-drop}
 use Rattle.pb_wire.specs.Fault.{Place, Reads as ReadsNumber}
-use Rattle.pb_wire.specs.Token.{given_at, passed}
-use Rattle.pb_parts.proofs.PlaceLemmas.{slice_from}
+use Rattle.pb_wire.specs.Scan.{given_at, passed}
+use Rattle.pb_building.proofs.PlaceLemmas.{slice_from}
 use Rattle.pb_whole.proofs.Tags.{there_after, length_there}
-use Rattle.pb_parts.proofs.NumberTokens.{front_there}
+use Rattle.pb_building.proofs.NumberTokens.{front_there}
 use Rattle.pb_whole.proofs.tokens.length_after.Goals as goal
 
 pub overflow_add-start : goal.overflow_add-start

@@ -3,7 +3,7 @@ use Rattle.std.proofs.Common.{rules, ap, arith}
 use Rattle.std.proofs.lemmas.List.Elements.{All-from_get_or, recursion_from_All}
 use Rattle.pb_wire.specs.Ranges.{IsByte, AreBytes}
 use Rattle.pb_value.specs.View.{body_view}
-use Rattle.pb_parts.specs.Open.PartView.{part_view}
+use Rattle.pb_building.specs.Open.PartView.{part_view}
 use Rattle.pb_whole.proofs.Top.{text_open, text_filled}
 use Rattle.pb_whole.proofs.whole.build.Goals as goal
 

@@ -1,8 +1,8 @@
 -- The element goes to the end of the list.
 use Rattle.std.proofs.Common.{subst, sym}
-use Rattle.pb_parts.specs.declared.tokens.step.Step.{Step}
-use Rattle.pb_parts.specs.Open.PartView.{part_view, scope_view}
-use Rattle.pb_parts.specs.Tokens.After.{After}
+use Rattle.pb_building.specs.declared.tokens.step.Step.{Step}
+use Rattle.pb_building.specs.Open.PartView.{part_view, scope_view}
+use Rattle.pb_building.specs.Tokens.After.{After}
 use Rattle.pb_decode.specs.Reader.{state_view, parents_view, here}
 use Rattle.pb_decode.proofs.reader.element.pass_element.Goals as goal
 

@@ -1,8 +1,8 @@
 -- The steps of the parents, and that of the record.
 use Rattle.std.proofs.Common.{ℕ, ◌∷◌, [], refl, ap}
 use Rattle.pb_wire.specs.declared.fault.PathStep.{PathStep}
-use Rattle.pb_parts.specs.Open.Parents.{next_step}
-use Rattle.pb_parts.specs.Open.PartView.{scope_view}
+use Rattle.pb_building.specs.Open.Parents.{next_step}
+use Rattle.pb_building.specs.Open.PartView.{scope_view}
 use Rattle.pb_decode.proofs.PathLemmas.{path_begun}
 use Rattle.pb_decode.proofs.reader.fault.path_inside.Goals as goal
 

@@ -1,7 +1,7 @@
 -- The number goes into the part, and its record is counted.
 use Rattle.std.proofs.Common.{sym, subst}
-use Rattle.pb_parts.specs.Open.Parents.{Scope, Stands}
-use Rattle.pb_parts.specs.Open.PartView.{part_view, scope_view}
+use Rattle.pb_building.specs.Open.Parents.{Scope, Stands}
+use Rattle.pb_building.specs.Open.PartView.{part_view, scope_view}
 use Rattle.pb_decode.specs.Reader.{state_view, parents_view, here}
 use Rattle.pb_decode.proofs.reader.state.pass_number.Goals as goal
 

@@ -3,7 +3,7 @@ use Rattle.std.proofs.Common.{◌-◌, sym, ap, ◌∙◌, subst, arith, take, d
 use Rattle.std.proofs.lemmas.Result.{err_from_is_err_and}
 use Rattle.pb_decode.specs.Reader.{state_view, IsReading, Passes}
 use Rattle.pb_decode.proofs.ReaderLemmas.{reads_slice, taken_none, taken_some}
-use Rattle.pb_parts.proofs.PlaceLemmas.{slice_from}
+use Rattle.pb_building.proofs.PlaceLemmas.{slice_from}
 use Rattle.pb_decode.proofs.WaitLemmas.{none_waits}
 use Rattle.pb_decode.proofs.reader.state.take_all.Goals as goal
 

@@ -1,13 +1,13 @@
 -- What is reported of the number is reported of the input.
 use Rattle.std.proofs.Common.{ℕ, Option, Some, ◌∙◌, sym, ap, subst, arith}
 use Rattle.pb_wire.specs.Fault.{fault}
-use Rattle.pb_wire.specs.Token.{given_at, passed}
-use Rattle.pb_parts.specs.declared.tokens.number_token.NumberToken.TheVariants as token
-use Rattle.pb_parts.specs.Tokens.Numbers.{TellsNumber}
-use Rattle.pb_parts.specs.Tokens.After.{tag}
+use Rattle.pb_wire.specs.Scan.{given_at, passed}
+use Rattle.pb_building.specs.declared.tokens.number_token.NumberToken.TheVariants as token
+use Rattle.pb_building.specs.Tokens.Numbers.{TellsNumber}
+use Rattle.pb_building.specs.Tokens.After.{tag}
 use Rattle.pb_decode.specs.Reader.{state_view, here, path_here, weight}
 use Rattle.pb_decode.proofs.ReaderLemmas.{number_short, number_refused, stands_reads, fault_reported}
-use Rattle.pb_parts.proofs.NumberTokens.{size_some}
+use Rattle.pb_building.proofs.NumberTokens.{size_some}
 use Rattle.pb_decode.proofs.ReaderSafe.{awaited_can, awaited_few}
 use Rattle.pb_decode.proofs.WaitLemmas.{number_waits}
 use Rattle.pb_decode.proofs.reader.state.take_number.Goals as goal

@@ -1,8 +1,8 @@
 -- Where the innermost part ends the reader is in the part that holds it.
 use Rattle.std.proofs.Common.{◌∷◌, refl, sym, ap, arith}
 use Rattle.std.specs.Prelude.{false}
-use Rattle.pb_parts.specs.Open.Parents.{parent_of, up_to}
-use Rattle.pb_parts.specs.Open.PartView.{part_view, scope_view}
+use Rattle.pb_building.specs.Open.Parents.{parent_of, up_to}
+use Rattle.pb_building.specs.Open.PartView.{part_view, scope_view}
 use Rattle.pb_decode.specs.Reader.{state_view, parents_view, here}
 use Rattle.pb_decode.proofs.FewRecords.{parent_counts_fit}
 use Rattle.pb_decode.proofs.EndedLemmas.{popped_open, standing, closed_reads}

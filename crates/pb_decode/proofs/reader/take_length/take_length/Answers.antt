@@ -1,14 +1,14 @@
 -- What is reported of the length is reported of the input, and after it what it begins is begun.
 use Rattle.std.proofs.Common.{ℕ, Option, refl, sym, ap, subst, arith}
 use Rattle.pb_wire.specs.Fault.{fault}
-use Rattle.pb_wire.specs.Token.{given_at, passed}
-use Rattle.pb_parts.specs.Open.PartView.{part_view, scope_view}
-use Rattle.pb_parts.specs.Tokens.After.{tag, awaited, After}
+use Rattle.pb_wire.specs.Scan.{given_at, passed}
+use Rattle.pb_building.specs.Open.PartView.{part_view, scope_view}
+use Rattle.pb_building.specs.Tokens.After.{tag, awaited, After}
 use Rattle.pb_decode.specs.Reader.{state_view, parents_view, here, path_here}
 use Rattle.pb_decode.proofs.ReaderLemmas.{fault_reported}
 use Rattle.pb_decode.proofs.ReaderSafe.{awaited_can}
 use Rattle.pb_decode.proofs.LengthTaken.{length_ends, at_length, length_fault_reported, length_short, number_there, number_cut}
-use Rattle.pb_parts.proofs.NumberTokens.{number_size}
+use Rattle.pb_building.proofs.NumberTokens.{number_size}
 use Rattle.pb_decode.proofs.WaitLemmas.{length_waits}
 use Rattle.pb_decode.proofs.reader.take_length.take_length.Goals as goal
 

@@ -4,7 +4,7 @@ use Rattle.std.proofs.lemmas.Result.{err_from_is_err_and}
 use Rattle.pb_decode.specs.Reader.{state_view, Reads, IsReading, Stops}
 use Rattle.pb_decode.specs.Reader.Waiting.{Waits}
 use Rattle.pb_decode.proofs.ReaderLemmas.{reads_slice, taken_none, taken_some}
-use Rattle.pb_parts.proofs.PlaceLemmas.{slice_from}
+use Rattle.pb_building.proofs.PlaceLemmas.{slice_from}
 use Rattle.pb_decode.proofs.WaitLemmas.{none_waits}
 use Rattle.pb_decode.proofs.reader.take_next.take_next.Goals as goal
 

@@ -2,8 +2,8 @@
 use Rattle.std.proofs.Common.{◌+◌, length, refl, sym, subst}
 use Rattle.pb_wire.specs.Fault.{fault}
 use Rattle.pb_wire.specs.declared.fault.Cause.TheVariants.{BadText}
-use Rattle.pb_parts.specs.Open.Parents.{Scope, Stands}
-use Rattle.pb_parts.specs.Open.PartView.{part_view, scope_view}
+use Rattle.pb_building.specs.Open.Parents.{Scope, Stands}
+use Rattle.pb_building.specs.Open.PartView.{part_view, scope_view}
 use Rattle.pb_decode.specs.Reader.{state_view, parents_view, here, path_here}
 use Rattle.pb_decode.proofs.ReaderLemmas.{fault_reported}
 use Rattle.pb_decode.proofs.PayloadTaken.{payload_next, payload_refused}

@@ -2,7 +2,7 @@
 use Rattle.std.proofs.Common.{◌≤◌, length, ◌∙◌, ap, ◌+◌, ℕ, arith}
 use Rattle.std.proofs.lemmas.List.{length-take-le}
 use Rattle.std.proofs.lemmas.Result.{err_from_is_err_and}
-use Rattle.pb_wire.specs.Token.{passed}
+use Rattle.pb_wire.specs.Scan.{passed}
 use Rattle.pb_decode.specs.Reader.{state_view, here}
 use Rattle.pb_decode.proofs.ReaderLemmas.{stands_reads}
 use Rattle.pb_decode.proofs.PayloadTaken.{payload_can, payload_few, payload_moves, payload_short}

@@ -1,7 +1,7 @@
 -- The group that is opened is the innermost part.
 use Rattle.std.proofs.Common.{refl, sym}
-use Rattle.pb_wire.specs.Token.{passed}
-use Rattle.pb_parts.specs.Open.PartView.{part_view}
+use Rattle.pb_wire.specs.Scan.{passed}
+use Rattle.pb_building.specs.Open.PartView.{part_view}
 use Rattle.pb_decode.specs.Reader.{state_view, parents_view, here}
 use Rattle.pb_decode.proofs.EndedLemmas.{standing}
 use Rattle.pb_decode.proofs.LengthSteps.{entered}

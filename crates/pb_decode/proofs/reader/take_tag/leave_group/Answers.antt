@@ -2,9 +2,9 @@
 use Rattle.std.proofs.Common.{◌≡◌, ◌+◌, ◌∷◌, ℕ, drop, refl, sym, ap, subst, arith}
 use Rattle.std.specs.Prelude.{true}
 use Rattle.pb_wire.specs.Fault.{HasTag}
-use Rattle.pb_wire.specs.Token.{passed}
-use Rattle.pb_parts.specs.Open.Parents.{parent_of}
-use Rattle.pb_parts.specs.Open.PartView.{part_view, scope_view}
+use Rattle.pb_wire.specs.Scan.{passed}
+use Rattle.pb_building.specs.Open.Parents.{parent_of}
+use Rattle.pb_building.specs.Open.PartView.{part_view, scope_view}
 use Rattle.pb_decode.specs.Reader.{state_view, parents_view, here}
 use Rattle.pb_decode.proofs.FewRecords.{parent_counts_fit}
 use Rattle.pb_decode.proofs.EndedLemmas.{popped_group, popped_number, standing}

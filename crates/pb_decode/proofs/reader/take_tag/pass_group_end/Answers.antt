@@ -1,10 +1,10 @@
 -- The group that the tag ends is the innermost one, or the tag is refused.
 use Rattle.std.proofs.Common.{◌≡◌, List, Some, refl, sym, ap, ◌∙◌}
 use Rattle.pb_wire.specs.Fault.{fault}
-use Rattle.pb_wire.specs.Token.{passed}
-use Rattle.pb_parts.specs.declared.open.part.Parent.{Parent}
-use Rattle.pb_parts.specs.Open.Openings.{innermost_group}
-use Rattle.pb_parts.specs.Open.PartView.{part_view, scope_view}
+use Rattle.pb_wire.specs.Scan.{passed}
+use Rattle.pb_building.specs.declared.open.part.Parent.{Parent}
+use Rattle.pb_building.specs.Open.Openings.{innermost_group}
+use Rattle.pb_building.specs.Open.PartView.{part_view, scope_view}
 use Rattle.pb_decode.specs.Reader.{state_view, parents_view, here, path_here}
 use Rattle.pb_decode.proofs.ReaderLemmas.{fault_reported}
 use Rattle.pb_decode.proofs.EndedLemmas.{standing}

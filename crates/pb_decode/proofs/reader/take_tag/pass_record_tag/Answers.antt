@@ -1,10 +1,10 @@
 -- After the tag its value or length comes next, unless that would open one level too many.
 use Rattle.std.proofs.Common.{◌+◌, ◌++◌, ◌∷◌, [], refl}
 use Rattle.pb_wire.specs.Fault.{fault}
-use Rattle.pb_wire.specs.Token.{passed}
+use Rattle.pb_wire.specs.Scan.{passed}
 use Rattle.pb_wire.specs.declared.fault.Cause.TheVariants.{TooDeep}
-use Rattle.pb_parts.specs.Open.Parents.{path_of, next_step}
-use Rattle.pb_parts.specs.Open.PartView.{part_view, scope_view}
+use Rattle.pb_building.specs.Open.Parents.{path_of, next_step}
+use Rattle.pb_building.specs.Open.PartView.{part_view, scope_view}
 use Rattle.pb_decode.specs.Reader.{state_view, parents_view, here}
 use Rattle.pb_decode.proofs.ReaderLemmas.{fault_reported}
 use Rattle.pb_decode.proofs.ElementLemmas.{after_reads}

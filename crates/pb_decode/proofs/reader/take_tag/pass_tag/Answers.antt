@@ -2,11 +2,11 @@
 use Rattle.std.proofs.Common.{ℕ, refl, subst}
 use Rattle.std.proofs.lemmas.Result.{err_from_is_err_and}
 use Rattle.pb_wire.specs.Fault.{fault, HasTag}
-use Rattle.pb_wire.specs.Token.{passed}
-use Rattle.pb_parts.specs.Open.PartView.{part_view, scope_view}
-use Rattle.pb_parts.specs.Open.Targets.{Means, part_context}
+use Rattle.pb_wire.specs.Scan.{passed}
+use Rattle.pb_building.specs.Open.PartView.{part_view, scope_view}
+use Rattle.pb_building.specs.Open.Targets.{Means, part_context}
 use Rattle.pb_decode.specs.Reader.{state_view, parents_view, here, path_here}
-use Rattle.pb_parts.proofs.WellLemmas.{can_hold}
+use Rattle.pb_building.proofs.WellLemmas.{can_hold}
 use Rattle.pb_decode.proofs.ReaderLemmas.{fault_reported}
 use Rattle.pb_decode.proofs.EndedLemmas.{standing}
 use Rattle.pb_decode.proofs.TagTaken.{refused_at_tag}

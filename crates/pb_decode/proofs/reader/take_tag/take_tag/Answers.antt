@@ -2,9 +2,9 @@
 use Rattle.std.proofs.Common.{◌≡◌, ◌≢◌, ◌⊎◌, [], ℕ, Option, Some, refl, sym, ◌∙◌, subst, arith}
 use Rattle.std.proofs.lemmas.Result.{err_from_is_err_and}
 use Rattle.pb_wire.specs.Fault.{fault}
-use Rattle.pb_wire.specs.Token.{given_at}
-use Rattle.pb_parts.specs.Open.Parents.{Stands}
-use Rattle.pb_parts.specs.Open.PartView.{part_view, scope_view}
+use Rattle.pb_wire.specs.Scan.{given_at}
+use Rattle.pb_building.specs.Open.Parents.{Stands}
+use Rattle.pb_building.specs.Open.PartView.{part_view, scope_view}
 use Rattle.pb_decode.specs.Reader.{state_view, parents_view, left_of, path_here}
 use Rattle.pb_decode.proofs.ReaderLemmas.{fault_reported}
 use Rattle.pb_decode.proofs.EndedLemmas.{standing}

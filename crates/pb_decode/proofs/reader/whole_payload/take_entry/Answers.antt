@@ -2,12 +2,12 @@
 use Rattle.std.proofs.Common.{ℕ, ◌+◌, ◌-◌, ◌∙◌, Some, refl, ap, subst, arith, take, drop, length, length-drop}
 use Rattle.std.specs.Prelude.{false}
 use Rattle.pb_wire.specs.Fault.{HasTag}
-use Rattle.pb_wire.specs.Token.{given_at, passed}
-use Rattle.pb_parts.specs.Open.PartView.{part_view, scope_view}
-use Rattle.pb_parts.specs.Open.Parents.{up_to}
+use Rattle.pb_wire.specs.Scan.{given_at, passed}
+use Rattle.pb_building.specs.Open.PartView.{part_view, scope_view}
+use Rattle.pb_building.specs.Open.Parents.{up_to}
 use Rattle.pb_decode.specs.Reader.{state_view, parents_view, left_of, here}
 use Rattle.pb_decode.proofs.WholeRecords.{tag_few, tag_can, tag_stands, length_here, entry_in_reader, inner_passed}
-use Rattle.pb_parts.proofs.PlaceLemmas.{slice_from}
+use Rattle.pb_building.proofs.PlaceLemmas.{slice_from}
 use Rattle.pb_whole.proofs.Held.{part_fits}
 use Rattle.pb_whole.proofs.Payloads.{entry_inside, none_left}
 use Rattle.pb_decode.proofs.reader.whole_payload.take_entry.Goals as goal

@@ -1,10 +1,10 @@
 -- The payload goes into the part, and its record is counted.
 use Rattle.std.proofs.Common.{ℕ, ◌+◌, refl, sym, subst, arith}
 use Rattle.pb_wire.specs.Fault.{HasTag}
-use Rattle.pb_wire.specs.Token.{passed}
-use Rattle.pb_parts.specs.Open.Parents.{Scope, Stands}
-use Rattle.pb_parts.specs.Open.PartView.{part_view, scope_view}
-use Rattle.pb_parts.proofs.PlaceLemmas.{slice_size}
+use Rattle.pb_wire.specs.Scan.{passed}
+use Rattle.pb_building.specs.Open.Parents.{Scope, Stands}
+use Rattle.pb_building.specs.Open.PartView.{part_view, scope_view}
+use Rattle.pb_building.proofs.PlaceLemmas.{slice_size}
 use Rattle.pb_decode.specs.Reader.{state_view, parents_view, here}
 use Rattle.pb_decode.proofs.ReaderLemmas.{stands_reads}
 use Rattle.pb_whole.proofs.Tags.{bytes_next, payload_leads}

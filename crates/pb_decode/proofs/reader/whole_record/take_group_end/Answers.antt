@@ -1,9 +1,9 @@
 -- After the tag the reader is in what holds the group.
 use Rattle.std.proofs.Common.{◌≡◌, ℕ, List, Some, refl, sym, ap, ◌∙◌, subst}
 use Rattle.pb_wire.specs.Fault.{HasTag}
-use Rattle.pb_wire.specs.Token.{passed}
-use Rattle.pb_parts.specs.declared.open.part.Parent.{Parent}
-use Rattle.pb_parts.specs.Open.Openings.{innermost_group}
+use Rattle.pb_wire.specs.Scan.{passed}
+use Rattle.pb_building.specs.declared.open.part.Parent.{Parent}
+use Rattle.pb_building.specs.Open.Openings.{innermost_group}
 use Rattle.pb_decode.specs.Reader.{state_view, parents_view, here}
 use Rattle.pb_decode.proofs.reader.whole_record.take_group_end.Goals as goal
 

@@ -1,9 +1,9 @@
 -- After the tag the group is open.
 use Rattle.std.proofs.Common.{ℕ, subst}
 use Rattle.pb_wire.specs.Fault.{HasTag}
-use Rattle.pb_wire.specs.Token.{passed}
-use Rattle.pb_parts.specs.Open.PartView.{part_view}
-use Rattle.pb_parts.specs.Open.Targets.{Means, part_context}
+use Rattle.pb_wire.specs.Scan.{passed}
+use Rattle.pb_building.specs.Open.PartView.{part_view}
+use Rattle.pb_building.specs.Open.Targets.{Means, part_context}
 use Rattle.pb_decode.specs.Reader.{state_view, here}
 use Rattle.pb_decode.proofs.WholeRecords.{tag_can}
 use Rattle.pb_decode.proofs.reader.whole_record.take_group_start.Goals as goal

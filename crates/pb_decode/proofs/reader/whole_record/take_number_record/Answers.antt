@@ -1,15 +1,15 @@
 -- The number goes into the part, and its record is counted.
 use Rattle.std.proofs.Common.{ℕ, ◌+◌, ◌-◌, ◌∙◌, Option, Some, option_map, refl, sym, ap, subst, arith, length, length-drop}
 use Rattle.pb_wire.specs.Fault.{Place}
-use Rattle.pb_wire.specs.Token.{passed}
-use Rattle.pb_parts.specs.Tokens.Number.{number_view}
-use Rattle.pb_parts.specs.Tokens.Numbers.{Follows}
-use Rattle.pb_parts.specs.Open.Parents.{Scope, Stands}
-use Rattle.pb_parts.specs.Open.PartView.{part_view, scope_view}
-use Rattle.pb_parts.specs.Tokens.After.{tag}
+use Rattle.pb_wire.specs.Scan.{passed}
+use Rattle.pb_building.specs.Tokens.Number.{number_view}
+use Rattle.pb_building.specs.Tokens.Numbers.{Follows}
+use Rattle.pb_building.specs.Open.Parents.{Scope, Stands}
+use Rattle.pb_building.specs.Open.PartView.{part_view, scope_view}
+use Rattle.pb_building.specs.Tokens.After.{tag}
 use Rattle.pb_decode.specs.Reader.{state_view, parents_view, left_of, here}
 use Rattle.pb_decode.proofs.ReaderLemmas.{stands_reads}
-use Rattle.pb_parts.proofs.PlaceLemmas.{slice_from}
+use Rattle.pb_building.proofs.PlaceLemmas.{slice_from}
 use Rattle.pb_whole.proofs.Tags.{there_after, number_next}
 use Rattle.pb_decode.proofs.WholeRecords.{tag_stands, tag_can, tag_few}
 use Rattle.pb_decode.proofs.reader.whole_record.take_number_record.Goals as goal

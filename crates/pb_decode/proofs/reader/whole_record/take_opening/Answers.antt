@@ -1,7 +1,7 @@
 -- After the length what the record opens is open.
 use Rattle.std.proofs.Common.{ℕ, refl, subst}
 use Rattle.pb_wire.specs.Fault.{HasTag}
-use Rattle.pb_wire.specs.Token.{passed}
+use Rattle.pb_wire.specs.Scan.{passed}
 use Rattle.pb_decode.specs.Reader.{state_view, here}
 use Rattle.pb_whole.proofs.Tags.{opening_next}
 use Rattle.pb_decode.proofs.WholeRecords.{tag_stands, tag_can, length_here}

@@ -2,7 +2,7 @@
 use Rattle.std.proofs.Common.{sym, subst, arith, drop, length-drop}
 use Rattle.std.proofs.lemmas.Result.{err_from_is_err_and}
 use Rattle.pb_decode.specs.Reader.{state_view, IsReading}
-use Rattle.pb_parts.proofs.PlaceLemmas.{slice_from}
+use Rattle.pb_building.proofs.PlaceLemmas.{slice_from}
 use Rattle.pb_decode.proofs.reader.whole_records.take_records.Goals as goal
 
 pub take_ended-requires-clause-reading : goal.take_ended-requires-clause-reading

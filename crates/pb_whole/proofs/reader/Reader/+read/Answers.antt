@@ -2,24 +2,24 @@
 use Rattle.std.proofs.Common.{rules, ◌≡◌, ◌+◌, ◌-◌, ◌*◌, ◌<◌, ◌++◌, ◌∷◌, [], ℕ, List, Some, ap, ◌∙◌, sym, refl, subst, arith, take, drop, length, length-drop, option_map}
 use Rattle.pb_wire.specs.Unknown.{records_of}
 use Rattle.pb_wire.specs.Fault.{Place}
-use Rattle.pb_wire.specs.Token.{given_at, passed}
+use Rattle.pb_wire.specs.Scan.{given_at, passed}
 use Rattle.pb_schema.specs.declared.types.Kind.{Kind}
 use Rattle.pb_schema.specs.Types.{Types}
 use Rattle.pb_value.specs.declared.body.MapKey.{MapKey}
 use Rattle.pb_value.specs.declared.body.Value.{Value}
 use Rattle.pb_value.specs.declared.body.Value.TheVariants as value
 use Rattle.pb_value.specs.View.{body_view, key_view, value_view}
-use Rattle.pb_parts.specs.declared.open.part.Part.TheVariants as part_kept
-use Rattle.pb_parts.specs.declared.open.part.Slot.TheVariants as slot
-use Rattle.pb_parts.specs.declared.open.target.Target.TheVariants.{Message}
-use Rattle.pb_parts.specs.Open.Parents.{Part, entry_part, one_more_in, Stands}
-use Rattle.pb_parts.specs.Open.PartView.{part_view}
-use Rattle.pb_parts.specs.Open.Targets.{Means, part_context}
-use Rattle.pb_parts.specs.Close.Mapped.{pairs_view, put_mapped, put_all_mapped}
-use Rattle.pb_parts.specs.Values.Run.{put_listed}
-use Rattle.pb_parts.proofs.PlaceLemmas.{slice_from, place_after}
-use Rattle.pb_parts.proofs.WellLemmas.{can_hold}
-use Rattle.pb_parts.proofs.GroupSteps.{unknown_group_means}
+use Rattle.pb_building.specs.declared.open.part.Part.TheVariants as part_kept
+use Rattle.pb_building.specs.declared.open.part.Slot.TheVariants as slot
+use Rattle.pb_building.specs.declared.open.target.Target.TheVariants.{Message}
+use Rattle.pb_building.specs.Open.Parents.{Part, entry_part, one_more_in, Stands}
+use Rattle.pb_building.specs.Open.PartView.{part_view}
+use Rattle.pb_building.specs.Open.Targets.{Means, part_context}
+use Rattle.pb_building.specs.Close.Mapped.{pairs_view, put_mapped, put_all_mapped}
+use Rattle.pb_building.specs.Values.Run.{put_listed}
+use Rattle.pb_building.proofs.PlaceLemmas.{slice_from, place_after}
+use Rattle.pb_building.proofs.WellLemmas.{can_hold}
+use Rattle.pb_building.proofs.GroupSteps.{unknown_group_means}
 use Rattle.pb_whole.specs.declared.reader.Left.{Left}
 use Rattle.pb_whole.specs.Reads.{CanRead, HasTagAt, ReadsTo}
 use Rattle.pb_whole.specs.Reads.Groups.{ReadsToEnd}

@@ -1,9 +1,9 @@
 -- fewer bytes come next where a payload begins than where its record does
 use Rattle.std.proofs.Common.{◌+◌, ◌*◌, ◌≤◌, ◌-◌, Some, map, length}
-use Rattle.pb_parts.specs.Open.PartView.{part_view}
+use Rattle.pb_building.specs.Open.PartView.{part_view}
 use Rattle.pb_value.specs.View.{value_view}
-use Rattle.pb_parts.specs.declared.open.part.Slot.TheVariants.{List as ListSlot}
-use Rattle.pb_parts.specs.declared.open.target.Target.TheVariants.{Message}
+use Rattle.pb_building.specs.declared.open.part.Slot.TheVariants.{List as ListSlot}
+use Rattle.pb_building.specs.declared.open.target.Target.TheVariants.{Message}
 use Rattle.pb_whole.specs.Entries.{AreEntries}
 use Rattle.pb_whole.specs.Listed.{ReadsRun}
 use Rattle.pb_whole.specs.Reads.{ReadsTo}

@@ -1,22 +1,22 @@
 -- What the number means goes to the end of the list.
 use Rattle.std.proofs.Common.{ℕ, ◌+◌, Some, refl, sym, ap, ◌∙◌, subst, arith, length, length-drop}
 use Rattle.pb_wire.specs.Fault.{Place}
-use Rattle.pb_wire.specs.Token.{given_at, passed}
+use Rattle.pb_wire.specs.Scan.{given_at, passed}
 use Rattle.pb_value.specs.View.{value_view}
-use Rattle.pb_parts.specs.declared.open.target.Target.TheVariants.{Element}
-use Rattle.pb_parts.specs.Open.Targets.{Means, part_context}
+use Rattle.pb_building.specs.declared.open.target.Target.TheVariants.{Element}
+use Rattle.pb_building.specs.Open.Targets.{Means, part_context}
 use Rattle.pb_whole.specs.Reads.{StandsIn}
-use Rattle.pb_parts.proofs.RunLemmas.{listed_is}
-use Rattle.pb_parts.specs.Open.Parents.{Part, one_more_in}
-use Rattle.pb_parts.specs.Tokens.After.{tag}
-use Rattle.pb_parts.specs.Tokens.Number.{number_view}
-use Rattle.pb_parts.specs.Tokens.Numbers.{Follows}
-use Rattle.pb_parts.specs.Values.Put.{put_datum}
-use Rattle.pb_parts.proofs.PlaceLemmas.{slice_from}
+use Rattle.pb_building.proofs.RunLemmas.{listed_is}
+use Rattle.pb_building.specs.Open.Parents.{Part, one_more_in}
+use Rattle.pb_building.specs.Tokens.After.{tag}
+use Rattle.pb_building.specs.Tokens.Number.{number_view}
+use Rattle.pb_building.specs.Tokens.Numbers.{Follows}
+use Rattle.pb_building.specs.Values.Put.{put_datum}
+use Rattle.pb_building.proofs.PlaceLemmas.{slice_from}
 use Rattle.pb_whole.proofs.Tags.{there_after, number_next}
-use Rattle.pb_parts.proofs.NumberSteps.{read_some, number_put}
-use Rattle.pb_parts.proofs.AnswerLemmas.{reported_of}
-use Rattle.pb_parts.proofs.WellLemmas.{can_hold}
+use Rattle.pb_building.proofs.NumberSteps.{read_some, number_put}
+use Rattle.pb_building.proofs.AnswerLemmas.{reported_of}
+use Rattle.pb_building.proofs.WellLemmas.{can_hold}
 use Rattle.pb_whole.proofs.reader.Reader.element_after.Goals as goal
 
 pub overflow_add-result : goal.overflow_add-result

@@ -3,7 +3,7 @@ use Rattle.std.proofs.Common.{◌-◌, ℕ, List, ◌∷◌, [], ◌++◌, map, 
 use Rattle.pb_value.specs.View.{value_view}
 use Rattle.pb_value.specs.declared.body.Value.{Value}
 use Rattle.pb_whole.specs.Listed.{ReadsList}
-use Rattle.pb_parts.proofs.PlaceLemmas.{slice_from}
+use Rattle.pb_building.proofs.PlaceLemmas.{slice_from}
 use Rattle.pb_whole.proofs.ListedLemmas.{listed_further}
 use Rattle.pb_whole.proofs.reader.Reader.elements_from.Goals as goal
 

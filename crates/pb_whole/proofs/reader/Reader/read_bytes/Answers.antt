@@ -1,9 +1,9 @@
 -- The payload goes into the part.
 use Rattle.std.proofs.Common.{ℕ, ◌+◌, Some, subst}
 use Rattle.pb_wire.specs.Fault.{HasTag}
-use Rattle.pb_wire.specs.Token.{given_at, passed}
-use Rattle.pb_parts.specs.Open.Parents.{one_more_in}
-use Rattle.pb_parts.proofs.PlaceLemmas.{slice_size}
+use Rattle.pb_wire.specs.Scan.{given_at, passed}
+use Rattle.pb_building.specs.Open.Parents.{one_more_in}
+use Rattle.pb_building.proofs.PlaceLemmas.{slice_size}
 use Rattle.pb_whole.proofs.Tags.{bytes_next, payload_leads}
 use Rattle.pb_whole.proofs.Payloads.{open_can}
 use Rattle.pb_whole.proofs.reader.Reader.read_bytes.Goals as goal

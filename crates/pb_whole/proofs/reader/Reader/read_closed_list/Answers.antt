@@ -1,10 +1,10 @@
 -- The elements go into the part of their list, which then is whole.
 use Rattle.std.proofs.Common.{◌≡◌, ◌+◌, Some, sym, subst, arith}
-use Rattle.pb_wire.specs.Token.{passed}
-use Rattle.pb_parts.specs.declared.tokens.step.Step.TheVariants.{Elements}
-use Rattle.pb_parts.specs.Open.Parents.{Part}
-use Rattle.pb_parts.specs.Open.PartView.{part_view}
-use Rattle.pb_parts.specs.Tokens.After.{After}
+use Rattle.pb_wire.specs.Scan.{passed}
+use Rattle.pb_building.specs.declared.tokens.step.Step.TheVariants.{Elements}
+use Rattle.pb_building.specs.Open.Parents.{Part}
+use Rattle.pb_building.specs.Open.PartView.{part_view}
+use Rattle.pb_building.specs.Tokens.After.{After}
 use Rattle.pb_whole.proofs.Payloads.{payload_place, typed_tag, list_filled}
 use Rattle.pb_whole.proofs.reader.Reader.read_closed_list.Goals as goal
 

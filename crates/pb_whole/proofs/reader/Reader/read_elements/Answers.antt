@@ -1,13 +1,13 @@
 -- The element, or the run that it begins, goes to the end of the list.
 use Rattle.std.proofs.Common.{ℕ, sym, ◌∙◌, refl, subst}
 use Rattle.pb_value.specs.View.{value_view}
-use Rattle.pb_parts.specs.declared.open.target.Target.TheVariants.{Element}
-use Rattle.pb_parts.specs.Open.Parents.{Part}
-use Rattle.pb_parts.specs.Open.PartView.{part_view}
-use Rattle.pb_parts.specs.Open.Targets.{Means, part_context}
-use Rattle.pb_parts.specs.Tokens.Number.{IsNumberType}
-use Rattle.pb_parts.proofs.NumberSteps.{meant_type}
-use Rattle.pb_parts.proofs.RunLemmas.{listed_is}
+use Rattle.pb_building.specs.declared.open.target.Target.TheVariants.{Element}
+use Rattle.pb_building.specs.Open.Parents.{Part}
+use Rattle.pb_building.specs.Open.PartView.{part_view}
+use Rattle.pb_building.specs.Open.Targets.{Means, part_context}
+use Rattle.pb_building.specs.Tokens.Number.{IsNumberType}
+use Rattle.pb_building.proofs.NumberSteps.{meant_type}
+use Rattle.pb_building.proofs.RunLemmas.{listed_is}
 use Rattle.pb_whole.specs.Reads.{ReadsTo}
 use Rattle.pb_whole.proofs.Payloads.{open_can}
 use Rattle.pb_whole.proofs.reader.Reader.read_elements.Goals as goal

@@ -1,12 +1,12 @@
 -- The number goes into the part.
 use Rattle.std.proofs.Common.{ℕ, ◌+◌, ◌∙◌, Some, sym, ap, arith, length, length-drop}
 use Rattle.pb_wire.specs.Fault.{Place}
-use Rattle.pb_wire.specs.Token.{given_at, passed}
-use Rattle.pb_parts.specs.Tokens.Number.{number_view}
-use Rattle.pb_parts.specs.Tokens.Numbers.{Follows}
-use Rattle.pb_parts.specs.Open.Parents.{one_more_in}
-use Rattle.pb_parts.specs.Tokens.After.{tag}
-use Rattle.pb_parts.proofs.PlaceLemmas.{slice_from}
+use Rattle.pb_wire.specs.Scan.{given_at, passed}
+use Rattle.pb_building.specs.Tokens.Number.{number_view}
+use Rattle.pb_building.specs.Tokens.Numbers.{Follows}
+use Rattle.pb_building.specs.Open.Parents.{one_more_in}
+use Rattle.pb_building.specs.Tokens.After.{tag}
+use Rattle.pb_building.proofs.PlaceLemmas.{slice_from}
 use Rattle.pb_whole.proofs.Tags.{there_after, number_next}
 use Rattle.pb_whole.proofs.Payloads.{open_can}
 use Rattle.pb_whole.proofs.reader.Reader.read_one.Goals as goal

@@ -1,12 +1,12 @@
 -- The values go to the end of their list, which then is whole.
 use Rattle.std.proofs.Common.{◌≡◌, ◌∙◌, ◌+◌, ◌-◌, ℕ, Some, sym, ap, subst, arith, take, drop, length}
-use Rattle.pb_wire.specs.Token.{given_at, passed}
-use Rattle.pb_parts.specs.declared.tokens.step.Step.TheVariants.{Elements}
-use Rattle.pb_parts.specs.Open.Parents.{Part}
-use Rattle.pb_parts.specs.Open.PartView.{part_view}
-use Rattle.pb_parts.specs.Tokens.After.{After}
-use Rattle.pb_parts.proofs.AnswerLemmas.{reported_of}
-use Rattle.pb_parts.proofs.PlaceLemmas.{slice_from, slice_size}
+use Rattle.pb_wire.specs.Scan.{given_at, passed}
+use Rattle.pb_building.specs.declared.tokens.step.Step.TheVariants.{Elements}
+use Rattle.pb_building.specs.Open.Parents.{Part}
+use Rattle.pb_building.specs.Open.PartView.{part_view}
+use Rattle.pb_building.specs.Tokens.After.{After}
+use Rattle.pb_building.proofs.AnswerLemmas.{reported_of}
+use Rattle.pb_building.proofs.PlaceLemmas.{slice_from, slice_size}
 use Rattle.pb_whole.specs.Reads.{StandsIn}
 use Rattle.pb_whole.proofs.Payloads.{payload_place, typed_tag, list_filled}
 use Rattle.pb_whole.proofs.reader.Reader.read_open_list.Goals as goal

@@ -1,7 +1,7 @@
 -- Its target is that of a payload where its wire type says so.
 use Rattle.std.proofs.Common.{◌≡◌, ℕ, subst, arith}
-use Rattle.pb_parts.specs.Open.PartView.{part_view}
-use Rattle.pb_parts.specs.Open.Targets.{Means, part_context}
+use Rattle.pb_building.specs.Open.PartView.{part_view}
+use Rattle.pb_building.specs.Open.Targets.{Means, part_context}
 use Rattle.pb_whole.proofs.reader.Reader.read_scalar.Goals as goal
 
 pub read_bytes-requires-clause-means : goal.read_bytes-requires-clause-means
