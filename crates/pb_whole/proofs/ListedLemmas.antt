@@ -1,5 +1,5 @@
 -- Records of one list that are read at once.
-use Rattle.std.proofs.Common.{◌≡◌, ℕ, ◌+◌, ◌-◌, List, [], ◌∷◌, ◌++◌, map, take, drop, length, refl, sym, ap, ◌∙◌, subst}
+use Rattle.std.proofs.Common.{◌≡◌, ℕ, ◌+◌, ◌-◌, ◌<◌, arith, List, [], ◌∷◌, ◌++◌, map, take, drop, length, refl, sym, ap, ◌∙◌, subst}
 use Rattle.std.proofs.lemmas.List.{map-append}
 use Rattle.pb_schema.specs.declared.types.Kind.{Kind}
 use Rattle.pb_schema.specs.declared.types.MessageId.{MessageId}
@@ -17,8 +17,15 @@ use Rattle.pb_building.specs.declared.open.target.Target.TheVariants.{Element, M
 use Rattle.pb_building.specs.Open.Parents.{Part, message_part, entry_part, group_part, put_message}
 use Rattle.pb_building.specs.Open.Targets.{Means, part_context}
 use Rattle.pb_building.specs.Values.Run.{put_listed, put_each}
-use Rattle.pb_whole.specs.Reads.{ReadsTo}
-use Rattle.pb_whole.specs.Listed.{ReadsRun, ReadsList, IsListOpen}
+use Rattle.pb_building.specs.declared.open.part.Part.{Part as PartKept}
+use Rattle.pb_building.specs.Open.PartView.{part_view}
+use Rattle.pb_building.specs.Tokens.Number.{IsNumberType}
+use Rattle.pb_building.proofs.NumberSteps.{meant_type}
+use Rattle.pb_whole.specs.declared.reader.AtTag.{AtTag}
+use Rattle.pb_whole.specs.declared.reader.Left.{Left}
+use Rattle.pb_whole.specs.Reads.{Begins, IsAtTag, MeansIn, ReadsTo}
+use Rattle.pb_whole.specs.Listed.{ReadsRun, ReadsList, IsAtElement, IsListOpen, IsAtListed, ReadsListed}
+use Rattle.pb_whole.proofs.Tags.{tag_there, tag_within, next_size, left_here}
 use Rattle.pb_building.proofs.RunLemmas.{each_next}
 use Rattle.pb_whole.proofs.Payloads.{nothing_filled, still_open, filled_further}
 use Rattle.pb_value.specs.declared.body.Value.TheVariants as value
@@ -58,6 +65,36 @@ pub listed_further :
 listed_further kind number vs ws v bytes left used more is so_far next depth_left =
     values_further (wire_type_of kind) number (Element kind) vs ws v bytes left depth_left used more is (so_far depth_left) (next depth_left)
 
+-- AN ELEMENT of a list that is open
+pub element_at : {pool : Types} {part : PartKept} {kind : Kind} {at : AtTag} → IsAtTag pool part at → IsNumberType at.tag.wire_type → MeansIn pool part at.tag.number at.tag.wire_type (Element kind) → IsAtElement pool kind at
+element_at {pool} {part} {kind} {at} there type means = record {
+  rules = there.can.rules;
+  number = type;
+  own = meant_type pool (part_view part) at.tag.number at.tag.wire_type (Element kind) kind means refl;
+  within = there.within;
+  small = there.can.small;
+  there = there.there;
+}
+
+-- the next one
+pub element_next :
+    {pool : Types} {kind : Kind} {at next : AtTag} {after : Left} (here : ℕ) → IsAtElement pool kind at → after ≡ left_here at.left here → (next.tag.number ≡ at.tag.number) × (next.tag.wire_type ≡ at.tag.wire_type)
+    → Begins (take (length at.bytes.now - here) (drop here at.bytes.now)) after next → IsAtElement pool kind next
+element_next {at = at} here from is_after own begins =
+    let size = next_size at.bytes.now here begins in
+    let small = from.small in
+    record { rules = from.rules; number = subst IsNumberType (sym own.1) from.number; own = own.1 ∙ from.own; within = tag_within begins; small = omega (arith, size, small); there = tag_there begins }
+
+pub elements_further :
+    {pool : Types} {kind : Kind} {next : AtTag} {after : Left} (at : AtTag) (vs ws : List Value) (v : Value) (here more : ℕ) → ws ≡ vs ++ v ∷ [] → ReadsList pool kind at.tag.number (map value_view vs) at.bytes.now at.left.remaining here
+    → after ≡ left_here at.left here → (next.tag.number ≡ at.tag.number) × (next.tag.wire_type ≡ at.tag.wire_type) → Begins (take (length at.bytes.now - here) (drop here at.bytes.now)) after next
+    → ReadsList pool kind next.tag.number (value_view v ∷ []) next.bytes.now next.left.remaining more → ReadsList pool kind at.tag.number (map value_view ws) at.bytes.now at.left.remaining (here + more)
+elements_further {pool} {kind} {next} at vs ws v here more is so_far is_after own begins read =
+    listed_further kind at.tag.number vs ws v at.bytes.now at.left.remaining here more is so_far
+    (subst (λ (z : Left). ReadsList pool kind at.tag.number (value_view v ∷ []) (take (length at.bytes.now - here) (drop here at.bytes.now)) z.remaining more) (begins.same_left ∙ is_after)
+    (subst (λ (z : List ℕ). ReadsList pool kind at.tag.number (value_view v ∷ []) z next.left.remaining more) begins.same_bytes
+    (subst (λ (n : ℕ). ReadsList pool kind n (value_view v ∷ []) next.bytes.now next.left.remaining more) own.0 read)))
+
 -- A LIST OF MESSAGES: one goes to its end
 message_listed_view : (pool : Types) (n : ℕ) (p : Part) (w : MessageOf) → put_listed n (message w) p ≡ put_message pool (ListSlot n) p w
 message_listed_view pool n (message_part m v) w = refl
@@ -82,3 +119,38 @@ list_further {pool} {number} {type} {of_type} vs bytes left depth_left used from
   there = still_open from.now (put_each number (map value_view vs) from.now) bytes left depth_left used from.there (so_far from.now from.means);
   means = still_means pool type number (Message of_type (ListSlot number)) (map value_view vs) from.now from.means;
 }
+
+-- and the next one may be read
+pub listed_next :
+    {pool : Types} {of_type : MessageId} {at next : AtTag} {after : Left} (vs : List Value) (here : ℕ) → IsAtListed pool of_type at → ReadsListed pool of_type at (map value_view vs) here
+    → after ≡ left_here at.left here → (next.tag.number ≡ at.tag.number) × (next.tag.wire_type ≡ at.tag.wire_type) → Begins (take (length at.bytes.now - here) (drop here at.bytes.now)) after next → IsAtListed pool of_type next
+listed_next {pool} {of_type} {at} {next} vs here from so_far is_after own begins =
+    let size = next_size at.bytes.now here begins in
+    let small = from.small in
+    let is_left = begins.same_left ∙ is_after in
+    record {
+      rules = from.rules;
+      is_open =
+          subst (λ (n : ℕ). IsListOpen pool n next.tag.wire_type of_type next.bytes.now next.left.remaining next.left.depth_left) (sym own.0)
+          (subst (λ (w : ℕ). IsListOpen pool at.tag.number w of_type next.bytes.now next.left.remaining next.left.depth_left) (sym own.1)
+          (subst (λ (z : List ℕ). IsListOpen pool at.tag.number at.tag.wire_type of_type z next.left.remaining next.left.depth_left) (sym begins.same_bytes)
+          (subst (λ (z : Left). IsListOpen pool at.tag.number at.tag.wire_type of_type (take (length at.bytes.now - here) (drop here at.bytes.now)) z.remaining z.depth_left) (sym is_left)
+          (list_further vs at.bytes.now at.left.remaining at.left.depth_left here from.is_open so_far))));
+      level = subst (λ (z : Left). 0 < z.depth_left) (sym is_left) from.level;
+      small = omega (arith, size, small);
+      some = begins.some;
+      within = tag_within begins;
+      there = tag_there begins;
+    }
+
+pub messages_further :
+    {pool : Types} {of_type : MessageId} {next : AtTag} {after : Left} (at : AtTag) (vs ws : List Value) (v : Value) (here more : ℕ) → ws ≡ vs ++ v ∷ [] → ReadsListed pool of_type at (map value_view vs) here → after ≡ left_here at.left here
+    → (next.tag.number ≡ at.tag.number) × (next.tag.wire_type ≡ at.tag.wire_type) → Begins (take (length at.bytes.now - here) (drop here at.bytes.now)) after next → ReadsListed pool of_type next (value_view v ∷ []) more
+    → ReadsListed pool of_type at (map value_view ws) (here + more)
+messages_further {pool} {of_type} {next} at vs ws v here more is so_far is_after own begins read =
+    let run = λ (n w : ℕ) (z : List ℕ) (l : Left). ReadsRun pool n w (Message of_type (ListSlot n)) (value_view v ∷ []) z l.remaining l.depth_left more in
+    values_further at.tag.wire_type at.tag.number (Message of_type (ListSlot at.tag.number)) vs ws v at.bytes.now at.left.remaining at.left.depth_left here more is so_far
+    (subst (λ (z : Left). run at.tag.number at.tag.wire_type (take (length at.bytes.now - here) (drop here at.bytes.now)) z) (begins.same_left ∙ is_after)
+    (subst (λ (z : List ℕ). run at.tag.number at.tag.wire_type z next.left) begins.same_bytes
+    (subst (λ (w : ℕ). run at.tag.number w next.bytes.now next.left) own.1
+    (subst (λ (n : ℕ). run n next.tag.wire_type next.bytes.now next.left) own.0 read))))

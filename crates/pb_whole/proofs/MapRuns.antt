@@ -20,8 +20,11 @@ use Rattle.pb_building.specs.Close.Mapped.{pairs_view, put_mapped, put_all_mappe
 use Rattle.pb_building.specs.Open.Parents.{Part, message_part, entry_part, group_part, put_entry, Scope, Parent, parent_of, one_more_in, EndsAt, up_to, Stands}
 use Rattle.pb_building.specs.Open.Targets.{Means, part_context}
 use Rattle.pb_building.specs.Close.Closing.{FitsSlot}
-use Rattle.pb_whole.specs.Reads.{StandsIn, IsOpen, HasTagAt}
-use Rattle.pb_whole.specs.Entries.{more_in, IsMapOpen}
+use Rattle.pb_whole.specs.Reads.{StandsIn, IsOpen, HasTagAt, Begins}
+use Rattle.pb_whole.specs.declared.reader.AtTag.{AtTag}
+use Rattle.pb_whole.specs.declared.reader.Left.{Left}
+use Rattle.pb_whole.specs.Entries.{more_in, IsMapOpen, IsAtEntry, IsEntry, AreEntries}
+use Rattle.pb_whole.proofs.Tags.{tag_there, tag_within, next_size, left_here}
 use Rattle.pb_building.proofs.PlaceLemmas.{passed_twice, place_after, slice_from}
 use Rattle.pb_building.proofs.WellLemmas.{message_good}
 use Rattle.pb_whole.proofs.Held.{entry_fits}
@@ -163,3 +166,37 @@ pub none_read :
 none_read {pool} {m} {depth} {levels} {base} {p0} {parents} {scope} {now} at left bytes number items none there =
     subst (λ (l : List (MapKey × Value)). FitMapped number (pairs_view l) now × Stands pool m depth levels base p0 parents (put_all_mapped number (pairs_view l) now) (more_in number (length l) scope) (passed (given_at at left bytes) 0)) (sym none)
     (tt, subst (Stands pool m depth levels base p0 parents now scope) (place_before (given_at at left bytes)) there)
+
+-- the next entry may be read
+pub entry_next :
+    {pool : Types} {key kd : Kind} {at next : AtTag} {after : Left} (items : List (MapKey × Value)) (here : ℕ) → IsAtEntry pool key kd at → AreEntries pool at.tag.number key kd at.bytes.now (Some at.left.remaining) at.left.depth_left items here
+    → after ≡ left_here at.left here → (next.tag.number ≡ at.tag.number) × (next.tag.wire_type ≡ at.tag.wire_type) → Begins (take (length at.bytes.now - here) (drop here at.bytes.now)) after next → IsAtEntry pool key kd next
+entry_next {pool} {key} {kd} {at} {next} items here from so_far is_after own begins =
+    let size = next_size at.bytes.now here begins in
+    let small = from.small in
+    let o = from.is_open in
+    let is_left = begins.same_left ∙ is_after in
+    record {
+      rules = from.rules;
+      is_open =
+          subst (λ (n : ℕ). IsMapOpen pool n key kd next.bytes.now (Some next.left.remaining) next.left.depth_left) (sym own.0)
+          (subst (λ (z : List ℕ). IsMapOpen pool at.tag.number key kd z (Some next.left.remaining) next.left.depth_left) (sym begins.same_bytes)
+          (subst (λ (z : Left). IsMapOpen pool at.tag.number key kd (take (length at.bytes.now - here) (drop here at.bytes.now)) (Some z.remaining) z.depth_left) (sym is_left)
+          (open_further o here (Some (at.left.remaining - here)) items refl (so_far o.m o.depth o.levels o.at o.base o.p0 o.parents o.scope o.now o.stands o.level o.means).1)));
+      level = subst (λ (z : Left). 0 < z.depth_left) (sym is_left) from.level;
+      small = omega (arith, size, small);
+      bytes = own.1 ∙ from.bytes;
+      some = begins.some;
+      within = tag_within begins;
+      there = tag_there begins;
+    }
+
+-- what is read of it is read of the bytes after the others
+pub entry_there :
+    {pool : Types} {key kd : Kind} {next : AtTag} {after : Left} (at : AtTag) (e : MapKey × Value) (here more : ℕ) → after ≡ left_here at.left here → next.tag.number ≡ at.tag.number
+    → Begins (take (length at.bytes.now - here) (drop here at.bytes.now)) after next → IsEntry pool next.tag.number key kd next.bytes.now (Some next.left.remaining) next.left.depth_left e more
+    → IsEntry pool at.tag.number key kd (take (length at.bytes.now - here) (drop here at.bytes.now)) (Some (at.left.remaining - here)) at.left.depth_left e more
+entry_there {pool} {key} {kd} {next} at e here more is_after own begins read =
+    subst (λ (z : Left). IsEntry pool at.tag.number key kd (take (length at.bytes.now - here) (drop here at.bytes.now)) (Some z.remaining) z.depth_left e more) (begins.same_left ∙ is_after)
+    (subst (λ (z : List ℕ). IsEntry pool at.tag.number key kd z (Some next.left.remaining) next.left.depth_left e more) begins.same_bytes
+    (subst (λ (n : ℕ). IsEntry pool n key kd next.bytes.now (Some next.left.remaining) next.left.depth_left e more) own read))

@@ -1,5 +1,5 @@
 -- Records one after another, and what a record opens after its length.
-use Rattle.std.proofs.Common.{◌≡◌, ℕ, ◌+◌, ◌-◌, ◌<◌, List, ◌∷◌, take, drop, length, refl, sym, ap, ◌∙◌, subst, arith, false, Option, Some, None, option_map, drop-drop}
+use Rattle.std.proofs.Common.{◌≡◌, ℕ, ◌+◌, ◌-◌, ◌<◌, List, ◌∷◌, take, drop, length, refl, sym, ap, ◌∙◌, subst, arith, false, Option, Some, None, option_map, drop-drop, length-drop}
 use Rattle.std.proofs.lemmas.Bool.{false≢true}
 use Rattle.pb_wire.specs.Record.{Record}
 use Rattle.pb_wire.specs.Fault.{Place, HasTag, HasLength}
@@ -14,12 +14,16 @@ use Rattle.pb_building.specs.Open.Parents.{Part, message_part, entry_part, put_m
 use Rattle.pb_building.specs.Open.Openings.{taken_message, without_message, depth_left_in}
 use Rattle.pb_building.specs.Open.Targets.{Means, part_context}
 use Rattle.pb_building.specs.Tokens.After.{HasLevelFor, After}
-use Rattle.pb_whole.specs.Reads.{StandsIn, IsOpen, HasTagAt, ReadsTo}
+use Rattle.pb_building.specs.declared.open.part.Part.{Part as PartKept}
+use Rattle.pb_building.specs.Open.PartView.{part_view}
+use Rattle.pb_whole.specs.declared.reader.AtTag.{AtTag}
+use Rattle.pb_whole.specs.declared.reader.Left.{Left}
+use Rattle.pb_whole.specs.Reads.{StandsIn, IsOpen, CanRead, HasTagAt, Begins, IsAtTag, ReadsTo}
 use Rattle.pb_building.proofs.WellLemmas.{can_hold}
 use Rattle.pb_building.proofs.PlaceLemmas.{slice_from, passed_twice, place_after}
 use Rattle.pb_building.proofs.ListSteps.{list_begins, list_over}
 use Rattle.pb_whole.proofs.ListHolds.{list_can_hold}
-use Rattle.pb_whole.proofs.Tags.{tag_next, opening_next}
+use Rattle.pb_whole.proofs.Tags.{tag_next, opening_next, tag_there, tag_within, left_here}
 use Rattle.pb_building.proofs.OpenSteps.{message_opened, entry_opened}
 use Rattle.pb_building.proofs.GroupLemmas.{part_closes}
 use Rattle.pb_building.specs.declared.open.part.Slot.TheVariants as slot
@@ -73,6 +77,32 @@ filled_further {pool} old new next bytes size depth_left used more so_far furthe
     let after = place_after at (Some size) (Some (size - used)) bytes used refl in
     subst (StandsIn pool m depth levels base p0 parents depth_left next) (ap (λ (z : Place). passed z more) (sym after) ∙ passed_twice p used more)
     (further m depth levels (at + used) base p0 parents (filled_so_far at size bytes used (so_far m depth levels at base p0 parents there)))
+
+-- the tag of the next record, after those that are read
+pub next_tag :
+    {pool : Types} (old new : PartKept) {bytes : List ℕ} {left after : Left} {next : AtTag} (here : ℕ) → CanRead pool old bytes left → ReadsTo pool (part_view old) (part_view new) bytes left.remaining left.depth_left here → after ≡ left_here left here
+    → Begins (take (length bytes - here) (drop here bytes)) after next → IsAtTag pool new next
+next_tag {pool} old new {bytes} {left} {after} {next} here can read is_after begins =
+    let size = ap length (slice_from here bytes) ∙ length-drop here bytes in
+    let small = can.small in
+    let there : CanRead pool new (take (length bytes - here) (drop here bytes)) (left_here left here) =
+    record { rules = can.rules; is_open = still_open (part_view old) (part_view new) bytes left.remaining left.depth_left here can.is_open read; small = omega (arith, size, small) } in
+    record {
+      can = subst (λ (z : List ℕ). CanRead pool new z next.left) (sym begins.same_bytes) (subst (CanRead pool new (take (length bytes - here) (drop here bytes))) (sym (begins.same_left ∙ is_after)) there);
+      some = begins.some;
+      within = tag_within begins;
+      there = tag_there begins;
+    }
+
+-- and with that record more of them are read
+pub next_read :
+    {pool : Types} (old new then : Part) {bytes : List ℕ} {left after : Left} {next : AtTag} (here used : ℕ) → ReadsTo pool old new bytes left.remaining left.depth_left here → after ≡ left_here left here
+    → Begins (take (length bytes - here) (drop here bytes)) after next → ReadsTo pool new then next.bytes.now next.left.remaining next.left.depth_left used
+    → ReadsTo pool old then bytes left.remaining left.depth_left (here + used)
+next_read {pool} old new then {bytes} {left} {after} {next} here used so_far is_after begins read =
+    filled_further old new then bytes left.remaining left.depth_left here used so_far
+    (subst (λ (z : Left). ReadsTo pool new then (take (length bytes - here) (drop here bytes)) z.remaining z.depth_left used) (begins.same_left ∙ is_after)
+    (subst (λ (z : List ℕ). ReadsTo pool new then z next.left.remaining next.left.depth_left used) begins.same_bytes read))
 
 -- WHAT A RECORD OPENS after its length, inside its parent. Its payload begins at an index, and has a size.
 abbrev pub payload_place : ℕ → List ℕ → ℕ → ℕ → Place

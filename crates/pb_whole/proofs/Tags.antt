@@ -1,11 +1,11 @@
 -- What comes after a tag.
-use Rattle.std.proofs.Common.{◌≡◌, inl, inr, ℕ, ◌+◌, ◌-◌, ◌≤◌, List, take, drop, length, refl, sym, ap, subst, arith, length-drop, Option, Some, None, option_map}
+use Rattle.std.proofs.Common.{◌≡◌, inl, inr, ℕ, ◌+◌, ◌-◌, ◌≤◌, ◌∙◌, List, take, drop, length, refl, sym, ap, subst, arith, length-drop, Option, Some, None, option_map}
 use Rattle.std.specs.Prelude.{true}
 use Rattle.std.proofs.lemmas.Bool.{false≢true}
 use Rattle.pb_wire.specs.Record.{Record}
 use Rattle.pb_wire.specs.Fault.{Place, Moves, Reads as ReadsNumber, HasTag, HasLength}
 use Rattle.pb_wire.specs.Scan.{given_at, passed}
-use Rattle.pb_wire.proofs.TokenLemmas.{moves_passed}
+use Rattle.pb_wire.proofs.ScanLemmas.{moves_passed}
 use Rattle.pb_schema.specs.Types.{Types}
 use Rattle.pb_building.specs.declared.open.target.Target.{Target}
 use Rattle.pb_building.specs.declared.tokens.step.Step.{Step}
@@ -17,6 +17,9 @@ use Rattle.pb_building.specs.Tokens.Number.{IsNumberType}
 use Rattle.pb_building.proofs.AfterLemmas.{after_tag, after_length}
 use Rattle.pb_building.proofs.DeepLemmas.{reads_below}
 use Rattle.pb_building.proofs.PlaceLemmas.{slice_from, passed_twice}
+use Rattle.pb_whole.specs.declared.reader.AtTag.{AtTag}
+use Rattle.pb_whole.specs.declared.reader.Left.{Left}
+use Rattle.pb_whole.specs.Reads.{HasTagAt, Begins}
 use Rattle.pb_building.specs.declared.open.target.Target.TheVariants as target
 use Rattle.pb_building.specs.declared.tokens.step.Step.TheVariants as step
 
@@ -116,3 +119,20 @@ payload_leads p start size u within l =
     let left = length-drop start p.rest in
     subst (λ (z : ℕ). Moves (passed p start) (take z (drop start p.rest)) (passed p (start + size))) (sym same)
     (subst (Moves (passed p start) (take size (drop start p.rest))) (passed_twice p start size) (moves_passed (passed p start) size (omega (arith, within, left)) l.within))
+
+-- A TAG that begins bytes is that of a record there
+pub tag_there : {bytes : List ℕ} {left : Left} {at : AtTag} → Begins bytes left at → HasTagAt at.bytes.now (Some at.left.remaining) at.tag.number at.tag.wire_type at.tag.size
+tag_there {bytes} {left} {at} begins =
+    subst (λ (z : List ℕ). HasTagAt z (Some at.left.remaining) at.tag.number at.tag.wire_type at.tag.size) (sym begins.same_bytes)
+    (subst (λ (z : Left). HasTagAt bytes (Some z.remaining) at.tag.number at.tag.wire_type at.tag.size) (sym begins.same_left) begins.there)
+
+pub tag_within : {bytes : List ℕ} {left : Left} {at : AtTag} → Begins bytes left at → at.tag.size ≤ length at.bytes.now
+tag_within {bytes} {left} {at} begins = subst (λ (z : List ℕ). at.tag.size ≤ length z) (sym begins.same_bytes) begins.within
+
+-- after some of the bytes there are so many less
+pub next_size : {left : Left} {next : AtTag} (bytes : List ℕ) (here : ℕ) → Begins (take (length bytes - here) (drop here bytes)) left next → length next.bytes.now ≡ length bytes - here
+next_size bytes here begins = ap length begins.same_bytes ∙ ap length (slice_from here bytes) ∙ length-drop here bytes
+
+-- this many bytes after what was left
+abbrev pub left_here : Left → ℕ → Left
+left_here left here = record { remaining = left.remaining - here; depth_left = left.depth_left }

@@ -15,49 +15,34 @@ const KEPT: usize = 7;
 /// A size that few values take, within those that malloc keeps for a thread, up to 1,032 bytes.
 const SIZE: usize = 1000;
 
-/// Takes a small block after all that was taken before, where no hole has this many bytes: a block of as many, cut to a small one.
-fn last_block(alloc: Global, hole: usize) -> Result<Vec<u8>, AllocError> {
-    // malloc may map a block so large by itself. Once one was freed it takes the next from the heap.
-    let mapped: Vec<u8> = Vec::with_capacity(alloc, hole)?;
-    drop(mapped);
-    let mut block = Vec::with_capacity(alloc, hole)?;
-    block.shrink_to(SIZE);
-    Ok(block)
-}
-
-/// Takes the small blocks that malloc keeps, and one after all that was taken before, which is the last one.
-fn take_blocks(alloc: Global, hole: usize) -> Result<Vec<Vec<u8>>, AllocError> {
-    let mut blocks = Vec::with_capacity(alloc, KEPT + 1)?;
-    for _ in 0..KEPT {
-        blocks.push(Vec::with_capacity(alloc, SIZE)?)?;
-    }
-    blocks.push(last_block(alloc, hole)?)?;
-    Ok(blocks)
-}
-
-/// Frees blocks, the last one first, so that it is among those that malloc keeps.
-fn free_blocks(mut blocks: Vec<Vec<u8>>) {
-    for _ in 0..=KEPT {
-        drop(blocks.pop());
-    }
-}
-
 /// Pins the heap's top so that glibc does not trim it: takes small blocks after all that was taken before, where no hole has this
 /// many bytes, and frees them at once.
 ///
 /// glibc's malloc gives what lies free at the heap's end back to the system, and a process that reads one large message after another
 /// would have all its pages made anew for each. A freed block that malloc keeps for the thread isn't free to it, so what lies before
 /// it stays. Where memory is refused nothing is taken.
-fn hold_end(alloc: Global, hole: usize) {
-    if let Ok(blocks) = take_blocks(alloc, hole) {
-        free_blocks(blocks);
+fn hold_end(alloc: Global, hole: usize) -> Result<(), AllocError> {
+    let mut blocks: Vec<Vec<u8>> = Vec::with_capacity(alloc, KEPT + 1)?;
+    for _ in 0..KEPT {
+        blocks.push(Vec::with_capacity(alloc, SIZE)?)?;
     }
+    // malloc may map a block so large by itself. Once one was freed it takes the next from the heap.
+    let mapped: Vec<u8> = Vec::with_capacity(alloc, hole)?;
+    drop(mapped);
+    let mut last = Vec::with_capacity(alloc, hole)?;
+    last.shrink_to(SIZE);
+    blocks.push(last)?;
+    // The last one first, so that it is among those that malloc keeps.
+    for _ in 0..=KEPT {
+        drop(blocks.pop());
+    }
+    Ok(())
 }
 
 /// Keeps the memory of a message whose encoding has this many bytes, if these are many.
 pub(crate) fn keep_heap(alloc: Global, size: usize) {
     if size >= LARGE {
-        hold_end(alloc, SIZE);
+        let _ = hold_end(alloc, SIZE);
     }
 }
 
@@ -65,6 +50,6 @@ pub(crate) fn keep_heap(alloc: Global, size: usize) {
 /// block would be put in its place, before what was taken since.
 pub(crate) fn keep_heap_after_list(alloc: Global, entries: usize) {
     if entries >= MANY {
-        hold_end(alloc, entries.saturating_mul(ENTRY).min(MOST));
+        let _ = hold_end(alloc, entries.saturating_mul(ENTRY).min(MOST));
     }
 }

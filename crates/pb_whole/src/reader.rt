@@ -1,9 +1,30 @@
-//! What reads records into a part, and what is left of the part.
+//! What reads records into a part, and where a record begins.
 
-ghost use Rattle.std.specs.Prelude.{◌≡◌, ◌-◌, ◌<◌, ◌^◌};
+ghost use Rattle.std.specs.Prelude.{◌≡◌, ◌-◌, ◌<◌, ◌^◌, IfOk};
+ghost use Rattle.pb_schema.specs.declared.types.MessageId.{MessageId};
+ghost use Rattle.pb_building.specs.declared.open.part.Part.TheVariants as parts;
 
+use pb_building::{NoMemory, Part, RecordTag};
 use pb_schema::Pool;
+use pb_value::Body;
 use std::alloc::Global;
+
+/// How many bytes a record takes.
+pub(crate) type Used = Result<usize, NoMemory>;
+/// What is read, and how many bytes its records take.
+pub(crate) type Read<T> = Result<(T, usize), NoMemory>;
+
+/// What a message holds that was read.
+#[inline(always)]
+pub(crate) fn body_of(part: Part) -> Result<Body, NoMemory>
+    ensures { IfOk result (λ body. (kind : MessageId) × (part ≡ parts.Message kind body)) }
+{
+    match part {
+        Part::Message(_kind, body) => Ok(body),
+        Part::Entry(_entry) => Err(NoMemory),
+        Part::Group(_records) => Err(NoMemory),
+    }
+}
 
 /// What stays the same while a message is built.
 #[derive(Drop)]
@@ -19,6 +40,16 @@ pub struct Left {
     pub remaining: u32,
     /// How many levels may still be opened.
     pub depth_left: u8,
+}
+
+/// Where a record begins.
+#[derive(Clone, Copy)]
+pub struct AtTag<'b> {
+    pub tag: RecordTag,
+    /// The bytes from the tag on.
+    pub bytes: &'b [u8],
+    /// What is left of the part around the record.
+    pub left: Left,
 }
 
 impl Left {

@@ -1,13 +1,12 @@
 //! Lengths after tags, and what a tag is for.
 
-ghost use Rattle.std.specs.Prelude.{◌≡◌, ◌+◌, ◌≤◌, ◌<◌, ◌^◌, true, Some, length, IfSome};
+ghost use Rattle.std.specs.Prelude.{◌≡◌, ◌+◌, ◌≤◌, ◌<◌, ◌^◌, true, Some, length, IfOk, IfSome};
 ghost use Rattle.pb_building.specs.Tokens.Number.{IsNumberType};
-ghost use Rattle.pb_whole.specs.Lengths.{TellsLength};
-ghost use Rattle.pb_whole.specs.Reads.{HasTagAt};
+ghost use Rattle.pb_whole.specs.Lengths.{IsLengthAfter, TellsLength};
+ghost use Rattle.pb_whole.specs.Reads.{Begins};
 
-use pb_building::tokens::prefix::prefix_number;
-use pb_building::tokens::record_tag::{RecordTag, left_after, record_tag};
-use pb_building::tokens::tag::payload_size;
+use crate::reader::{AtTag, Left};
+use pb_building::{NoMemory, RecordTag, left_after, payload_size, prefix_number, record_tag};
 
 /// Where the payload of a record begins whose tag takes this many bytes, and its size. `left` is how many bytes come before the end of
 /// the part, if that is known.
@@ -43,6 +42,20 @@ pub fn payload_after(tag_size: usize, bytes: &[u8], left: Option<u32>) -> Option
     Some((start, size))
 }
 
+/// As `payload_after`, of the record at a tag.
+#[inline(always)]
+pub(crate) fn payload_at(at: AtTag) -> Result<(usize, u32), NoMemory>
+    requires within { at.tag.size ≤ length at.bytes.now }
+    requires small { length at.bytes.now < 2 ^ 31 }
+    ensures within { IfOk result (λ t. (at.entry.tag.size ≤ t.0) × (t.0 + t.1 ≤ length at.entry.bytes.now)) }
+    ensures whole { IfOk result (IsLengthAfter at.entry.tag.size at.entry.bytes.now (Some at.entry.left.remaining)) }
+{
+    match payload_after(at.tag.size, at.bytes, Some(at.left.remaining)) {
+        Some(payload) => Ok(payload),
+        None => Err(NoMemory),
+    }
+}
+
 /// Says that a tag has a number after it: a varint, eight bytes or four bytes.
 #[inline(always)]
 pub(crate) fn is_number(wire_type: u8) -> bool
@@ -51,21 +64,26 @@ pub(crate) fn is_number(wire_type: u8) -> bool
     wire_type == 0 || wire_type == 1 || wire_type == 5
 }
 
-/// The tag that begins the bytes, if it has this number and this wire type.
+/// The tag that begins the bytes.
 #[inline(always)]
-pub(crate) fn tag_again(
-    number: u32,
-    wire_type: u8,
-    bytes: &[u8],
-    remaining: u32,
-) -> Option<RecordTag>
-    ensures own { IfSome result (λ t. (t.number ≡ number) × (t.wire_type ≡ wire_type)) }
-    ensures within { IfSome result (λ t. (0 < t.size) × (t.size ≤ length bytes.now)) }
-    ensures whole { IfSome result (λ t. HasTagAt bytes.now (Some remaining) t.number t.wire_type t.size) }
+pub(crate) fn tag_at(bytes: &[u8], left: Left) -> Result<AtTag, NoMemory>
+    ensures { IfOk result (Begins bytes.now left) }
 {
-    let tag = record_tag(bytes, Some(remaining))?;
-    if tag.number == number && tag.wire_type == wire_type {
-        Some(tag)
+    match record_tag(bytes, Some(left.remaining)) {
+        Some(tag) => Ok(AtTag { tag, bytes, left }),
+        None => Err(NoMemory),
+    }
+}
+
+/// The tag that begins the bytes, if it has the number and the wire type of this one.
+#[inline(always)]
+pub(crate) fn tag_again(first: RecordTag, bytes: &[u8], left: Left) -> Option<AtTag>
+    ensures own { IfSome result (λ t. (t.tag.number ≡ first.number) × (t.tag.wire_type ≡ first.wire_type)) }
+    ensures begins { IfSome result (Begins bytes.now left) }
+{
+    let tag = record_tag(bytes, Some(left.remaining))?;
+    if tag.number == first.number && tag.wire_type == first.wire_type {
+        Some(AtTag { tag, bytes, left })
     } else {
         None
     }

@@ -4,9 +4,8 @@ ghost use Rattle.std.specs.Prelude.{◌≡◌, ◌<◌, length, IfOk};
 ghost use Rattle.pb_value.specs.Derives.{Text};
 
 use crate::heap::keep_heap;
-use crate::reader::{Left, Reader};
-use pb_building::error::NoMemory;
-use pb_building::open::part::Part;
+use crate::reader::{Left, Reader, body_of};
+use pb_building::{NoMemory, Part};
 use pb_schema::{MessageId, Pool};
 use pb_value::DynamicMessage;
 use pb_value::bodies::{empty_body, from_well_formed};
@@ -43,9 +42,6 @@ pub fn build<'p>(
     let mut top = Part::Message(message_type, empty_body(alloc));
     reader.read_records(&mut top, bytes, left)?;
     keep_heap(alloc, bytes.len());
-    match top {
-        Part::Message(_kind, body) => Ok(from_well_formed(alloc, pool, message_type, body)),
-        Part::Entry(_entry) => Err(NoMemory),
-        Part::Group(_records) => Err(NoMemory),
-    }
+    let body = body_of(top)?;
+    Ok(from_well_formed(alloc, pool, message_type, body))
 }

@@ -24,13 +24,13 @@ from_well_formed-requires-clause-well_formed c =
     let bytes : AreBytes c.args.bytes.now = recursion_from_All IsByte c.args.bytes.now (All-from_get_or IsByte c.args.bytes.now 0 (λ i h. let fits = c.type_inv.bytes i in search (rules, fits))) in
     let size = c.if-bytes-max_bytes.false in
     let most = c.max_bytes-max_bytes.ensures.same in
-    (text_filled c.args.pool.now c.args.message_type.0 c.max_depth-max_depth.result c.args.limits c.args.bytes.now (body_view c.empty_body.result) _ c.in-Message._kind.0 (body_view c.in-Message.body) c.messages-messages.ensures.rules c.empty_body.ensures c.max_depth-max_depth.ensures.same c.max_depth-max_depth.ensures.small (omega (arith, size, most)) c.requires bytes
-    (ap part_view c.in-Message.is) c.in_ok-read_records.ensures).1
+    (text_filled c.args.pool.now c.args.message_type.0 c.max_depth-max_depth.result c.args.limits c.args.bytes.now (body_view c.empty_body.result) _ c.in_ok-body.ensures.0.0 (body_view c.in_ok-body.body) c.messages-messages.ensures.rules c.empty_body.ensures c.max_depth-max_depth.ensures.same c.max_depth-max_depth.ensures.small (omega (arith, size, most)) c.requires bytes
+    (ap part_view c.in_ok-body.ensures.1) c.in_ok-read_records.ensures).1
 
-pub returns-in-Message-clause-value : goal.returns-in-Message-clause-value
-returns-in-Message-clause-value c =
+pub returns-clause-value : goal.returns-clause-value
+returns-clause-value c =
     let bytes : AreBytes c.args.bytes.now = recursion_from_All IsByte c.args.bytes.now (All-from_get_or IsByte c.args.bytes.now 0 (λ i h. let fits = c.type_inv.bytes i in search (rules, fits))) in
     let size = c.if-bytes-max_bytes.false in
     let most = c.max_bytes-max_bytes.ensures.same in
-    rw c.from_well_formed.ensures ((text_filled c.args.pool.now c.args.message_type.0 c.max_depth-max_depth.result c.args.limits c.args.bytes.now (body_view c.empty_body.result) _ c.in-Message._kind.0 (body_view c.in-Message.body) c.messages-messages.ensures.rules c.empty_body.ensures c.max_depth-max_depth.ensures.same c.max_depth-max_depth.ensures.small (omega (arith, size, most)) c.requires bytes
-    (ap part_view c.in-Message.is) c.in_ok-read_records.ensures).0)
+    rw c.from_well_formed.ensures ((text_filled c.args.pool.now c.args.message_type.0 c.max_depth-max_depth.result c.args.limits c.args.bytes.now (body_view c.empty_body.result) _ c.in_ok-body.ensures.0.0 (body_view c.in_ok-body.body) c.messages-messages.ensures.rules c.empty_body.ensures c.max_depth-max_depth.ensures.same c.max_depth-max_depth.ensures.small (omega (arith, size, most)) c.requires bytes
+    (ap part_view c.in_ok-body.ensures.1) c.in_ok-read_records.ensures).0)

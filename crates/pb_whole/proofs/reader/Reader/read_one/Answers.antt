@@ -14,30 +14,30 @@ use Rattle.pb_whole.proofs.reader.Reader.read_one.Goals as goal
 pub put_number-requires-clause-can : goal.put_number-requires-clause-can
 put_number-requires-clause-can c = open_can c.requires.at_tag.can.rules c.requires.at_tag.can.is_open
 
-pub returns-in_ok-put_number-in-Whole-clause-read : goal.returns-in_ok-put_number-in-Whole-clause-read
-returns-in_ok-put_number-in-Whole-clause-read c =
-    λ m depth levels at base p0 parents there.
-    let p = given_at at (Some c.args.left.remaining) c.args.bytes.now in
-    let reported = c.in-Whole.ensures (at + c.args.tag.size) in
-    let follows =
-    there_after (λ (q r : Place). Follows q (number_view c.in-Whole.value) r) at (Some c.args.left.remaining) c.left_after-after.result c.args.bytes.now c.args.tag.size c.in-Whole.size c.left_after-after.ensures reported.2 in
-    let next = number_next c.args.tag.number c.args.tag.wire_type c.args.target c.requires.number there.1 (c.requires.at_tag.there at) c.requires.means in (
-      one_more_in c.args.tag.number there.0,
-      c.in_ok-put_number-in-Whole.ensures m depth levels base p0 (passed p c.args.tag.size) (passed p (c.args.tag.size + c.in-Whole.size)) parents there.0 next.0 next.2
-          (next.1 ∙ ap (λ (z : ℕ). Some (tag c.args.tag.number z c.args.target)) (sym reported.0)) follows,
-      there.2,
-    )
-
-pub returns-in_ok-put_number-in-Whole-clause-passes : goal.returns-in_ok-put_number-in-Whole-clause-passes
-returns-in_ok-put_number-in-Whole-clause-passes c =
-    let is = ap length (slice_from c.args.tag.size c.args.bytes.now) ∙ length-drop c.args.tag.size c.args.bytes.now in
+pub returns-in_ok-put_number-in-Whole : goal.returns-in_ok-put_number-in-Whole
+returns-in_ok-put_number-in-Whole c =
+    let is = ap length (slice_from c.args.at.tag.size c.args.at.bytes.now) ∙ length-drop c.args.at.tag.size c.args.at.bytes.now in
     let after = (c.in-Whole.ensures 0).1 in
     let within = c.requires.at_tag.within in
-    (omega arith, omega (arith, is, after, within))
+    record {
+      least = omega arith;
+      most = omega (arith, is, after, within);
+      read = λ m depth levels at base p0 parents there.
+          let p = given_at at (Some c.args.at.left.remaining) c.args.at.bytes.now in
+          let reported = c.in-Whole.ensures (at + c.args.at.tag.size) in
+          let follows =
+          there_after (λ (q r : Place). Follows q (number_view c.in-Whole.value) r) at (Some c.args.at.left.remaining) c.left_after-after.result c.args.at.bytes.now c.args.at.tag.size c.in-Whole.size c.left_after-after.ensures reported.2 in
+          let next = number_next c.args.at.tag.number c.args.at.tag.wire_type c.args.target c.requires.number there.1 (c.requires.at_tag.there at) c.requires.means in (
+            one_more_in c.args.at.tag.number there.0,
+            c.in_ok-put_number-in-Whole.ensures m depth levels base p0 (passed p c.args.at.tag.size) (passed p (c.args.at.tag.size + c.in-Whole.size)) parents there.0 next.0 next.2
+                (next.1 ∙ ap (λ (z : ℕ). Some (tag c.args.at.tag.number z c.args.target)) (sym reported.0)) follows,
+            there.2,
+          );
+    }
 
 pub overflow_add-result : goal.overflow_add-result
 overflow_add-result c =
-    let is = ap length (slice_from c.args.tag.size c.args.bytes.now) ∙ length-drop c.args.tag.size c.args.bytes.now in
+    let is = ap length (slice_from c.args.at.tag.size c.args.at.bytes.now) ∙ length-drop c.args.at.tag.size c.args.at.bytes.now in
     let after = (c.in-Whole.ensures 0).1 in
     let within = c.requires.at_tag.within in
     let small = c.requires.at_tag.can.small in

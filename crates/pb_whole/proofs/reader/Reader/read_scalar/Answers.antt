@@ -6,6 +6,6 @@ use Rattle.pb_whole.proofs.reader.Reader.read_scalar.Goals as goal
 
 pub read_bytes-requires-clause-means : goal.read_bytes-requires-clause-means
 read_bytes-requires-clause-means c =
-    let two = c.if-tag-eq2.true in
-    let is : c.args.tag.wire_type ≡ 2 = omega (arith, two) in
-    subst (λ (z : ℕ). Means c.args.self.now.pool.now (part_context (part_view c.args.entry.now)) c.args.tag.number z c.args.target) is c.requires.means
+    let two = c.if-at-eq2.true in
+    let is : c.args.at.tag.wire_type ≡ 2 = omega (arith, two) in
+    subst (λ (z : ℕ). Means c.args.self.now.pool.now (part_context (part_view c.args.entry.now)) c.args.at.tag.number z c.args.target) is c.requires.means
