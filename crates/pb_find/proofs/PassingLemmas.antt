@@ -1,6 +1,7 @@
 -- Whole records that are read past: what they leave as it is, and those that follow them.
 use Rattle.std.proofs.Common.{◌≡◌, ◌∙◌, ℕ, List, [], ◌∷◌, ◌++◌, refl, sym, ap, Option, Some, None}
 use Rattle.std.specs.Prelude.{fold}
+use Rattle.std.proofs.lemmas.List.Sums.{fold-append}
 use Rattle.std.specs.List.{AllByRecursion}
 use Rattle.pb_wire.specs.Record.{Payload, Record}
 use Rattle.pb_wire.specs.Fault.{Place, HasTag}
@@ -16,11 +17,11 @@ use Rattle.pb_value.proofs.JoinedTexts.{AreRecords-append, AllSound-append}
 use Rattle.pb_value.proofs.ListLemmas.{all_append}
 use Rattle.pb_validate.specs.Judging.{Front, ReadsValue}
 use Rattle.pb_validate.proofs.JudgeLemmas.{front_none, front_push}
-use Rattle.pb_find.specs.declared.target.Target.{Target}
+use Rattle.pb_find.specs.declared.level.Target.{Target}
+use Rattle.pb_find.specs.declared.level.Level.{Level}
 use Rattle.pb_find.specs.Found.{found, after_record, after_records, shares_oneof}
-use Rattle.pb_find.specs.Walk.{record_at, after_target, IsStranger, PassesStrangers, PassesBy, Breaks}
+use Rattle.pb_find.specs.Walk.{after_target, after, IsStranger, Breaks}
 use Rattle.pb_find.proofs.TargetLemmas.{stranger_stays}
-use Rattle.pb_find.proofs.FoundLemmas.{found-append}
 
 -- ---- records, and others after them
 
@@ -49,21 +50,6 @@ breaks_later rs front b = record {
   none = b.none;
 }
 
--- ---- records that do not concern a field
-
-pub passes_none : (pool : Types) (m levels n : ℕ) (s : Shape) (p : Place) → PassesStrangers pool m levels n s p p
-passes_none pool m levels n s p = ([], front_none (schema_of pool) (a_message m) levels p, tt)
-
-pub passes_more :
-    (pool : Types) (m levels n k w : ℕ) (s : Shape) (p q at r : Place) → PassesStrangers pool m levels n s p q → HasTag q k w at
-    → (payload : Payload) × ReadsValue (schema_of pool) (a_message m) levels k w at payload r → IsStranger pool m n s k
-    → PassesStrangers pool m levels n s p r
-passes_more pool m levels n k w s p q at r passed tag value stranger = (
-  passed.0 ++ record_at k value.0 ∷ [],
-  front_push passed.0 value.0 passed.1 tag value.1,
-  all_append (λ (r : Record). IsStranger pool m n s r.number) passed.0 (record_at k value.0 ∷ []) passed.2 (stranger, tt),
-)
-
 -- they leave what was found of it as it is
 strangers_stay :
     (pool : Types) (m : ℕ) (rest : List ℕ) (f : FieldView) (s : Shape) → ((g : Option FieldView) → shares_oneof s g ≡ shares_oneof f.shape g)
@@ -84,25 +70,27 @@ shares_none (shape.Map key) none g = refl
 
 -- past a target that is in no oneof, or in this one
 pub passes_by :
-    (pool : Types) (m levels : ℕ) (t : Target) (s : Shape) (p q : Place) → ((g : Option FieldView) → shares_oneof s g ≡ shares_oneof t.field.now.shape g)
-    → PassesStrangers pool m levels t.field.now.number s p q → PassesBy pool m levels (Some t) p q
-passes_by pool m levels t s p q same passed = (passed.0, passed.1, strangers_stay pool m t.rest.now (field_view t.field.now) s same passed.0 passed.2)
+    (l : Level) (own : Target) (s : Shape) (rs : List Record) → l.target ≡ Some own → ((g : Option FieldView) → shares_oneof s g ≡ shares_oneof own.field.now.shape g)
+    → AllByRecursion (λ r. IsStranger l.pool.now l.message_type.0 own.field.now.number s r.number) rs → (x : Option Scalar) → after l x rs ≡ x
+passes_by l own s rs is same h x =
+    ap (λ (t : Option Target). after_target l.pool.now l.message_type.0 t x rs) is
+    ∙ strangers_stay l.pool.now l.message_type.0 own.rest.now (field_view own.field.now) s same rs h x
 
--- ---- what was found, after records that leave it
+-- ---- what is found of records, and of others after them
 
-pub nothing_more :
-    (pool : Types) (m : ℕ) (path : List ℕ) (t : Option Target) (x y : Option Scalar) (rs ss : List Record)
-    → ((x : Option Scalar) (rs : List Record) → after_target pool m t x rs ≡ found pool path m x rs) → y ≡ found pool path m x rs
-    → ((x : Option Scalar) → after_target pool m t x ss ≡ x) → y ≡ found pool path m x (rs ++ ss)
-nothing_more pool m path t x y rs ss same so_far stays =
-    so_far ∙ sym (stays (found pool path m x rs)) ∙ same (found pool path m x rs) ss ∙ sym (found-append pool path m x rs ss)
+target-append :
+    (pool : Types) (m : ℕ) (t : Option Target) (x : Option Scalar) (rs ss : List Record)
+    → after_target pool m t x (rs ++ ss) ≡ after_target pool m t (after_target pool m t x rs) ss
+target-append pool m None x rs ss = refl
+target-append pool m (Some t) x rs ss = fold-append (after_record (found pool t.rest.now) pool m t.rest.now (field_view t.field.now)) x rs ss
 
-pub nothing_yet :
-    (pool : Types) (m : ℕ) (path : List ℕ) (t : Option Target) (x : Option Scalar) (ss : List Record)
-    → ((x : Option Scalar) (rs : List Record) → after_target pool m t x rs ≡ found pool path m x rs)
-    → ((x : Option Scalar) → after_target pool m t x ss ≡ x) → x ≡ found pool path m x ss
-nothing_yet pool m path t x ss same stays = sym (stays x) ∙ same x ss
+pub no_target : (l : Level) (rs : List Record) → l.target ≡ None → (x : Option Scalar) → after l x rs ≡ x
+no_target l rs e x = ap (λ (t : Option Target). after_target l.pool.now l.message_type.0 t x rs) e
 
-pub no_target : (pool : Types) (m : ℕ) (t : Option Target) (ss : List Record) → t ≡ None → (x : Option Scalar) → after_target pool m t x ss ≡ x
-no_target pool m None ss e x = refl
-no_target pool m (Some t) ss e x = absurd (cc)
+-- after one more record, and others that leave it
+pub one_more :
+    (l : Level) (x y z : Option Scalar) (rs : List Record) (r : Record) (ss : List Record) → y ≡ after l x rs → z ≡ after l y (r ∷ [])
+    → ((x : Option Scalar) → after l x ss ≡ x) → z ≡ after l x ((rs ++ r ∷ []) ++ ss)
+one_more l x y z rs r ss so_far next stay =
+    next ∙ ap (λ (w : Option Scalar). after l w (r ∷ [])) so_far ∙ sym (target-append l.pool.now l.message_type.0 l.target x rs (r ∷ []))
+    ∙ sym (stay (after l x (rs ++ r ∷ []))) ∙ sym (target-append l.pool.now l.message_type.0 l.target x (rs ++ r ∷ []) ss)

@@ -19,31 +19,45 @@ use Rattle.pb_schema.specs.Kinds.{wire_type_of, message_of_kind, closed_enum, re
 use Rattle.pb_schema.specs.Closed.{closed_shaped, closed_of, is_undeclared, counts}
 use Rattle.pb_schema.specs.Context.{Context, a_message, schema_of, read_shaped, group_shaped, read_field, group_of_field}
 use Rattle.pb_value.proofs.JudgeLemmas.{fits_any-found}
-use Rattle.pb_value.proofs.Numbers.{self_equal, found_number}
+use Rattle.pb_value.proofs.BytesLemmas.{both}
+use Rattle.pb_value.proofs.Numbers.{self_equal, number_is, not_equal, found_number}
 use Rattle.pb_find.specs.Found.{is_single, if_single, target, shares_oneof, counts_for, is_rival, kept, after_typed, after_payload, after_record, after_records, found}
 use Rattle.pb_find.specs.Walk.{record_at}
 
 -- a record of a field's number counts just where it counts for the field
 counts_found :
     (pool : Types) (m n : ℕ) (g : FieldView) (p : Payload) → IsPool pool → field_numbered n (message_fields pool m) ≡ Some g
-    → counts_for pool g (record_at g.number p) ≡ counts pool (message_fields pool m) (record_at n p)
+    → counts_for pool g (record_at n p) ≡ counts pool (message_fields pool m) (record_at n p)
 counts_found pool m n g p rules found =
-    ap (λ (b : Bool). (b && fits_type g (wire_type p)) && declared (Some g)) (self_equal g.number)
+    ap (λ (b : Bool). (b && fits_type g (wire_type p)) && declared (Some g)) (ap (λ (k : ℕ). n == k) (found_number n (message_fields pool m) g found) ∙ self_equal n)
     ∙ sym (ap (λ (b : Bool). b && declared (field_numbered n (message_fields pool m))) (fits_any-found pool m (record_at n p) g rules found)
     ∙ ap (λ (e : Option FieldView). fits_type g (wire_type p) && declared e) found)
   where
     declared : Option FieldView → Bool
     declared e = not (is_undeclared pool (closed_of e) p)
 
--- a record that counts for another member of a field's oneof
+-- a record of a field that shares the target's oneof ends what was found just where it counts for that field
 pub rival_counts :
-    (pool : Types) (m n o : ℕ) (f g : FieldView) (p : Payload) → IsPool pool → f.shape ≡ shape.OneofMember o → field_numbered n (message_fields pool m) ≡ Some g
-    → g.shape ≡ shape.OneofMember o → counts_for pool g (record_at g.number p) ≡ is_rival pool (message_fields pool m) f (record_at n p)
-rival_counts pool m n o f g p rules own found other =
-    counts_found pool m n g p rules found ∙ sym (ap (λ (b : Bool). b && counts pool (message_fields pool m) (record_at n p)) fellow)
+    (pool : Types) (m n : ℕ) (f g : FieldView) (p : Payload) → IsPool pool → field_numbered n (message_fields pool m) ≡ Some g
+    → shares_oneof f.shape (field_numbered n (message_fields pool m)) ≡ true
+    → counts_for pool g (record_at n p) ≡ is_rival pool (message_fields pool m) f (record_at n p)
+rival_counts pool m n f g p rules found shares =
+    counts_found pool m n g p rules found ∙ sym (ap (λ (b : Bool). b && counts pool (message_fields pool m) (record_at n p)) shares)
+
+-- a field that shares a oneof holds one value
+pub fellow_single : (s : Shape) (g : FieldView) → shares_oneof s (Some g) ≡ true → is_single g.shape ≡ true
+fellow_single shape.Implicit g e = absurd (cc)
+fellow_single shape.Explicit g e = absurd (cc)
+fellow_single (shape.OneofMember o) g e = by_shape g.shape e
   where
-    fellow : shares_oneof f.shape (field_numbered n (message_fields pool m)) ≡ true
-    fellow = ap (λ (s : Shape). shares_oneof s (field_numbered n (message_fields pool m))) own ∙ ap (shares_oneof (shape.OneofMember o)) found ∙ ap (is_member o) other ∙ self_equal o
+    by_shape : (t : Shape) → is_member o t ≡ true → is_single t ≡ true
+    by_shape shape.Implicit e = absurd (cc)
+    by_shape shape.Explicit e = absurd (cc)
+    by_shape (shape.OneofMember q) e = refl
+    by_shape (shape.List p) e = absurd (cc)
+    by_shape (shape.Map key) e = absurd (cc)
+fellow_single (shape.List p) g e = absurd (cc)
+fellow_single (shape.Map key) g e = absurd (cc)
 
 -- a target is a field of its number that holds one value
 pub target_is : (pool : Types) (m n : ℕ) (f : FieldView) → target pool m n ≡ Some f → (field_numbered n (message_fields pool m) ≡ Some f) × (is_single f.shape ≡ true)
@@ -57,43 +71,27 @@ target_is pool m n f e = by_field (field_numbered n (message_fields pool m)) ref
         by_test false w z = absurd (cc)
         by_test true w z = let same : g ≡ f = cc in (at ∙ ap (λ (h : FieldView). Some h) same, ap (λ (h : FieldView). is_single h.shape) (sym same) ∙ w)
 
--- a record of the target's number that doesn't count leaves what was found
-pub found_stays :
-    (pool : Types) (m n : ℕ) (rest : List ℕ) (f : FieldView) (x : Option Scalar) (p : Payload) → IsPool pool → target pool m f.number ≡ Some f → n ≡ f.number
-    → counts_for pool f (record_at f.number p) ≡ false → x ≡ after_record (found pool rest) pool m rest f x (record_at n p)
-found_stays pool m n rest f x p rules at is none =
-    sym (ap (λ (k : ℕ). after_record (found pool rest) pool m rest f x (record_at k p)) is
-    ∙ ap
-    (λ (b : Bool). if b then after_payload (found pool rest) rest f x p else (if is_rival pool (message_fields pool m) f (record_at f.number p) then None else x))
-    none
-    ∙ ap (λ (b : Bool). if b then None else x) rival)
-  where
-    unknown : counts pool (message_fields pool m) (record_at f.number p) ≡ false
-    unknown = sym (counts_found pool m f.number f p rules (target_is pool m f.number f at).0) ∙ none
-
-    and_false : (b : Bool) → (b && false) ≡ false
-    and_false true = refl
-    and_false false = refl
-
-    rival : is_rival pool (message_fields pool m) f (record_at f.number p) ≡ false
-    rival =
-        ap (λ (b : Bool). shares_oneof f.shape (field_numbered f.number (message_fields pool m)) && b) unknown ∙ and_false (shares_oneof f.shape (field_numbered f.number (message_fields pool m)))
-
 -- a target is that of its own number
 pub target_own : (pool : Types) (m n : ℕ) (f : FieldView) → target pool m n ≡ Some f → target pool m f.number ≡ Some f
 target_own pool m n f e = ap (λ (k : ℕ). target pool m k) (found_number n (message_fields pool m) f (target_is pool m n f e).0) ∙ e
 
--- ---- where a path leads
+-- it is the field that has the number, if that holds one value
+pub target_from : (pool : Types) (m n : ℕ) (f : FieldView) → field_numbered n (message_fields pool m) ≡ Some f → is_single f.shape ≡ true → target pool m n ≡ Some f
+target_from pool m n f e single = ap if_single e ∙ ap (λ (b : Bool). if b then Some f else None) single
 
+pub single_by : (s : Shape) → ((p : Bool) → s ≡ shape.List p → ⊥) → ((k : Kind) → s ≡ shape.Map k → ⊥) → is_single s ≡ true
+single_by shape.Implicit no_list no_map = refl
+single_by shape.Explicit no_list no_map = refl
+single_by (shape.OneofMember o) no_list no_map = refl
+single_by (shape.List p) no_list no_map = absurd (no_list p refl)
+single_by (shape.Map k) no_list no_map = absurd (no_map k refl)
+
+-- where a path leads to a field
 pub found_at :
     (pool : Types) (m n : ℕ) (path rest : List ℕ) (f : FieldView) (x : Option Scalar) (rs : List Record) → path ≡ n ∷ rest → target pool m n ≡ Some f
     → after_records (found pool rest) pool m rest (Some f) x rs ≡ found pool path m x rs
 found_at pool m n path rest f x rs is at =
     sym (ap (λ (p : List ℕ). found pool p m x rs) is ∙ ap (λ (o : Option FieldView). after_records (found pool rest) pool m rest o x rs) at)
-
-pub found_here : (pool : Types) (m : ℕ) (path : List ℕ) (x : Option Scalar) (rs : List Record) → length path ≡ 0 → x ≡ found pool path m x rs
-found_here pool m [] x rs e = refl
-found_here pool m (n ∷ rest) x rs e = absurd (omega (arith, e))
 
 -- ---- how records of a target are read
 
@@ -147,15 +145,6 @@ message_type_of k t w is fit no_group = absurd (cc)
 
 -- ---- what one record does
 
-not_equal : (a b : ℕ) → a ≢ b → (a == b) ≡ false
-not_equal a b differ = grind (arith, nat_tests, differ)
-
--- what is found after the payload of a message is what is found of the records inside
-pub found_inside :
-    (pool : Types) (rest : List ℕ) (f : FieldView) (x : Option Scalar) (t : ℕ) (p : Payload) → message_of_kind f.kind ≡ Some t
-    → found pool rest t x (records_inside p) ≡ after_payload (found pool rest) rest f x p
-found_inside pool rest f x t p is = sym (ap (λ (o : Option ℕ). after_typed (found pool rest) o rest f x p) is)
-
 single_closed : (s : Shape) (k : Kind) → is_single s ≡ true → closed_shaped s k ≡ closed_enum k
 single_closed shape.Implicit k e = refl
 single_closed shape.Explicit k e = refl
@@ -163,91 +152,83 @@ single_closed (shape.OneofMember o) k e = refl
 single_closed (shape.List p) k e = absurd (cc)
 single_closed (shape.Map key) k e = absurd (cc)
 
-closed_message : (k : Kind) (t : ℕ) → message_of_kind k ≡ Some t → closed_enum k ≡ None
+pub closed_message : (k : Kind) (t : ℕ) → message_of_kind k ≡ Some t → closed_enum k ≡ None
 closed_message (kind.Message j) t e = refl
 closed_message (kind.Group j) t e = refl
 closed_message k t e = absurd (cc)
 
--- a record of the target's number
-module _ (pool : Types) (m k : ℕ) (rest : List ℕ) (f : FieldView) (x : Option Scalar) (p : Payload) (at : target pool m f.number ≡ Some f) (own : k ≡ f.number) where
+-- which records count for a field of one value
+module _ (pool : Types) (k : ℕ) (f : FieldView) (p : Payload) (single : is_single f.shape ≡ true) where
+  fits_own : fits_type f (wire_type p) ≡ (wire_type p == wire_type_of f.kind)
+  fits_own = single_type f.shape f.kind (wire_type p) single
+
+  pub counts_is :
+      counts_for pool f (record_at k p) ≡ (((k == f.number) && (wire_type p == wire_type_of f.kind)) && not (is_undeclared pool (closed_enum f.kind) p))
+  counts_is =
+      ap (λ (b : Bool). ((k == f.number) && b) && not (is_undeclared pool (closed_of (Some f)) p)) fits_own
+      ∙ ap (λ (o : Option ℕ). ((k == f.number) && (wire_type p == wire_type_of f.kind)) && not (is_undeclared pool o p)) (single_closed f.shape f.kind single)
+
+  -- it is of the field's number and wire type
+  pub counts_fits : counts_for pool f (record_at k p) ≡ true → (k ≡ f.number) × (wire_type p ≡ wire_type_of f.kind)
+  counts_fits e =
+      let parts = both ((k == f.number) && (wire_type p == wire_type_of f.kind)) (not (is_undeclared pool (closed_enum f.kind) p)) (sym counts_is ∙ e) in
+      let own = both (k == f.number) (wire_type p == wire_type_of f.kind) parts.0 in (number_is k f.number own.0, number_is (wire_type p) (wire_type_of f.kind) own.1)
+
+  -- and one of an open type that is of these counts
+  pub counts_open : k ≡ f.number → wire_type p ≡ wire_type_of f.kind → closed_enum f.kind ≡ None → counts_for pool f (record_at k p) ≡ true
+  counts_open number fits open_enum =
+      counts_is ∙ ap (λ (b : Bool). (b && (wire_type p == wire_type_of f.kind)) && not (is_undeclared pool (closed_enum f.kind) p)) (ap (λ (n : ℕ). k == n) (sym number) ∙ self_equal k)
+      ∙ ap (λ (b : Bool). b && not (is_undeclared pool (closed_enum f.kind) p)) (ap (λ (n : ℕ). wire_type p == n) (sym fits) ∙ self_equal (wire_type p))
+      ∙ ap (λ (o : Option ℕ). not (is_undeclared pool o p)) open_enum
+
+-- what is found after a record
+module _ (pool : Types) (m k : ℕ) (rest : List ℕ) (f : FieldView) (x : Option Scalar) (p : Payload) where
   abbrev result : Option Scalar
   result = after_record (found pool rest) pool m rest f x (record_at k p)
 
-  single : is_single f.shape ≡ true
-  single = (target_is pool m f.number f at).1
-
-  fits : wire_type p ≡ wire_type_of f.kind → fits_type f (wire_type p) ≡ true
-  fits e = single_type f.shape f.kind (wire_type p) single ∙ ap (λ (n : ℕ). n == wire_type_of f.kind) e ∙ self_equal (wire_type_of f.kind)
-
-  counts_by : (e : Option ℕ) → closed_enum f.kind ≡ e → counts_for pool f (record_at f.number p) ≡ (fits_type f (wire_type p) && not (is_undeclared pool e p))
-  counts_by e is =
-      ap (λ (b : Bool). (b && fits_type f (wire_type p)) && not (is_undeclared pool (closed_of (Some f)) p)) (self_equal f.number)
-      ∙ ap (λ (o : Option ℕ). fits_type f (wire_type p) && not (is_undeclared pool o p)) (single_closed f.shape f.kind single ∙ is)
+  abbrev ended : Option Scalar
+  ended = if is_rival pool (message_fields pool m) f (record_at k p) then None else x
 
   -- that counts
-  counting : counts_for pool f (record_at f.number p) ≡ true → after_payload (found pool rest) rest f x p ≡ result
-  counting e =
-      sym (ap (λ (n : ℕ). after_record (found pool rest) pool m rest f x (record_at n p)) own
-      ∙ ap
-      (λ (b : Bool). if b then after_payload (found pool rest) rest f x p else (if is_rival pool (message_fields pool m) f (record_at f.number p) then None else x))
-      e)
+  counting : counts_for pool f (record_at k p) ≡ true → after_payload (found pool rest) rest f x p ≡ result
+  counting e = sym (ap (λ (b : Bool). if b then after_payload (found pool rest) rest f x p else ended) e)
 
-  fitting : wire_type p ≡ wire_type_of f.kind → closed_enum f.kind ≡ None → counts_for pool f (record_at f.number p) ≡ true
-  fitting e open_enum = counts_by None open_enum ∙ ap (λ (b : Bool). b && true) (fits e)
+  pub message_counts : (t : ℕ) → message_of_kind f.kind ≡ Some t → counts_for pool f (record_at k p) ≡ true → found pool rest t x (records_inside p) ≡ result
+  message_counts t is e = sym (ap (λ (o : Option ℕ). after_typed (found pool rest) o rest f x p) is) ∙ counting e
 
-  -- a message
-  pub own_message : (t : ℕ) → message_of_kind f.kind ≡ Some t → wire_type p ≡ wire_type_of f.kind → found pool rest t x (records_inside p) ≡ result
-  own_message t is e = found_inside pool rest f x t p is ∙ counting (fitting e (closed_message f.kind t is))
-
-  -- a scalar where the path ends, and where it goes on
-  pub own_scalar : message_of_kind f.kind ≡ None → length rest ≡ 0 → counts_for pool f (record_at f.number p) ≡ true → option_and_then (kept f.shape) (read f.kind p) ≡ result
-  own_scalar is ends e = by_rest rest refl ends ∙ counting e
+  pub scalar_counts :
+      message_of_kind f.kind ≡ None → length rest ≡ 0 → counts_for pool f (record_at k p) ≡ true → option_and_then (kept f.shape) (read f.kind p) ≡ result
+  scalar_counts is ends e = by_rest rest refl ends ∙ counting e
     where
       by_rest : (l : List ℕ) → rest ≡ l → length rest ≡ 0 → option_and_then (kept f.shape) (read f.kind p) ≡ after_payload (found pool rest) rest f x p
       by_rest [] same ends =
           sym (ap (λ (o : Option ℕ). after_typed (found pool rest) o rest f x p) is ∙ ap (λ (l : List ℕ). after_typed (found pool rest) None l f x p) same)
       by_rest (n ∷ l) same ends = absurd (let more : length rest ≡ length (n ∷ l) = ap length same in omega (arith, more, ends))
 
-  pub own_string : (s : List ℕ) → f.kind ≡ kind.Text → length rest ≡ 0 → p ≡ len s → kept f.shape (text s) ≡ result
-  own_string s is ends same =
-      ap (option_and_then (kept f.shape)) (sym (ap (read f.kind) same ∙ ap (λ (k : Kind). read k (len s)) is))
-      ∙ own_scalar (ap message_of_kind is) ends (fitting (ap wire_type same ∙ sym (ap wire_type_of is)) (ap closed_enum is))
-
-  pub own_past : IsPool pool → message_of_kind f.kind ≡ None → length rest ≢ 0 → x ≡ result
-  own_past rules is more = by_count (counts_for pool f (record_at f.number p)) refl
+  pub scalar_before : message_of_kind f.kind ≡ None → length rest ≢ 0 → counts_for pool f (record_at k p) ≡ true → x ≡ result
+  scalar_before is more e = by_rest rest refl ∙ counting e
     where
       by_rest : (l : List ℕ) → rest ≡ l → x ≡ after_payload (found pool rest) rest f x p
       by_rest [] same = absurd (more (ap length same))
       by_rest (n ∷ l) same =
           sym (ap (λ (o : Option ℕ). after_typed (found pool rest) o rest f x p) is ∙ ap (λ (l : List ℕ). after_typed (found pool rest) None l f x p) same)
 
-      by_count : (b : Bool) → counts_for pool f (record_at f.number p) ≡ b → x ≡ result
-      by_count true e = by_rest rest refl ∙ counting e
-      by_count false e = found_stays pool m k rest f x p rules at own e
+  -- that doesn't count
+  not_counting : counts_for pool f (record_at k p) ≡ false → ended ≡ result
+  not_counting e = sym (ap (λ (b : Bool). if b then after_payload (found pool rest) rest f x p else ended) e)
 
-  -- one that doesn't fit
-  pub own_other_type : IsPool pool → wire_type p ≢ wire_type_of f.kind → x ≡ result
-  own_other_type rules differ = found_stays pool m k rest f x p rules at own (counts_by (closed_enum f.kind) refl ∙ ap (λ (b : Bool). b && not (is_undeclared pool (closed_enum f.kind) p)) misfit)
-    where
-      misfit : fits_type f (wire_type p) ≡ false
-      misfit = single_type f.shape f.kind (wire_type p) single ∙ not_equal (wire_type p) (wire_type_of f.kind) differ
+  pub rival_ends : counts_for pool f (record_at k p) ≡ false → is_rival pool (message_fields pool m) f (record_at k p) ≡ true → None ≡ result
+  rival_ends none e = sym (ap (λ (b : Bool). if b then None else x) e) ∙ not_counting none
 
--- a record of another number
-module _ (pool : Types) (m k : ℕ) (rest : List ℕ) (f : FieldView) (x : Option Scalar) (p : Payload) (other : k ≢ f.number) where
-  after_other : (if is_rival pool (message_fields pool m) f (record_at k p) then None else x) ≡ after_record (found pool rest) pool m rest f x (record_at k p)
-  after_other =
-      sym (ap
-      (λ (b : Bool). if (b && fits_type f (wire_type p)) && not (is_undeclared pool (closed_of (Some f)) p) then after_payload (found pool rest) rest f x p else (if is_rival pool (message_fields pool m) f (record_at k p) then None else x))
-      (not_equal k f.number other))
+  pub other_stays : counts_for pool f (record_at k p) ≡ false → is_rival pool (message_fields pool m) f (record_at k p) ≡ false → x ≡ result
+  other_stays none e = sym (ap (λ (b : Bool). if b then None else x) e) ∙ not_counting none
 
-  pub rival_ends : is_rival pool (message_fields pool m) f (record_at k p) ≡ true → None ≡ after_record (found pool rest) pool m rest f x (record_at k p)
-  rival_ends e = sym (ap (λ (b : Bool). if b then None else x) e) ∙ after_other
+  pub no_fellow_stays : counts_for pool f (record_at k p) ≡ false → shares_oneof f.shape (field_numbered k (message_fields pool m)) ≡ false → x ≡ result
+  no_fellow_stays none e = other_stays none (ap (λ (b : Bool). b && counts pool (message_fields pool m) (record_at k p)) e)
 
-  pub other_stays : is_rival pool (message_fields pool m) f (record_at k p) ≡ false → x ≡ after_record (found pool rest) pool m rest f x (record_at k p)
-  other_stays e = sym (ap (λ (b : Bool). if b then None else x) e) ∙ after_other
-
-  pub stranger_stays : shares_oneof f.shape (field_numbered k (message_fields pool m)) ≡ false → x ≡ after_record (found pool rest) pool m rest f x (record_at k p)
-  stranger_stays e = other_stays (ap (λ (b : Bool). b && counts pool (message_fields pool m) (record_at k p)) e)
+  pub stranger_stays : k ≢ f.number → shares_oneof f.shape (field_numbered k (message_fields pool m)) ≡ false → x ≡ result
+  stranger_stays other e =
+      no_fellow_stays (ap (λ (b : Bool). (b && fits_type f (wire_type p)) && not (is_undeclared pool (closed_of (Some f)) p)) (not_equal k f.number other)) e
 
 pub not_nothing : (n : ℕ) → (n == 0) ≡ false → n ≢ 0
 not_nothing n e = grind (arith, nat_tests, e)

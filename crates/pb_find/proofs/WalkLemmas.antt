@@ -1,9 +1,10 @@
 -- Records that are read and looked through at once: whole ones, and what refuses the others.
-use Rattle.std.proofs.Common.{◌≡◌, ◌≢◌, ℕ, zero, suc, ◌-◌, ◌<◌, ◌≤◌, ◌^◌, List, [], ◌∷◌, ◌++◌, length, take, drop, refl, sym, ap, subst, ◌∙◌, arith, length-drop, Option, Some, None, inl, inr, ⊎_elim, IsUtf8}
-use Rattle.std.specs.Prelude.{IfSome, fold}
+use Rattle.std.proofs.Common.{◌≡◌, ◌≢◌, ℕ, zero, suc, ◌+◌, ◌*◌, ◌-◌, ◌<◌, ◌≤◌, ◌^◌, List, [], ◌∷◌, ◌++◌, length, take, drop, refl, sym, ap, subst, ◌∙◌, arith, length-drop, Option, Some, None, inl, inr, ⊎_elim, IsUtf8}
+use Rattle.std.specs.Borrow.{Bor}
+use Rattle.std.specs.Prelude.{true, false, is_some, option_and_then, IfSome, MatchOption}
 use Rattle.std.proofs.lemmas.List.{take_all, take_at, drop_all, length-take, append-nil}
-use Rattle.std.proofs.lemmas.List.Sums.{fold-append}
 use Rattle.pb_wire.specs.Record.{Payload, varint, fixed64, len, group, fixed32, Record, group_of, wire_type}
+use Rattle.pb_wire.specs.Inside.{records_inside}
 use Rattle.pb_wire.specs.Spell.{Body, AreRecords}
 use Rattle.pb_wire.specs.Fault.{Place, Moves, Leads, HasTag, HasLength, Fault, TagFault}
 use Rattle.pb_wire.specs.Schema.{Schema, records, in_group, message, text}
@@ -16,36 +17,61 @@ use Rattle.pb_wire.proofs.OneFault.{not_both, no_tag_at_end}
 use Rattle.pb_wire.proofs.Places.{fewer, moves_from, moves_split}
 use Rattle.pb_wire.proofs.ReadingLemmas.{moves_both, SpellsGroup-from_records}
 use Rattle.pb_wire.proofs.Tokens.{ends_some, one_tag, one_length, length_not_both, cut_not_both}
-use Rattle.pb_schema.specs.Types.{Types}
+use Rattle.pb_schema.specs.declared.types.Kind.{Kind}
+use Rattle.pb_schema.specs.declared.types.Kind.TheVariants.{Text}
+use Rattle.pb_schema.specs.Kinds.{wire_type_of, message_of_kind, closed_enum, read}
+use Rattle.pb_schema.specs.Types.{FieldView, Types, message_fields, field_numbered}
 use Rattle.pb_schema.specs.Context.{Context, a_message, schema_of}
-use Rattle.pb_schema.specs.Scalar.{Scalar}
+use Rattle.pb_schema.specs.Scalar.{Scalar, text as a_text}
 use Rattle.pb_schema.specs.View.{field_view}
 use Rattle.pb_validate.specs.Here.{here}
 use Rattle.pb_validate.specs.Judging.{Front, ReadsAll, ReadsValue, opened}
 use Rattle.pb_validate.specs.Payloads.{UnreadFault}
 use Rattle.pb_validate.proofs.HereLemmas.{payload_between}
 use Rattle.pb_validate.proofs.JudgeLemmas.{front_none, front_push, records_between, blank_sound, begins_given, tag_refused, message_sound}
-use Rattle.pb_find.specs.declared.target.Target.{Target}
-use Rattle.pb_find.specs.Found.{found, after_record}
+use Rattle.pb_wire.specs.declared.scan_at.RecordTag.{RecordTag}
+use Rattle.pb_find.specs.declared.level.Target.{Target}
+use Rattle.pb_find.specs.declared.level.Level.{Level}
 use Rattle.pb_find.specs.Loops.{IsOne}
-use Rattle.pb_find.specs.Walk.{record_at, after_target, NoRecord, Breaks}
+use Rattle.pb_find.specs.Found.{is_single, target, counts_for, kept, after_record, found}
+use Rattle.pb_find.specs.Walk.{record_at, CanRead, IsAfterTag, IsRecord, LeadsInto, IsPlain, NoRecord, Breaks, after_target, after}
+use Rattle.pb_find.proofs.TargetLemmas.{target_is, message_type_of, reads_message, reads_group, counts_fits, counts_open, closed_message, message_counts, scalar_counts}
 
-pub some_map : {A : Type 0} (r : Option A) (P Q : A → Type 0) → ((a : A) → P a → Q a) → IfSome r P → IfSome r Q
-some_map None P Q f h = tt
-some_map (Some a) P Q f h = f a h
+-- how much of a path is left, with the field that it leads to
+abbrev pub path_left : Option Target → ℕ
+path_left None = 0
+path_left (Some t) = suc (length t.rest.now)
 
--- ---- what was found, after one more record
+-- the next target is one of less
+pub path_falls :
+    (o s : Option Target) (t : Target) → o ≡ Some t → IfSome s (λ u. length u.rest.now < length t.rest.now) → 4 * path_left s + 3 < 4 * path_left o
+path_falls o None t is shorter = rw is (omega arith)
+path_falls o (Some u) t is shorter = rw is (omega (arith, shorter))
 
-pub one_more :
-    (pool : Types) (m : ℕ) (path : List ℕ) (t : Option Target) (own : Target) (x y z : Option Scalar) (rs : List Record) (r : Record) → t ≡ Some own
-    → ((x : Option Scalar) (rs : List Record) → after_target pool m t x rs ≡ found pool path m x rs) → y ≡ found pool path m x rs
-    → z ≡ after_record (found pool own.rest.now) pool m own.rest.now (field_view own.field.now) y r
-    → z ≡ found pool path m x (rs ++ r ∷ [])
-one_more pool m path t own x y z rs r is same so_far next =
-    let step : Option Scalar → Record → Option Scalar = after_record (found pool own.rest.now) pool m own.rest.now (field_view own.field.now) in
-    let before : y ≡ fold step x rs = so_far ∙ sym (same x rs) ∙ ap (λ (o : Option Target). after_target pool m o x rs) is in
-    next ∙ ap (λ (w : Option Scalar). step w r) before ∙ sym (fold-append step x rs (r ∷ []))
-    ∙ sym (ap (λ (o : Option Target). after_target pool m o x (rs ++ r ∷ [])) is) ∙ same x (rs ++ r ∷ [])
+-- ---- what is there, or is not
+
+pub match_by :
+    {A : Type 0} (r : Option A) (N : Type 0) (P Q R : A → Type 0) → ((a : A) → P a → Q a → R a) → IfSome r P → IfSome r Q → (r ≡ None → N) → MatchOption r N R
+match_by None N P Q R f p q n = n refl
+match_by (Some a) N P Q R f p q n = f a p q
+
+-- ---- what holds where there is something implies what follows from it
+
+pub some_more : {A : Type 0} (r : Option A) (P : Type 0) (Q R : A → Type 0) → ((a : A) → Q a → R a) → MatchOption r P Q → MatchOption r P R
+some_more None P Q R f h = h
+some_more (Some a) P Q R f h = f a h
+
+pub at_none : {A : Type 0} (r : Option A) (P : Type 0) (Q : A → Type 0) → r ≡ None → P → MatchOption r P Q
+at_none None P Q e h = h
+at_none (Some a) P Q e h = absurd (cc)
+
+pub where_none : {A : Type 0} (r : Option A) (P : Type 0) (Q : A → Type 0) → is_some r ≡ false → MatchOption r P Q → P
+where_none None P Q e h = h
+where_none (Some a) P Q e h = absurd (cc)
+
+pub map_match : {A : Type 0} (r : Option A) (P O : Type 0) (Q R : A → Type 0) → (P → O) → ((a : A) → Q a → R a) → MatchOption r P Q → MatchOption r O R
+map_match None P O Q R f g h = f h
+map_match (Some a) P O Q R f g h = g a h
 
 -- ---- no record
 
@@ -112,6 +138,19 @@ one_alone pool m levels k w b at start end payload small most tag value =
       },
       refl,
     )
+
+pub only_record :
+    (l : Level) (tag : RecordTag) (end : ℕ) → IsAfterTag l tag → (h : (p : Payload) × IsRecord l tag p end)
+    → (one : IsOne (take (end - tag.at) (drop tag.at l.bytes.now))) × (one.only ≡ record_at tag.number h.0)
+only_record l tag end a h =
+    one_alone l.pool.now l.message_type.0 l.levels tag.number tag.wire_type l.bytes.now tag.at tag.end end h.0 a.can.small a.can.levels a.is_tag h.1.value
+
+-- the payload that is read of it is that of the record
+pub payload_read :
+    (l : Level) (tag : RecordTag) (end : ℕ) (payload : Payload) → IsAfterTag l tag → (p : Payload) × IsRecord l tag p end
+    → ((one : IsOne (take (end - tag.at) (drop tag.at l.bytes.now))) → payload ≡ one.only.payload) → IsRecord l tag payload end
+payload_read l tag end payload a h is =
+    let one = only_record l tag end a h in subst (λ (p : Payload). IsRecord l tag p end) (sym (is one.0 ∙ ap (λ (r : Record). r.payload) one.1)) h.1
 
 -- ---- messages and groups
 
@@ -259,3 +298,63 @@ no_string pool m levels k w p is_len read none payload q v = by_payload payload 
     by_payload (fixed64 n) e v = absurd (omega (arith, e, is_len))
     by_payload (fixed32 n) e v = absurd (omega (arith, e, is_len))
     by_payload (group g) e v = absurd (omega (arith, e, is_len))
+
+-- ---- a message on the path
+
+module _ (l : Level) (tag : RecordTag) (t : ℕ) (rest : Bor (List ℕ)) (can : CanRead l) (leads : LeadsInto l tag t rest) where
+  own : target l.pool.now l.message_type.0 leads.field.now.number ≡ Some (field_view leads.field.now)
+  own = rw leads.is at can.own
+
+  is : (field_numbered leads.field.now.number (message_fields l.pool.now l.message_type.0) ≡ Some (field_view leads.field.now)) × (is_single leads.field.now.shape ≡ true)
+  is = target_is l.pool.now l.message_type.0 leads.field.now.number (field_view leads.field.now) own
+
+  pub leads_number_two : tag.wire_type ≢ 3 → tag.wire_type ≡ 2
+  leads_number_two no_group = message_type_of leads.field.now.kind t tag.wire_type leads.inner leads.fits no_group
+
+  pub leads_group : tag.wire_type ≡ 3 → (schema_of l.pool.now).group_context (a_message l.message_type.0) tag.number ≡ a_message t
+  leads_group is_group =
+      rw leads.number (reads_group l.pool.now l.message_type.0 (field_view leads.field.now) is.0 is.1 t tag.wire_type leads.inner leads.fits is_group)
+
+  pub leads_message : tag.wire_type ≢ 3 → (schema_of l.pool.now).reading (a_message l.message_type.0) tag.number ≡ message (a_message t)
+  leads_message no_group =
+      rw leads.number (reads_message l.pool.now l.message_type.0 (field_view leads.field.now) is.0 is.1 t tag.wire_type leads.inner leads.fits no_group)
+
+  -- what is found of the records inside is what is found after the record
+  pub inside_found : (x : Option Scalar) (p : Payload) → wire_type p ≡ tag.wire_type → found l.pool.now rest.now t x (records_inside p) ≡ after l x (record_at tag.number p ∷ [])
+  inside_found x p typed =
+      message_counts l.pool.now l.message_type.0 tag.number rest.now (field_view leads.field.now) x p t leads.inner
+      (counts_open l.pool.now tag.number (field_view leads.field.now) p is.1 leads.number (typed ∙ leads.fits) (closed_message leads.field.now.kind t leads.inner))
+      ∙ sym (ap (λ (o : Option Target). after_target l.pool.now l.message_type.0 o x (record_at tag.number p ∷ [])) leads.is)
+
+-- ---- a target where its path ends, or goes on
+
+module _ (l : Level) (own : Target) (k : ℕ) (x : Option Scalar) (p : Payload) (is : l.target ≡ Some own) (can : CanRead l) where
+  abbrev field : FieldView
+  field = field_view own.field.now
+
+  at_target : target l.pool.now l.message_type.0 own.field.now.number ≡ Some field
+  at_target = rw is at can.own
+
+  pub own_single : is_single own.field.now.shape ≡ true
+  own_single = (target_is l.pool.now l.message_type.0 own.field.now.number field at_target).1
+
+  -- what one record makes of what was found
+  pub after_one :
+      after_record (found l.pool.now own.rest.now) l.pool.now l.message_type.0 own.rest.now field x (record_at k p) ≡ after l x (record_at k p ∷ [])
+  after_one = sym (ap (λ (o : Option Target). after_target l.pool.now l.message_type.0 o x (record_at k p ∷ [])) is)
+
+  -- a plain record that counts is a scalar
+  pub plain_counts :
+      (tag : RecordTag) → tag.number ≡ k → IsPlain l tag → tag.wire_type ≡ wire_type p → counts_for l.pool.now field (record_at k p) ≡ true
+      → (message_of_kind own.field.now.kind ≡ None) × (length own.rest.now ≡ 0 → own.field.now.kind ≢ Text)
+  plain_counts tag same plain typed e =
+      let fits = counts_fits l.pool.now k field p own_single e in (rw is at plain) (same ∙ fits.0) (typed ∙ fits.1)
+
+pub string_found :
+    (l : Level) (own : Target) (k : ℕ) (x : Option Scalar) (s : List ℕ) → l.target ≡ Some own → CanRead l → k ≡ own.field.now.number → own.field.now.kind ≡ Text
+    → length own.rest.now ≡ 0 → kept own.field.now.shape (a_text s) ≡ after l x (record_at k (len s) ∷ [])
+string_found l own k x s is can number of_text ends =
+    sym (ap (λ (e : Kind). option_and_then (kept own.field.now.shape) (read e (len s))) of_text)
+    ∙ scalar_counts l.pool.now l.message_type.0 k own.rest.now (field_view own.field.now) x (len s) (ap message_of_kind of_text) ends
+    (counts_open l.pool.now k (field_view own.field.now) (len s) (own_single l own k x (len s) is can) number (sym (ap wire_type_of of_text)) (ap closed_enum of_text))
+    ∙ after_one l own k x (len s) is can

@@ -9,8 +9,8 @@ ghost use Rattle.pb_decode.specs.Push.{IsFaultOf, Tells};
 ghost use Rattle.pb_find.specs.ScalarAt.{scalar_at, message_of, IsFound};
 ghost use Rattle.pb_find.specs.View.{found_view};
 
+use crate::level::{Level, target_of};
 use crate::scalar_ref::ScalarRef;
-use crate::walking::{Level, walk};
 use pb_decode::DecodeError;
 use pb_schema::{MessageId, Pool};
 use pb_validate::find_fault;
@@ -41,24 +41,9 @@ pub fn find<'a>(
     if let Some(found) = found_in_message(alloc, pool, message_type, bytes, limits, path) {
         return Ok(found);
     }
-    Err(refusal(alloc, pool, message_type, bytes, limits))
-}
-
-/// Why bytes that are no message of the type are refused.
-fn refusal(
-    alloc: Global,
-    pool: &Pool,
-    message_type: MessageId,
-    bytes: &[u8],
-    limits: Limits,
-) -> DecodeError
-    requires within { message_type.0 < length pool.now.messages }
-    requires none { (v : Message) → Text pool.now message_type.0 limits bytes.now v → ⊥ }
-    ensures { IfFault result (IsFaultOf pool.now message_type.0 limits bytes.now) }
-{
     match find_fault(alloc, pool, message_type, bytes, limits) {
-        Err(RawError::Fault { byte, path, cause }) => DecodeError::Fault { byte, path, cause },
-        Err(RawError::Memory) => DecodeError::Memory,
+        Err(RawError::Fault { byte, path, cause }) => Err(DecodeError::Fault { byte, path, cause }),
+        Err(RawError::Memory) => Err(DecodeError::Memory),
         Ok(()) => unreachable!(),
     }
 }
@@ -77,16 +62,19 @@ fn found_in_message<'a>(
     ensures none { result ≡ None → (v : Message) → Text pool.now message_type.0 limits bytes.now v → ⊥ }
 {
     let _types = pool.messages();
-    let most = limits.max_bytes();
     let levels = limits.max_depth();
-    if bytes.len() > most as usize {
+    if bytes.len() > limits.max_bytes() as usize {
         return None;
     }
     let top = Level {
+        alloc,
+        pool,
+        bytes,
         message_type,
+        target: target_of(pool, message_type, path),
         group: None,
         levels,
     };
-    let (_, found) = walk(alloc, pool, bytes, 0, top, path, None)?;
+    let (_, found) = top.walk(0, None)?;
     Some(found)
 }

@@ -20,11 +20,10 @@
 
 mod finding;
 pub mod laws;
+mod level;
 mod passing;
 mod reading;
 mod scalar_ref;
-mod single;
-mod target;
 mod walking;
 
 pub use finding::find;

@@ -1,199 +1,171 @@
 //! A message that is read once: judged, and looked through for the scalar at a path.
 
-ghost use Rattle.std.specs.Prelude.{◌≡◌, ◌≤◌, ◌<◌, List, [], ◌∷◌, Some, None, true, false, length, IfSome};
-ghost use Rattle.pb_wire.specs.Record.{Record};
-ghost use Rattle.pb_wire.specs.Exact.{IsRead};
+ghost use Rattle.std.specs.Prelude.{◌≡◌, ◌≤◌, ◌<◌, None, true, false, length};
+ghost use Rattle.pb_wire.specs.RecordIter.{seen};
 ghost use Rattle.pb_schema.specs.View.{field_view};
-ghost use Rattle.pb_schema.specs.Context.{a_message, schema_of};
-ghost use Rattle.pb_validate.specs.Here.{here};
-ghost use Rattle.pb_validate.specs.Judging.{opened, ReadsAll};
-ghost use Rattle.pb_find.specs.Found.{target as target_at, found as found_by, after_record};
-ghost use Rattle.pb_find.specs.Walk.{CanReadAt, IsAfterTag, LooksThrough, ReadsOne, NoRecord};
-ghost use Rattle.pb_find.specs.View.{found_view};
+ghost use Rattle.pb_find.specs.Found.{is_single, counts_for};
+ghost use Rattle.pb_find.specs.Loops.{record_of};
+ghost use Rattle.pb_find.specs.Walk.{CanReadAt, IsAfterTag, LeadsInto, IsPlain, IsTypeOf, LooksThrough, Finds};
 
-use crate::passing::{past_one, past_strangers};
+use crate::level::{Level, Passed, target_of};
+use crate::reading::{kept, only_payload, scalar_of, string_at};
 use crate::scalar_ref::ScalarRef;
-use crate::single::{other_found, scalar_found};
-use crate::target::{Target, target_of};
-use pb_schema::{MessageId, Pool};
-use pb_validate::{RecordTag, payload_at, record_end, tag_at};
-use std::alloc::Global;
+use pb_schema::{Field, Kind, MessageId};
+use pb_validate::{RecordTag, payload_at, tag_at};
+use pb_wire::Payload;
 
-/// Which records are read.
-#[derive(Clone, Copy)]
-pub(crate) struct Level {
-    pub message_type: MessageId,
-    /// The number of the group that they are in, if they are in one: its end tag ends them.
-    pub group: Option<u32>,
-    /// How many levels are left below them.
-    pub levels: u8,
-}
+impl<'a, 'p> Level<'a, 'p> {
+    /// Whether more is to be read: up to the end of the bytes, or in a group up to its end tag.
+    #[inline(always)]
+    fn goes_on(&self, at: usize) -> bool
+        ensures goes_on { result ≡ true → self.now.group ≡ None → at < length self.now.bytes.now }
+        ensures ends { result ≡ false → (self.now.group ≡ None) × (length self.now.bytes.now ≤ at) }
+    {
+        self.group.is_some() || at < self.bytes.len()
+    }
 
-/// Whether more is to be read: up to the end of the bytes, or in a group up to its end tag.
-#[inline(always)]
-fn goes_on(bytes: &[u8], at: usize, group: Option<u32>) -> bool
-    ensures goes_on { result ≡ true → group ≡ None → at < length bytes.now }
-    ensures ends { result ≡ false → (group ≡ None) × (length bytes.now ≤ at) }
-{
-    group.is_some() || at < bytes.len()
-}
+    /// Reads records up to their end: where that is, and what is found in them, after others in which this was found.
+    ///
+    /// Most records do not concern the path. A loop of its own reads past them.
+    #[cycle(walking)]
+    #[inline(always)]
+    pub(crate) fn walk(&self, at: usize, before: Option<ScalarRef<'a>>) -> Passed<'a>
+        requires { CanReadAt self.now at }
+        ensures { LooksThrough self.now at before.entry result }
+    {
+        let mut here = self.past_strangers(at)?;
+        let mut found = before;
+        'records: while self.goes_on(here) {
+            let Ok(tag) = tag_at(self.bytes, here, self.group, None) else {
+                return None;
+            };
+            if tag.wire_type == 4 {
+                return Some((tag.end, found));
+            }
+            let (end, after) = self.target_found(tag, found)?;
+            let next = self.past_strangers(end)?;
+            here = next;
+            found = after;
+        }
+        Some((here, found))
+    }
 
-/// Reads records up to their end: where that is, and what is found at a path in them, after others in which this was found. None where they
-/// have a fault.
-///
-/// Most records do not concern the path. A loop of its own reads past them.
-#[cycle(walking)]
-#[inline(always)]
-pub(crate) fn walk<'a>(
-    alloc: Global,
-    pool: &Pool,
-    bytes: &'a [u8],
-    at: usize,
-    level: Level,
-    path: &[u32],
-    before: Option<ScalarRef<'a>>,
-) -> Option<(usize, Option<ScalarRef<'a>>)>
-    requires { CanReadAt pool.now level bytes.now at }
-    ensures within { IfSome result (λ r. (at ≤ r.0) × (r.0 ≤ length bytes.now)) }
-    ensures some { IfSome result (λ r. LooksThrough pool.now level.message_type.0 level.group level.levels
-        (here bytes.now at None) (here bytes.now r.0 None) path.now (found_view before.entry) (found_view r.1)) }
-    ensures none { result ≡ None
-        → IsRead (schema_of pool.now) (opened level.group (a_message level.message_type.0)) level.levels (here bytes.now at None) → ⊥ }
-{
-    let target = target_of(pool, level.message_type, path);
-    let mut here = past_strangers(alloc, pool, bytes, at, level, target)?;
-    let mut found = before;
-    'records: while goes_on(bytes, here, level.group) {
-        let Ok(tag) = tag_at(bytes, here, level.group, None) else {
+    /// As `walk`, of what is nested.
+    #[cycle(walking)]
+    #[inline(never)]
+    fn walk_inside(&self, at: usize, before: Option<ScalarRef<'a>>) -> Passed<'a>
+        requires { CanReadAt self.now at }
+        ensures { LooksThrough self.now at before.entry result }
+    {
+        self.walk(at, before)
+    }
+
+    /// Reads a record after its tag: where it ends, and what is found after it.
+    ///
+    /// Few records concern the path. Apart from `walk`, its code is not in each caller.
+    #[cycle(walking)]
+    #[inline(never)]
+    fn target_found(&self, tag: RecordTag, before: Option<ScalarRef<'a>>) -> Passed<'a>
+        requires { IsAfterTag self.now tag }
+        ensures { Finds self.now tag before.entry result }
+    {
+        let Some(own) = self.target else {
+            return self.other_found(tag, before);
+        };
+        if tag.number != own.field.number || tag.wire_type != own.field.kind.wire_type() {
+            return self.other_found(tag, before);
+        }
+        if let Some(inner) = own.field.kind.message() {
+            return self.message_found(tag, inner, own.rest, before);
+        }
+        if own.rest.is_empty()
+            && let Kind::Text = own.field.kind
+        {
+            let (end, string) = string_at(self.bytes, tag.end)?;
+            return Some((end, kept(own.field.shape, Some(ScalarRef::Text(string)))));
+        }
+        self.other_found(tag, before)
+    }
+
+    /// Reads a message or a group on the path after its tag: where it ends, and what is found after it.
+    #[cycle(walking)]
+    fn message_found(
+        &self,
+        tag: RecordTag,
+        inner: MessageId,
+        rest: &'p [u32],
+        before: Option<ScalarRef<'a>>,
+    ) -> Passed<'a>
+        requires after { IsAfterTag self.now tag }
+        requires leads { LeadsInto self.now tag inner.0 rest }
+        ensures { Finds self.now tag before.entry result }
+    {
+        if self.levels == 0 {
+            return None;
+        }
+        let target = target_of(self.pool, inner, rest);
+        let inside = Level {
+            message_type: inner,
+            target,
+            levels: self.levels - 1,
+            ..*self
+        };
+        if tag.wire_type == 3 {
+            let group = Level {
+                group: Some(tag.number),
+                ..inside
+            };
+            return group.walk_inside(tag.end, before);
+        }
+        let Ok((start, end)) = payload_at(self.bytes, tag.end, None) else {
             return None;
         };
-        if tag.wire_type == 4 {
-            return Some((tag.end, found));
-        }
-        match target {
-            None => {
-                let past = past_one(alloc, pool, bytes, tag, level)?;
-                here = past;
-            }
-            Some(own) => {
-                let (end, after) = target_found(alloc, pool, bytes, tag, level, own, found)?;
-                let next = past_strangers(alloc, pool, bytes, end, level, target)?;
-                here = next;
-                found = after;
-            }
-        }
-    }
-    Some((here, found))
-}
-
-/// As `walk`, of what is nested.
-#[cycle(walking)]
-#[inline(never)]
-fn walk_inside<'a>(
-    alloc: Global,
-    pool: &Pool,
-    bytes: &'a [u8],
-    at: usize,
-    level: Level,
-    path: &[u32],
-    before: Option<ScalarRef<'a>>,
-) -> Option<(usize, Option<ScalarRef<'a>>)>
-    requires { CanReadAt pool.now level bytes.now at }
-    ensures within { IfSome result (λ r. (at ≤ r.0) × (r.0 ≤ length bytes.now)) }
-    ensures some { IfSome result (λ r. LooksThrough pool.now level.message_type.0 level.group level.levels
-        (here bytes.now at None) (here bytes.now r.0 None) path.now (found_view before.entry) (found_view r.1)) }
-    ensures none { result ≡ None
-        → IsRead (schema_of pool.now) (opened level.group (a_message level.message_type.0)) level.levels (here bytes.now at None) → ⊥ }
-{
-    walk(alloc, pool, bytes, at, level, path, before)
-}
-
-/// Reads a record after its tag, where a path leads to a field: where it ends, and what is found after it. None where it has a fault.
-///
-/// Few records concern that field. Apart from `walk`, its code is not in each caller.
-#[cycle(walking)]
-#[inline(never)]
-fn target_found<'a>(
-    alloc: Global,
-    pool: &Pool,
-    bytes: &'a [u8],
-    tag: RecordTag,
-    level: Level,
-    target: Target<'_>,
-    before: Option<ScalarRef<'a>>,
-) -> Option<(usize, Option<ScalarRef<'a>>)>
-    requires after { IsAfterTag pool.now level bytes.now tag }
-    requires own { target_at pool.now level.message_type.0 target.field.now.number ≡ Some (field_view target.field.now) }
-    ensures within { IfSome result (λ r. (tag.end ≤ r.0) × (r.0 ≤ length bytes.now)) }
-    ensures some { IfSome result (λ r. ReadsOne pool.now level.message_type.0 level.levels tag.number tag.wire_type
-        (here bytes.now tag.end None) (here bytes.now r.0 None)
-        (after_record (found_by pool.now target.entry.rest.now) pool.now level.message_type.0 target.entry.rest.now (field_view target.entry.field.now))
-        (found_view before.entry) (found_view r.1)) }
-    ensures none { result ≡ None → NoRecord pool.now level.message_type.0 level.levels tag.number tag.wire_type (here bytes.now tag.end None) }
-{
-    if tag.number == target.field.number {
-        own_found(alloc, pool, bytes, tag, level, target, before)
-    } else {
-        other_found(alloc, pool, bytes, tag, level, target, before)
-    }
-}
-
-/// Reads a record of the field that a path leads to, after its tag: where it ends, and what is found after it. None where it has a fault.
-#[cycle(walking)]
-fn own_found<'a>(
-    alloc: Global,
-    pool: &Pool,
-    bytes: &'a [u8],
-    tag: RecordTag,
-    level: Level,
-    own: Target<'_>,
-    before: Option<ScalarRef<'a>>,
-) -> Option<(usize, Option<ScalarRef<'a>>)>
-    requires after { IsAfterTag pool.now level bytes.now tag }
-    requires own { target_at pool.now level.message_type.0 own.field.now.number ≡ Some (field_view own.field.now) }
-    requires number { tag.number ≡ own.field.now.number }
-    ensures within { IfSome result (λ r. (tag.end ≤ r.0) × (r.0 ≤ length bytes.now)) }
-    ensures some { IfSome result (λ r. ReadsOne pool.now level.message_type.0 level.levels tag.number tag.wire_type
-        (here bytes.now tag.end None) (here bytes.now r.0 None)
-        (after_record (found_by pool.now own.entry.rest.now) pool.now level.message_type.0 own.entry.rest.now (field_view own.entry.field.now))
-        (found_view before.entry) (found_view r.1)) }
-    ensures none { result ≡ None → NoRecord pool.now level.message_type.0 level.levels tag.number tag.wire_type (here bytes.now tag.end None) }
-{
-    if tag.wire_type != own.field.kind.wire_type() {
-        let end = record_end(alloc, pool, level.message_type, level.levels, bytes, tag)?;
-        return Some((end, before));
-    }
-    let Some(inner) = own.field.kind.message() else {
-        return scalar_found(alloc, pool, bytes, tag, level, own, before);
-    };
-    if level.levels == 0 {
-        return None;
-    }
-    let levels = level.levels - 1;
-    if tag.wire_type == 3 {
-        let group = Level {
-            message_type: inner,
-            group: Some(tag.number),
-            levels,
+        let message = Level {
+            bytes: &self.bytes[start..end],
+            group: None,
+            ..inside
         };
-        return walk_inside(alloc, pool, bytes, tag.end, group, own.rest, before);
+        let (_, found) = message.walk_inside(0, before)?;
+        Some((end, found))
     }
-    let Ok((start, end)) = payload_at(bytes, tag.end, None) else {
-        return None;
-    };
-    let message = Level {
-        message_type: inner,
-        group: None,
-        levels,
-    };
-    let (_, found) = walk_inside(
-        alloc,
-        pool,
-        &bytes[start..end],
-        0,
-        message,
-        own.rest,
-        before,
-    )?;
-    Some((end, found))
+
+    /// Whether a record counts for a field of one value: it is of its number and its wire type, and where the field's enum is closed, that
+    /// declares its number.
+    fn counts(&self, field: &Field, tag: RecordTag, payload: Payload<'_>) -> bool
+        requires single { is_single field.now.shape ≡ true }
+        requires wire_type { IsTypeOf tag.wire_type payload }
+        ensures { result ≡ counts_for self.now.pool.now (field_view field.now) (record_of (tag.number, seen payload.entry)) }
+    {
+        tag.number == field.number
+            && tag.wire_type == field.kind.wire_type()
+            && match payload {
+                Payload::Varint(number) => !self.pool.is_undeclared(field.kind, number),
+                _ => true,
+            }
+    }
+
+    /// Reads a record that is neither a message on the path nor a string at its end, after its tag: where it ends, and what is found after
+    /// it.
+    fn other_found(&self, tag: RecordTag, before: Option<ScalarRef<'a>>) -> Passed<'a>
+        requires after { IsAfterTag self.now tag }
+        requires plain { IsPlain self.now tag }
+        ensures { Finds self.now tag before.entry result }
+    {
+        let end = self.record_end(tag)?;
+        let Some(own) = self.target else {
+            return Some((end, before));
+        };
+        let payload = only_payload(&self.bytes[tag.at..end]);
+        if self.counts(own.field, tag, payload) {
+            if !own.rest.is_empty() {
+                return Some((end, before));
+            }
+            let scalar = scalar_of(own.field.kind, payload);
+            return Some((end, kept(own.field.shape, scalar)));
+        }
+        match self.fellow(own.field.shape, tag.number) {
+            Some(other) if self.counts(other, tag, payload) => Some((end, None)),
+            _ => Some((end, before)),
+        }
+    }
 }

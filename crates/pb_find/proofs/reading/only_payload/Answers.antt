@@ -1,6 +1,6 @@
 use Rattle.std.proofs.Common.{[], ◌∷◌}
 use Rattle.pb_find.proofs.OnlyLemmas.{only_text, only_given, one_given, no_fault_given}
-use Rattle.pb_find.proofs.single.only_payload.Goals as goal
+use Rattle.pb_find.proofs.reading.only_payload.Goals as goal
 
 pub unreachable-requires : goal.unreachable-requires
 unreachable-requires c =
