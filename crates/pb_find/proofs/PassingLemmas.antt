@@ -3,8 +3,8 @@ use Rattle.std.proofs.Common.{◌≡◌, ◌∙◌, ℕ, List, [], ◌∷◌, �
 use Rattle.std.specs.Prelude.{fold}
 use Rattle.std.proofs.lemmas.List.Sums.{fold-append}
 use Rattle.std.specs.List.{AllByRecursion}
-use Rattle.pb_wire.specs.Record.{Payload, Record}
-use Rattle.pb_wire.specs.Fault.{Place, HasTag}
+use Rattle.pb_wire.specs.Record.{Record}
+use Rattle.pb_wire.specs.Fault.{Place}
 use Rattle.pb_wire.specs.Schema.{Schema}
 use Rattle.pb_wire.proofs.ReadingLemmas.{moves_both}
 use Rattle.pb_schema.specs.declared.types.Shape.{Shape}
@@ -14,9 +14,7 @@ use Rattle.pb_schema.specs.Context.{a_message, schema_of}
 use Rattle.pb_schema.specs.Scalar.{Scalar}
 use Rattle.pb_schema.specs.View.{field_view}
 use Rattle.pb_value.proofs.JoinedTexts.{AreRecords-append, AllSound-append}
-use Rattle.pb_value.proofs.ListLemmas.{all_append}
-use Rattle.pb_validate.specs.Judging.{Front, ReadsValue}
-use Rattle.pb_validate.proofs.JudgeLemmas.{front_none, front_push}
+use Rattle.pb_validate.specs.Judging.{Front}
 use Rattle.pb_find.specs.declared.level.Target.{Target}
 use Rattle.pb_find.specs.declared.level.Level.{Level}
 use Rattle.pb_find.specs.Found.{found, after_record, after_records, shares_oneof}

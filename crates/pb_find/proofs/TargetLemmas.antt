@@ -2,7 +2,7 @@
 use Rattle.std.proofs.Common.{◌≡◌, ◌≢◌, ℕ, List, [], ◌∷◌, length, refl, sym, ap, ◌∙◌, arith, Option, Some, None}
 use Rattle.std.proofs.lemmas.Bool.Decides.{nat_tests}
 use Rattle.std.specs.Prelude.{Bool, true, false, not, ◌&&◌, ◌==◌, if◌then◌else◌, option_and_then}
-use Rattle.pb_wire.specs.Record.{Payload, len, Record, wire_type}
+use Rattle.pb_wire.specs.Record.{Payload, Record, wire_type}
 use Rattle.pb_wire.specs.Inside.{records_inside}
 use Rattle.pb_wire.specs.Schema as wire
 use Rattle.pb_wire.specs.Schema.{message}
@@ -12,7 +12,7 @@ use Rattle.pb_schema.specs.declared.types.Shape.{Shape}
 use Rattle.pb_schema.specs.declared.types.Shape.TheVariants as shape
 use Rattle.pb_schema.specs.Types.{FieldView, Types, message_fields, field_numbered}
 use Rattle.pb_schema.specs.Rules.{IsPool}
-use Rattle.pb_schema.specs.Scalar.{Scalar, text}
+use Rattle.pb_schema.specs.Scalar.{Scalar}
 use Rattle.pb_schema.specs.Oneofs.{is_member}
 use Rattle.pb_schema.specs.Fits.{fits_type, fits_shape}
 use Rattle.pb_schema.specs.Kinds.{wire_type_of, message_of_kind, closed_enum, read}

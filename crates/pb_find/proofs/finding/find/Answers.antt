@@ -1,4 +1,4 @@
-use Rattle.std.proofs.Common.{◌≡◌, ◌∙◌, ap, refl}
+use Rattle.std.proofs.Common.{◌∙◌, ap, refl}
 use Rattle.pb_wire.proofs.ExactLemmas.{one_text_fault}
 use Rattle.pb_value.specs.Data.{Message}
 use Rattle.pb_decode.proofs.DecodeLemmas.{text_of}

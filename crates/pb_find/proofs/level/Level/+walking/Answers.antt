@@ -1,11 +1,10 @@
-use Rattle.std.proofs.Common.{◌≡◌, ◌∙◌, ◌+◌, ◌-◌, ◌*◌, ◌<◌, ◌^◌, ℕ, List, ap, sym, subst, refl, rules, arith, [], ◌∷◌, Option, Some, None, length, length-drop, take, drop}
+use Rattle.std.proofs.Common.{◌≡◌, ◌∙◌, ◌-◌, ◌<◌, ◌^◌, ℕ, List, ap, sym, subst, rules, arith, Some, None, length, length-drop, take, drop}
 use Rattle.std.proofs.lemmas.List.{length-take}
 use Rattle.pb_wire.specs.Record.{len, group, group_of}
 use Rattle.pb_wire.specs.Fault.{HasTag}
 use Rattle.pb_wire.proofs.InsideLemmas.{records_spelled-AreRecords}
 use Rattle.pb_schema.specs.View.{field_view}
 use Rattle.pb_schema.specs.Kinds.{wire_type_of}
-use Rattle.pb_schema.specs.Context.{a_message, schema_of}
 use Rattle.pb_value.proofs.GroupLemmas.{records_in-group_of}
 use Rattle.pb_value.proofs.JudgeLemmas.{kind_named}
 use Rattle.pb_validate.specs.Here.{here}

@@ -1,6 +1,5 @@
 use Rattle.std.proofs.Common.{◌≡◌, ◌∙◌, ap, sym, refl, length}
 use Rattle.std.specs.Prelude.{true, option_and_then}
-use Rattle.pb_wire.specs.Record.{wire_type}
 use Rattle.pb_wire.specs.RecordIter.{seen}
 use Rattle.pb_schema.specs.View.{field_view}
 use Rattle.pb_value.proofs.Numbers.{number_is}
@@ -9,7 +8,7 @@ use Rattle.pb_find.specs.Loops.{payload_of}
 use Rattle.pb_find.specs.Walk.{record_at}
 use Rattle.pb_find.specs.View.{found_view}
 use Rattle.pb_find.proofs.TargetLemmas.{scalar_counts, scalar_before, rival_counts, rival_ends, other_stays, no_fellow_stays, not_nothing}
-use Rattle.pb_find.proofs.WalkLemmas.{only_record, payload_read, own_single, after_one, plain_counts}
+use Rattle.pb_find.proofs.WalkLemmas.{only_record, payload_read, after_one, plain_counts}
 use Rattle.pb_find.proofs.level.Level.other_found.Goals.{in_default-fellow-via-in-Some-fellow+else-counts-2, in_default-fellow-via-in_default-fellow}
 use Rattle.pb_find.proofs.level.Level.other_found.Goals as goal
 

@@ -3,7 +3,7 @@ use Rattle.pb_schema.specs.declared.types.Shape.{Shape}
 use Rattle.pb_schema.specs.declared.types.Shape.TheVariants.{Implicit, OneofMember}
 use Rattle.pb_find.specs.Found.{shares_oneof}
 use Rattle.pb_find.specs.Walk.{ArePassed}
-use Rattle.pb_find.proofs.PassingLemmas.{no_target, passes_by, shares_none}
+use Rattle.pb_find.proofs.PassingLemmas.{passes_by, shares_none}
 use Rattle.pb_find.proofs.WalkLemmas.{some_more}
 use Rattle.pb_find.proofs.level.Level.past_strangers.Goals as goal
 
