@@ -1,11 +1,12 @@
 -- What ends where a reader is.
-use Rattle.std.proofs.Common.{◌≡◌, ℕ, ◌-◌, ◌≤◌, List, [], ◌∷◌, ◌++◌, map, reverse, refl, sym, ap, ◌∙◌, subst, arith, append-nil, Option, Some, None, option_map}
+use Rattle.std.proofs.Common.{◌≡◌, ℕ, ◌+◌, ◌-◌, ◌≤◌, List, [], ◌∷◌, ◌++◌, map, reverse, drop, refl, sym, ap, ◌∙◌, subst, arith, append-nil, Option, Some, None, option_map}
 use Rattle.std.specs.Prelude.{Bool, true, false, if◌then◌else◌, is_some}
 use Rattle.std.proofs.lemmas.List.{reverse-append, map-append}
 use Rattle.pb_wire.specs.Record.{Record}
 use Rattle.pb_wire.specs.declared.fault.Cause.TheVariants.{PastEnd}
 use Rattle.pb_wire.specs.declared.fault.PathStep.{PathStep}
-use Rattle.pb_wire.specs.Fault.{fault, Place}
+use Rattle.pb_wire.specs.Fault.{fault, Place, HasTag}
+use Rattle.pb_wire.specs.Scan.{passed}
 use Rattle.pb_wire.specs.Schema.{records}
 use Rattle.pb_wire.specs.Grammar.{Bad}
 use Rattle.pb_schema.specs.declared.types.Kind.{Kind}
@@ -20,7 +21,10 @@ use Rattle.pb_building.specs.Open.Parents.{Part, Scope, Parent, parent_of, one_m
 use Rattle.pb_building.specs.Open.PartView.{part_view, scope_view, parent_view}
 use Rattle.pb_building.specs.Open.Openings.{innermost_group}
 use Rattle.pb_building.specs.Tokens.After.{After}
+use Rattle.pb_building.specs.Close.Closes.{ClosesAt}
 use Rattle.pb_decode.specs.Reader.{State, parents_view, left_of, here, own_step, path_here, Reads, StandsAt, Reported}
+use Rattle.pb_decode.specs.Reader.Ended.{EndsWith}
+use Rattle.pb_decode.proofs.LengthSteps.{stands_here}
 use Rattle.pb_building.proofs.AfterLemmas.{after_record, at_record}
 use Rattle.pb_building.proofs.GroupLemmas.{past_end_reported}
 use Rattle.pb_decode.proofs.FewRecords.{counts_fit}
@@ -57,7 +61,7 @@ closed_reads {pool} {m} {depth} {levels} {base} {p0} s t end rest at tag is h =
     subst (λ (z : Step). After pool m depth levels base p0 t.parents z t.now t.scope (here t rest)) (sym tag)
     (after_record (subst (StandsAt pool m depth levels base p0 t) (closed_here s t end rest at is) h))
 
--- THE PARENT THAT IS TAKEN OUT, where no end tag ends what was open in it, and where one does
+-- THE PARENT THAT IS TAKEN OUT
 
 in_group_of : (parent : Parent) (parents : List Parent) (k : ℕ) → innermost_group (parent ∷ parents) ≡ Some k → parent.group ≡ true
 in_group_of parent parents k some = by_flag parent.group some
@@ -66,34 +70,20 @@ in_group_of parent parents k some = by_flag parent.group some
     by_flag true e = refl
     by_flag false e = absurd (cc)
 
-group_number : (parent : Parent) (parents : List Parent) (k : ℕ) → innermost_group (parent ∷ parents) ≡ Some k → parent.number ≡ k
-group_number parent parents k some = by_flag parent.group some
+-- it ends with this many bytes, and its parent is the innermost part
+pub part_closed :
+    {pool : Types} {m depth levels : ℕ} {base : List Record} {p0 : Place} (s t : State) (f : Parent) (rest : List ℕ) (used : ℕ) → s.parents ≡ f ∷ t.parents → t.at ≡ s.at + used → t.next ≡ step.Tag → t.scope.end ≡ f.scope.end
+    → EndsWith (innermost_group s.parents) (here s rest) used → ((w : Place) → ClosesAt f.group f.number f.scope.end (here s rest) w → StandsAt pool m depth levels base p0 t w) → Reads pool m depth levels base p0 t (drop used rest)
+part_closed {pool} {m} {depth} {levels} {base} {p0} s t f rest used around at tag end ends closes =
+    by_group f.group (subst (λ (z : List Parent). EndsWith (innermost_group z) (here s rest) used) around ends) closes
   where
-    by_flag : (g : Bool) → (if g then Some parent.number else None) ≡ Some k → parent.number ≡ k
-    by_flag true e = cc
-    by_flag false e = absurd (cc)
-
-not_in_group : (parent : Parent) (parents : List Parent) → innermost_group (parent ∷ parents) ≡ None → parent.group ≡ false
-not_in_group parent parents none = by_flag parent.group none
-  where
-    by_flag : (g : Bool) → (if g then Some parent.number else None) ≡ None → g ≡ false
-    by_flag true e = absurd (cc)
-    by_flag false e = refl
-
-pub popped_open : (fs gs : List ParentKept) (f : ParentKept) (p : PartKept) → fs ≡ gs ++ f ∷ [] → p ≡ f.part → innermost_group (parents_view fs) ≡ None → parents_view fs ≡ parent_of (part_view p) f.number f.slot false (scope_view f.scope) ∷ parents_view gs
-popped_open fs gs f p is same none =
-    let around = parents_popped fs gs f p is same in
-    around ∙ ap (λ (z : Bool). parent_of (part_view p) f.number f.slot z (scope_view f.scope) ∷ parents_view gs)
-    (not_in_group (parent_of (part_view p) f.number f.slot f.group (scope_view f.scope)) (parents_view gs) (sym (ap innermost_group around) ∙ none))
-
-pub popped_group : (fs gs : List ParentKept) (f : ParentKept) (p : PartKept) (k : ℕ) → fs ≡ gs ++ f ∷ [] → p ≡ f.part → innermost_group (parents_view fs) ≡ Some k → parents_view fs ≡ parent_of (part_view p) f.number f.slot true (scope_view f.scope) ∷ parents_view gs
-popped_group fs gs f p k is same some =
-    let around = parents_popped fs gs f p is same in
-    around ∙ ap (λ (z : Bool). parent_of (part_view p) f.number f.slot z (scope_view f.scope) ∷ parents_view gs)
-    (in_group_of (parent_of (part_view p) f.number f.slot f.group (scope_view f.scope)) (parents_view gs) k (sym (ap innermost_group around) ∙ some))
-
-pub popped_number : (fs gs : List ParentKept) (f : ParentKept) (k : ℕ) → fs ≡ gs ++ f ∷ [] → innermost_group (parents_view fs) ≡ Some k → f.number ≡ k
-popped_number fs gs f k is some = group_number (parent_view f) (parents_view gs) k (sym (ap innermost_group (parents_split fs gs f is)) ∙ some)
+    by_group : (g : Bool) → EndsWith (if g then Some f.number else None) (here s rest) used → ((w : Place) → ClosesAt g f.number f.scope.end (here s rest) w → StandsAt pool m depth levels base p0 t w)
+        → Reads pool m depth levels base p0 t (drop used rest)
+    by_group true last put = stands_here t (drop used rest) (passed (here s rest) used) (put (passed (here s rest) used) last) tag (sym at) refl
+    by_group false last put =
+        let none = last.0 in
+        subst (λ (z : ℕ). Reads pool m depth levels base p0 t (drop z rest)) (sym none)
+        (closed_reads s t f.scope.end rest (omega (arith, at, none)) tag end (put (up_to f.scope.end (here s rest)) (last.1, refl)))
 
 -- A GROUP at a known end
 group_reported :
@@ -115,6 +105,15 @@ group_at_end {pool} {m} {depth} {levels} {base} {p0} s rest begun tag some end =
 
     path : path_of s.parents ≡ path_here s
     path = sym (append-nil (path_of s.parents)) ∙ ap (λ (z : Step). path_of s.parents ++ own_step z s.scope) (sym tag)
+
+-- where no group is innermost the part ends there with no byte
+pub ends_here : (o g : Option ℕ) (q : Place) → o ≡ g → is_some o ≡ false → q.known ≡ Some 0 → EndsWith g q 0
+ends_here None g q is none end = subst (λ (z : Option ℕ). EndsWith z q 0) is (refl, end)
+ends_here (Some k) g q is none end = absurd (cc)
+
+-- and a group with its last tag
+pub ends_group : (g : Option ℕ) (q : Place) (number used : ℕ) → g ≡ Some number → HasTag q number 4 (passed q used) → EndsWith g q used
+ends_group g q number used is last = subst (λ (z : Option ℕ). EndsWith z q used) (sym is) last
 
 -- A PACKED LIST at its end
 pub list_few :

@@ -12,7 +12,7 @@ use Rattle.pb_building.specs.Open.PartView.{part_view, scope_view, parent_view}
 use Rattle.pb_building.specs.Tokens.After.{After}
 use Rattle.pb_building.specs.declared.open.part.Part.{Part as PartKept}
 use Rattle.pb_building.specs.declared.open.part.Scope.{Scope as ScopeKept}
-use Rattle.pb_decode.specs.declared.reader.state.Reader.{Reader}
+use Rattle.pb_decode.specs.declared.reader.state.State.{State as StateKept}
 use Rattle.pb_decode.specs.Reader.{State, state_view, parents_view, left_of, here, Reads}
 use Rattle.pb_building.proofs.ParentLemmas.{place_up_to}
 use Rattle.pb_building.proofs.AfterLemmas.{after_record}
@@ -42,7 +42,7 @@ stands_here {pool} {m} {depth} {levels} {base} {p0} s rest u h tag at same =
 
 -- a reader in what is opened is where it begins
 pub entered :
-    {pool : Types} {m depth levels : ℕ} {base : List Record} {p0 : Place} (r : Reader) (part : PartKept) (scope : ScopeKept) (parent : ParentKept) (parents : List Parent) (q : Place) → parents_view r.parents.items ≡ parent_view parent ∷ parents
+    {pool : Types} {m depth levels : ℕ} {base : List Record} {p0 : Place} (r : StateKept) (part : PartKept) (scope : ScopeKept) (parent : ParentKept) (parents : List Parent) (q : Place) → parents_view r.parents.items ≡ parent_view parent ∷ parents
     → r.part ≡ part → r.scope ≡ scope → r.step ≡ step.Tag → q.at ≡ r.at → Stands pool m depth levels base p0 (parent_view parent ∷ parents) (part_view part) (scope_view scope) q → Reads pool m depth levels base p0 (state_view r) q.rest
 entered {pool} {m} {depth} {levels} {base} {p0} r part scope parent parents q is_parents is_part is_scope tag at h =
     stands_here (state_view r) q.rest q

@@ -8,7 +8,7 @@ use Rattle.pb_wire.specs.Fault.{fault, Place, Moves}
 use Rattle.pb_wire.specs.Scan.{passed}
 use Rattle.pb_wire.specs.Schema.{records}
 use Rattle.pb_wire.specs.Grammar.{Bad}
-use Rattle.pb_wire.proofs.TokenLemmas.{moves_passed}
+use Rattle.pb_wire.proofs.ScanLemmas.{moves_passed}
 use Rattle.pb_schema.specs.Types.{Types}
 use Rattle.pb_schema.specs.Rules.{IsPool}
 use Rattle.pb_schema.specs.Context.{a_message as in_message, schema_of}

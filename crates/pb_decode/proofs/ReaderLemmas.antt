@@ -1,5 +1,5 @@
 -- A reader that takes bytes, and one that has some input read.
-use Rattle.std.proofs.Common.{◌≡◌, ◌≢◌, ℕ, ◌+◌, ◌-◌, List, [], ◌∷◌, ◌++◌, take, drop, length, refl, sym, ap, ◌∙◌, subst, arith, Option, Some, None, option_map, drop-drop}
+use Rattle.std.proofs.Common.{◌≡◌, ◌≢◌, ℕ, ◌+◌, ◌-◌, ◌≤◌, List, [], ◌∷◌, ◌++◌, take, drop, length, refl, sym, ap, ◌∙◌, subst, arith, Option, Some, None, option_map, drop-drop, length-drop}
 use Rattle.pb_wire.specs.Record.{Record}
 use Rattle.pb_wire.specs.declared.fault.Cause.{Cause}
 use Rattle.pb_wire.specs.declared.fault.Cause.TheVariants.{Truncated}
@@ -18,7 +18,8 @@ use Rattle.pb_building.specs.Open.Parents.{Scope, path_of, next_step}
 use Rattle.pb_building.specs.Tokens.Numbers.{NumberFault}
 use Rattle.pb_building.specs.Tokens.After.{Tag, tag, awaited, After}
 use Rattle.pb_building.specs.declared.open.target.Target.{Target}
-use Rattle.pb_decode.specs.Reader.{State, here, own_step, path_here, Reads, Stops, cut, Taken, Reported, StandsAt, IfFault}
+use Rattle.pb_decode.specs.declared.reader.state.State.{State as StateKept}
+use Rattle.pb_decode.specs.Reader.{State, state_view, CanRead, here, own_step, path_here, Reads, Stops, cut, Taken, Reported, StandsAt, IfFault}
 use Rattle.pb_building.proofs.AfterLemmas.{after_record, number_reported}
 use Rattle.pb_building.proofs.PlaceLemmas.{slice_from}
 
@@ -39,6 +40,34 @@ pub taken_some :
 taken_some pool m depth levels base p0 s n size l o some h =
     let there : Reads pool m depth levels base p0 s (drop size (take (length l - n) (drop n l))) = subst (Taken pool m depth levels base p0 s (take (length l - n) (drop n l))) some h in
     subst (Reads pool m depth levels base p0 s) (ap (drop size) (slice_from n l) ∙ drop-drop size n l) there
+
+pub reads_ahead :
+    (pool : Types) (m depth levels : ℕ) (base : List Record) (p0 : Place) (s t : State) (n used : ℕ) (l : List ℕ)
+    → (Reads pool m depth levels base p0 s (take (length l - n) (drop n l)) → Reads pool m depth levels base p0 t (drop used (take (length l - n) (drop n l)))) → Reads pool m depth levels base p0 s (drop n l)
+    → Reads pool m depth levels base p0 t (drop (n + used) l)
+reads_ahead pool m depth levels base p0 s t n used l on h = taken_some pool m depth levels base p0 t n used l (Some used) refl (on (reads_slice pool m depth levels base p0 s n l h))
+
+-- so a reader that may read on from some bytes may read on after this many of them
+pub reads_on :
+    {pool : Types} (s t : StateKept) (n : ℕ) (rest : List ℕ) → CanRead pool s rest → n ≤ length rest → t.at ≡ s.at + n
+    → ((m depth levels : ℕ) (base : List Record) (p0 : Place) → Reads pool m depth levels base p0 (state_view s) rest → Reads pool m depth levels base p0 (state_view t) (drop n rest)) → CanRead pool t (drop n rest)
+reads_on s t n rest can within at on =
+    let from = can.reading in
+    let left = length-drop n rest in
+    let small = from.small in
+    record {
+      rules = can.rules;
+      reading =
+          record {
+            m = from.m;
+            depth = from.depth;
+            levels = from.levels;
+            base = from.base;
+            p0 = from.p0;
+            reads = on from.m from.depth from.levels from.base from.p0 from.reads;
+            small = omega (arith, left, small, within, at);
+          };
+    }
 
 -- after this many bytes
 left_passed : (e : Option ℕ) (at size : ℕ) → option_map (λ (z : ℕ). z - size) (option_map (λ (z : ℕ). z - at) e) ≡ option_map (λ (z : ℕ). z - (at + size)) e

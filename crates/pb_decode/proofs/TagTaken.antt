@@ -5,7 +5,7 @@ use Rattle.pb_wire.specs.Record.{Record}
 use Rattle.pb_wire.specs.declared.fault.Cause.{Cause}
 use Rattle.pb_wire.specs.declared.fault.Cause.TheVariants.{Truncated}
 use Rattle.pb_wire.specs.declared.fault.PathStep.{PathStep}
-use Rattle.pb_wire.specs.Fault.{fault, Place, input_end, Reads as HasNumber, TagFault, VarintFault}
+use Rattle.pb_wire.specs.Fault.{fault, Place, input_end, Reads as HasNumber, HasTag, TagFault, VarintFault}
 use Rattle.pb_wire.specs.Scan.{given_at, passed}
 use Rattle.pb_wire.proofs.Tokens.{ends_some}
 use Rattle.pb_wire.specs.Schema.{Open, records, in_group}
@@ -44,6 +44,14 @@ pub front_whole :
 front_whole at e f rest o n size is same h =
     subst (λ (z : Option ℕ). (size ≤ length rest) × HasNumber (given_at at z rest) n (passed (given_at at z rest) size)) same
     (subst (λ (z : Option (ℕ × ℕ)). IfSome z (λ t. (t.1 ≤ length rest) × HasNumber (given_at at e rest) t.0 (passed (given_at at e rest) t.1))) is h)
+
+-- and the tag that it is
+pub tag_here :
+    (s : State) (e : Option ℕ) (rest : List ℕ) (o : Option (ℕ × ℕ)) (n size number type : ℕ) → o ≡ Some (n, size) → e ≡ left_of s → IfSome o (λ t. (t.1 ≤ length rest) × HasNumber (given_at s.at e rest) t.0 (passed (given_at s.at e rest) t.1))
+    → ((q u : Place) → HasNumber q n u → HasTag q number type u) → (size ≤ length rest) × HasTag (here s rest) number type (passed (here s rest) size)
+tag_here s e rest o n size number type is same h parts =
+    let whole = front_whole s.at e (left_of s) rest o n size is same h in
+    (whole.0, parts (here s rest) (passed (here s rest) size) whole.1)
 
 pub front_short :
     (at : ℕ) (e f : Option ℕ) (rest : List ℕ) (o : Option (ℕ × ℕ)) → o ≡ None → e ≡ f → IfNone o (VarintFault (given_at at e rest) (fault (input_end (given_at at e rest)) [] Truncated))

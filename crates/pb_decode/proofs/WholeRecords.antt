@@ -19,7 +19,7 @@ use Rattle.pb_building.specs.Open.Openings.{taken_message, without_message, dept
 use Rattle.pb_building.specs.Open.Targets.{Means, part_context}
 use Rattle.pb_building.specs.Tokens.After.{HasLevelFor, After}
 use Rattle.pb_whole.specs.Reads.{IsOpen}
-use Rattle.pb_decode.specs.declared.reader.state.Reader.{Reader}
+use Rattle.pb_decode.specs.declared.reader.state.State.{State as StateKept}
 use Rattle.pb_decode.specs.Reader.{State, state_view, left_of, here, Reads, StandsAt, IsReading}
 use Rattle.pb_decode.specs.Reader.Steps.{IsAtTag}
 use Rattle.pb_building.proofs.AfterLemmas.{after_record}
@@ -42,7 +42,7 @@ tag_few s rest k begun tag = counts_fit k (tag_stands s rest begun tag)
 
 -- A TAG begins the bytes
 pub at_tag :
-    {pool : Types} (reader : Reader) (rest : List ℕ) (tag : RecordTag) (left : Option ℕ) → IsPool pool → IsReading pool (state_view reader) rest → reader.step ≡ step.Tag → left ≡ left_of (state_view reader) → tag.size ≤ length rest
+    {pool : Types} (reader : StateKept) (rest : List ℕ) (tag : RecordTag) (left : Option ℕ) → IsPool pool → IsReading pool (state_view reader) rest → reader.step ≡ step.Tag → left ≡ left_of (state_view reader) → tag.size ≤ length rest
     → ((at : ℕ) → HasTag (given_at at left rest) tag.number tag.wire_type (passed (given_at at left rest) tag.size)) → IsAtTag pool reader rest tag
 at_tag reader rest tag left ok reading is left_is within reported = record {
   rules = ok;

@@ -15,11 +15,12 @@ use Rattle.pb_wire.specs.Schema.{records}
 use Rattle.pb_wire.specs.Grammar.{Bad}
 use Rattle.pb_wire.specs.declared.fault.Cause.TheVariants.{Truncated}
 use Rattle.pb_schema.specs.Types.{Types}
+use Rattle.pb_schema.specs.Rules.{IsPool}
 use Rattle.pb_schema.specs.Context.{a_message, schema_of}
 use Rattle.pb_decode.specs.declared.error.DecodeError.{DecodeError}
 use Rattle.pb_decode.specs.declared.error.DecodeError.TheVariants as error
 use Rattle.pb_building.specs.declared.open.part.Parent.{Parent as ParentKept}
-use Rattle.pb_decode.specs.declared.reader.state.Reader.{Reader}
+use Rattle.pb_decode.specs.declared.reader.state.State.{State as StateKept}
 use Rattle.pb_building.specs.declared.tokens.step.Step.{Step}
 use Rattle.pb_building.specs.declared.tokens.step.Step.TheVariants as step
 use Rattle.pb_building.specs.Open.Parents.{Part, Scope, Parent, path_of, path_to, next_step, Stands}
@@ -38,7 +39,7 @@ pub record State : Type 0 where
 abbrev pub parents_view : List ParentKept → List Parent
 parents_view fs = reverse (map parent_view fs)
 
-abbrev pub state_view : Reader → State
+abbrev pub state_view : StateKept → State
 state_view r = record { at = r.at; now = part_view r.part; scope = scope_view r.scope; parents = parents_view r.parents.items; next = r.step }
 
 -- how many bytes are left before the known end of the part
@@ -88,6 +89,11 @@ pub record IsReading (pool : Types) (s : State) (rest : List ℕ) : Type 0 where
   pub p0 : Place
   pub reads : Reads pool m depth levels base p0 s rest
   pub small : s.at + length rest < 2 ^ 31
+
+-- and the pool by which it reads keeps the rules
+pub record CanRead (pool : Types) (state : StateKept) (rest : List ℕ) : Type 0 where
+  pub rules : IsPool pool
+  pub reading : IsReading pool (state_view state) rest
 
 -- no more of these bytes can be taken: nothing is open and nothing is left, or the input ends too early
 pub data Stops (pool : Types) (m depth : ℕ) (p0 : Place) (s : State) (rest : List ℕ) : Type 0 where

@@ -15,23 +15,23 @@ ghost use Rattle.pb_decode.specs.Reader.Pieces.{received, ReadText, ReadSome, Ta
 
 use crate::error::DecodeError;
 use crate::onto::read_onto;
-use crate::reader::fault::{fault_at, too_large};
+use crate::reader::fault::too_large;
 use crate::reader::origin::{begin_empty, finish_message};
-use crate::reader::state::{Reader, take_all};
+use crate::reader::state::State;
 use crate::validating::refuse;
-use pb_building::error::NoMemory;
-use pb_building::tokens::step::Step;
+use pb_building::{NoMemory, Step};
 use pb_schema::{MessageId, Pool};
 use pb_value::DynamicMessage;
 use pb_value::bodies::empty_body;
 use pb_whole::build;
+use pb_whole::reader::Reader;
 use pb_wire::{Cause, Limits};
 use std::alloc::Global;
 
 /// What a decoder has between pieces.
 #[derive(Drop)]
 pub(crate) struct Reading {
-    pub reader: Reader,
+    pub reader: State,
     /// The bytes of an open token, or of an open payload.
     pub held: Vec<u8>,
 }
@@ -51,7 +51,7 @@ fn take_front(
     ensures waits { OnOk result (Waits (state_view reading.new.reader) reading.new.held.items) }
     ensures refused { TellsFault pool.now reading.old.reader bytes.now result }
 {
-    let size = take_all(alloc, pool, &mut reading.reader, bytes)?;
+    let size = reading.reader.take_all(&Reader { alloc, pool }, bytes)?;
     reading.held.extend_from_slice(&bytes[size..])?;
     Ok(())
 }
@@ -74,7 +74,9 @@ fn take_held(alloc: Global, pool: &Pool, reading: &mut Reading) -> Result<(), De
     ensures waits { OnOk result (Waits (state_view reading.new.reader) reading.new.held.items) }
     ensures refused { TellsFault pool.now reading.old.reader reading.old.held.items result }
 {
-    let size = take_all(alloc, pool, &mut reading.reader, &reading.held)?;
+    let size = reading
+        .reader
+        .take_all(&Reader { alloc, pool }, &reading.held)?;
     if size == 0 {
         return Ok(());
     }
@@ -206,7 +208,7 @@ pub(crate) fn cut_short(alloc: Global, reading: &Reading) -> DecodeError
     ensures { IfFault result (λ f. f ≡ fault (received reading.now) (path_here (state_view reading.now.reader)) Truncated) }
 {
     let byte = reading.reader.at + reading.held.len() as u32;
-    fault_at(alloc, &reading.reader, byte, Cause::Truncated)
+    reading.reader.fault_at(alloc, byte, Cause::Truncated)
 }
 
 /// The message of the bytes that are taken, or why there is none.

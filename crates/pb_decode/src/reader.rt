@@ -1,15 +1,8 @@
-//! The reader: its position, what it takes there, and which fault it reports.
+//! The reader of pieces: its state, the steps by which it takes bytes, and which fault it reports.
 
-pub(crate) mod element;
+pub(crate) mod close;
 pub(crate) mod fault;
 pub(crate) mod origin;
-pub(crate) mod pass_length;
+pub(crate) mod record;
 pub(crate) mod state;
-pub(crate) mod take_ended;
-pub(crate) mod take_length;
-pub(crate) mod take_next;
-pub(crate) mod take_payload;
-pub(crate) mod take_tag;
-pub(crate) mod whole_payload;
-pub(crate) mod whole_record;
-pub(crate) mod whole_records;
+pub(crate) mod step;

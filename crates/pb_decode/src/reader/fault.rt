@@ -1,27 +1,26 @@
 //! Where a reader is, as the path of a fault.
 
-ghost use Rattle.std.specs.Prelude.{◌≡◌, ◌∷◌, [], map, IfOk, IfSome, IfNone};
+ghost use Rattle.std.specs.Prelude.{◌≡◌, ◌∷◌, List, [], map, IfOk, IfSome, IfNone};
 ghost use Rattle.pb_wire.specs.Fault.{fault as fault_of};
 ghost use Rattle.pb_wire.specs.declared.fault.Cause.TheVariants.{InputTooLarge};
+ghost use Rattle.pb_wire.specs.declared.fault.PathStep.{PathStep as PathStepView};
 ghost use Rattle.pb_building.specs.Open.Parents.{next_step, Scope as ScopeView};
 ghost use Rattle.pb_building.specs.Open.PartView.{scope_view};
-ghost use Rattle.pb_decode.specs.Reader.{state_view, own_step, path_here as steps_here, IfFault, path_inside as steps_inside};
+ghost use Rattle.pb_decode.specs.Reader.{state_view, own_step, path_here, IfFault, path_inside};
 
 use crate::error::DecodeError;
-use crate::reader::state::Reader;
-use pb_building::error::NoMemory;
-use pb_building::open::part::Parent;
-use pb_building::tokens::step::Step;
+use crate::reader::state::State;
+use pb_building::{NoMemory, Parent, Scope, Step};
 use pb_wire::{Cause, PathStep};
 use std::alloc::Global;
 
-/// The step into the record that is open in a part.
-fn parent_step(parent: &Parent) -> PathStep
-    ensures { result ≡ next_step parent.now.number (scope_view parent.now.scope) }
+/// The step into the record of a number that comes next in a part.
+fn step_into(scope: &Scope, number: u32) -> PathStep
+    ensures { result ≡ next_step number (scope_view scope.now) }
 {
     PathStep {
-        number: parent.number,
-        occurrence: parent.scope.occurrences.count(parent.number),
+        number,
+        occurrence: scope.occurrences.count(number),
     }
 }
 
@@ -31,7 +30,7 @@ fn parent_steps(alloc: Global, parents: &[Parent]) -> Result<Vec<PathStep>, NoMe
 {
     let mut steps = Vec::new(alloc);
     for parent in parents {
-        steps.push(parent_step(parent))?;
+        steps.push(step_into(&parent.scope, parent.number))?;
     }
     Ok(steps)
 }
@@ -52,37 +51,11 @@ fn begun_number(step: Step) -> Option<u32>
     }
 }
 
-/// The steps to the record of a number that comes next in the innermost part.
-fn path_inside(alloc: Global, reader: &Reader, number: u32) -> Result<Vec<PathStep>, NoMemory>
-    ensures { IfOk result (λ v. v.items ≡ steps_inside (state_view reader.now) number) }
+/// The fault at a byte of what these steps lead to, if there was memory for them.
+fn fault_on(steps: Result<Vec<PathStep>, NoMemory>, byte: u32, cause: Cause) -> DecodeError
+    ensures { (path : List PathStepView) → IfOk steps (λ v. v.items ≡ path) → IfFault result (λ f. f ≡ fault_of byte path cause) }
 {
-    let mut path = parent_steps(alloc, &reader.parents)?;
-    let occurrence = reader.scope.occurrences.count(number);
-    path.push(PathStep { number, occurrence })?;
-    Ok(path)
-}
-
-/// The steps to where a reader is.
-fn path_here(alloc: Global, reader: &Reader) -> Result<Vec<PathStep>, NoMemory>
-    ensures { IfOk result (λ v. v.items ≡ steps_here (state_view reader.now)) }
-{
-    match begun_number(reader.step) {
-        None => {
-            let path = parent_steps(alloc, &reader.parents)?;
-            Ok(path)
-        }
-        Some(number) => {
-            let path = path_inside(alloc, reader, number)?;
-            Ok(path)
-        }
-    }
-}
-
-/// The fault at the reader's position.
-pub(crate) fn fault_at(alloc: Global, reader: &Reader, byte: u32, cause: Cause) -> DecodeError
-    ensures { IfFault result (λ f. f ≡ fault_of byte (steps_here (state_view reader.now)) cause) }
-{
-    match path_here(alloc, reader) {
+    match steps {
         Ok(path) => DecodeError::Fault {
             byte: u64::from(byte),
             path,
@@ -92,23 +65,38 @@ pub(crate) fn fault_at(alloc: Global, reader: &Reader, byte: u32, cause: Cause) 
     }
 }
 
-/// The fault of the record of a number that comes next.
-pub(crate) fn fault_inside(
-    alloc: Global,
-    reader: &Reader,
-    number: u32,
-    byte: u32,
-    cause: Cause,
-) -> DecodeError
-    ensures { IfFault result (λ f. f ≡ fault_of byte (steps_inside (state_view reader.now) number) cause) }
-{
-    match path_inside(alloc, reader, number) {
-        Ok(path) => DecodeError::Fault {
-            byte: u64::from(byte),
-            path,
-            cause,
-        },
-        Err(_) => DecodeError::Memory,
+impl State {
+    /// The steps to the record of a number that comes next in the innermost part.
+    fn path_inside(&self, alloc: Global, number: u32) -> Result<Vec<PathStep>, NoMemory>
+        ensures { IfOk result (λ v. v.items ≡ path_inside (state_view self.now) number) }
+    {
+        let mut path = parent_steps(alloc, &self.parents)?;
+        path.push(step_into(&self.scope, number))?;
+        Ok(path)
+    }
+
+    /// The steps to where a reader is.
+    fn path_here(&self, alloc: Global) -> Result<Vec<PathStep>, NoMemory>
+        ensures { IfOk result (λ v. v.items ≡ path_here (state_view self.now)) }
+    {
+        match begun_number(self.step) {
+            None => parent_steps(alloc, &self.parents),
+            Some(number) => self.path_inside(alloc, number),
+        }
+    }
+
+    /// The fault at the reader's position.
+    pub(crate) fn fault_at(&self, alloc: Global, byte: u32, cause: Cause) -> DecodeError
+        ensures { IfFault result (λ f. f ≡ fault_of byte (path_here (state_view self.now)) cause) }
+    {
+        fault_on(self.path_here(alloc), byte, cause)
+    }
+
+    /// The fault of the record of a number that comes next here.
+    pub(crate) fn fault_inside(&self, alloc: Global, number: u32, cause: Cause) -> DecodeError
+        ensures { IfFault result (λ f. f ≡ fault_of self.now.at (path_inside (state_view self.now) number) cause) }
+    {
+        fault_on(self.path_inside(alloc, number), self.at, cause)
     }
 }
 

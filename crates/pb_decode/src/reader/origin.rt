@@ -17,10 +17,8 @@ ghost use Rattle.pb_decode.specs.Reader.Pieces.{received, ReadFrom};
 
 use crate::error::DecodeError;
 use crate::push::{Reading, cut_short, take_piece};
-use crate::reader::state::{Reader, left};
-use pb_building::open::occurrences::Occurrences;
-use pb_building::open::part::{Part, Scope};
-use pb_building::tokens::step::Step;
+use crate::reader::state::State;
+use pb_building::{Occurrences, Part, Scope, Step};
 use pb_schema::{MessageId, Pool};
 use pb_value::bodies::{empty_body, from_well_formed};
 use pb_value::{Body, DynamicMessage};
@@ -46,7 +44,7 @@ pub(crate) fn begin_at(
     let parents = Vec::new(alloc);
     let held = Vec::new(alloc);
     Reading {
-        reader: Reader {
+        reader: State {
             at: 0,
             part: Part::Message(message_type, body),
             scope: Scope {
@@ -100,7 +98,7 @@ fn is_over(reading: &Reading) -> bool
     ensures over { result ≡ true → IsOverAt (state_view reading.now.reader) reading.now.held.items }
     ensures goes_on { result ≡ false → IsOverAt (state_view reading.now.reader) reading.now.held.items → ⊥ }
 {
-    let ends = match left(&reading.reader) {
+    let ends = match reading.reader.left() {
         None => reading.held.is_empty(),
         Some(left) => left == 0,
     };

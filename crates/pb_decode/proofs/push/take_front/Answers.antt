@@ -14,5 +14,5 @@ returns-in_err-size-clause-refused c =
 pub returns-clause-taken : goal.returns-clause-taken
 returns-clause-taken c =
     λ m depth levels base p0 begun.
-    held_rest c.args.pool.now m depth levels base p0 (state_view c.take_all.new.reader) c.in_ok-size.size c.args.bytes.now c.extend_from_slice.new.self.items
+    held_rest c.args.pool.now m depth levels base p0 (state_view c.take_all.new.self) c.in_ok-size.size c.args.bytes.now c.extend_from_slice.new.self.items
     (c.in_ok-extend_from_slice.ensures.items ∙ held_after c.in_ok-size.size c.args.reading.now.held.items c.args.bytes.now c.requires.none_held) (c.in_ok-size.ensures.taken m depth levels base p0 begun)

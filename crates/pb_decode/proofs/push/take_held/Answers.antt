@@ -14,13 +14,13 @@ returns-in_err-size-clause-refused c =
 pub returns-then-size-eq0-clause-taken : goal.returns-then-size-eq0-clause-taken
 returns-then-size-eq0-clause-taken c =
     λ m depth levels base p0 begun.
-    subst (λ (z : List ℕ). Reads c.args.pool.now m depth levels base p0 (state_view c.take_all.new.reader) z × Stops c.args.pool.now m depth p0 (state_view c.take_all.new.reader) z) c.deref.ensures.value
-    (held_all c.args.pool.now m depth levels base p0 (state_view c.take_all.new.reader) c.in_ok-size.size c.deref.result.now c.if-size-eq0.true
+    subst (λ (z : List ℕ). Reads c.args.pool.now m depth levels base p0 (state_view c.take_all.new.self) z × Stops c.args.pool.now m depth p0 (state_view c.take_all.new.self) z) c.deref.ensures.value
+    (held_all c.args.pool.now m depth levels base p0 (state_view c.take_all.new.self) c.in_ok-size.size c.deref.result.now c.if-size-eq0.true
     (c.in_ok-size.ensures.taken m depth levels base p0 (subst (Reads c.args.pool.now m depth levels base p0 (state_view c.args.reading.now.reader)) (sym c.deref.ensures.value) begun)))
 
 pub returns-clause-taken : goal.returns-clause-taken
 returns-clause-taken c =
     λ m depth levels base p0 begun.
-    held_rest c.args.pool.now m depth levels base p0 (state_view c.take_all.new.reader) c.in_ok-size.size c.args.reading.now.held.items c.in_ok-rest.rest.items (c.in_ok-rest.ensures ∙ ap (drop c.in_ok-size.size) c.deref-2.ensures.value)
-    (subst (λ (z : List ℕ). Reads c.args.pool.now m depth levels base p0 (state_view c.take_all.new.reader) (drop c.in_ok-size.size z) × Stops c.args.pool.now m depth p0 (state_view c.take_all.new.reader) (drop c.in_ok-size.size z)) c.deref.ensures.value
+    held_rest c.args.pool.now m depth levels base p0 (state_view c.take_all.new.self) c.in_ok-size.size c.args.reading.now.held.items c.in_ok-rest.rest.items (c.in_ok-rest.ensures ∙ ap (drop c.in_ok-size.size) c.deref-2.ensures.value)
+    (subst (λ (z : List ℕ). Reads c.args.pool.now m depth levels base p0 (state_view c.take_all.new.self) (drop c.in_ok-size.size z) × Stops c.args.pool.now m depth p0 (state_view c.take_all.new.self) (drop c.in_ok-size.size z)) c.deref.ensures.value
     (c.in_ok-size.ensures.taken m depth levels base p0 (subst (Reads c.args.pool.now m depth levels base p0 (state_view c.args.reading.now.reader)) (sym c.deref.ensures.value) begun)))
