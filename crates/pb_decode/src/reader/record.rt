@@ -1,7 +1,7 @@
 //! What is complete in the bytes is taken at once: records, elements of packed lists, and the tags and lengths that open or end
 //! messages, entries, lists and groups. A message or a map entry is read by `pb_whole` and goes into its slot without being opened.
 
-ghost use Rattle.std.specs.Prelude.{◌≡◌, true, ◌+◌, ◌*◌, ◌≤◌, ℕ, Option, length, OnOk, IfOk};
+ghost use Rattle.std.specs.Prelude.{◌≡◌, true, ◌+◌, ◌*◌, ◌≤◌, ℕ, Option, length, OnOk, IfOk, IfNone};
 ghost use Rattle.pb_building.specs.declared.open.target.Target.TheVariants as targets;
 ghost use Rattle.pb_building.specs.declared.tokens.step.Step.TheVariants.{Tag, Elements};
 ghost use Rattle.pb_building.specs.Values.PayloadValue.{IsBytesTarget};
@@ -101,6 +101,7 @@ impl State {
     ) -> TakenWhole
         requires { IsAtLengthTag by.now.pool.now self.old bytes.now tag (targets.Message message_type slot) }
         ensures passes { IfOk result (PassesWhole tag.size self.old self.new bytes.now) }
+        ensures none { IfOk result (λ o. IfNone o (self.new ≡ self.old)) }
         ensures taken { TakesWhole by.now.pool.now self.old self.new bytes.now result }
     {
         if !has_level(self.scope.depth_left, Target::Message(message_type, slot)) {
@@ -141,6 +142,7 @@ impl State {
     ) -> TakenWhole
         requires { IsAtLengthTag by.now.pool.now self.old bytes.now tag (targets.Entry key_kind value_kind) }
         ensures passes { IfOk result (PassesWhole tag.size self.old self.new bytes.now) }
+        ensures none { IfOk result (λ o. IfNone o (self.new ≡ self.old)) }
         ensures taken { TakesWhole by.now.pool.now self.old self.new bytes.now result }
     {
         if self.scope.depth_left == 0 {
@@ -195,6 +197,34 @@ impl State {
         Ok(Some(start))
     }
 
+    /// Takes the message or the entry of a record at once, unless all is to be read by tokens.
+    fn take_inner(
+        &mut self,
+        by: &Reader<'_>,
+        tag: RecordTag,
+        target: Target,
+        by_tokens: &mut bool,
+        bytes: &[u8],
+    ) -> TakenWhole
+        requires { IsAtLengthTag by.now.pool.now self.old bytes.now tag target }
+        ensures passes { IfOk result (PassesWhole tag.size self.old self.new bytes.now) }
+        ensures none { IfOk result (λ o. IfNone o (self.new ≡ self.old)) }
+        ensures taken { TakesWhole by.now.pool.now self.old self.new bytes.now result }
+    {
+        if *by_tokens {
+            return Ok(None);
+        }
+        match target {
+            Target::Message(message_type, slot) => {
+                self.take_message(by, tag, message_type, slot, by_tokens, bytes)
+            }
+            Target::Entry(key_kind, value_kind) => {
+                self.take_entry(by, tag, key_kind, value_kind, by_tokens, bytes)
+            }
+            _ => Ok(None),
+        }
+    }
+
     /// Takes the record of a length whose payload is complete after its tag, or opens what it opens. A record is opened too where its
     /// payload was read and is none: it has a fault, or memory was refused, and from there on all is read token by token, so that no
     /// byte is read twice at once.
@@ -214,21 +244,10 @@ impl State {
         if is_for_bytes(target) {
             return self.take_bytes_record(by, tag, target, bytes);
         }
-        if !*by_tokens {
-            let taken = match target {
-                Target::Message(message_type, slot) => {
-                    self.take_message(by, tag, message_type, slot, by_tokens, bytes)?
-                }
-                Target::Entry(key_kind, value_kind) => {
-                    self.take_entry(by, tag, key_kind, value_kind, by_tokens, bytes)?
-                }
-                _ => None,
-            };
-            if let Some(size) = taken {
-                return Ok(Some(size));
-            }
+        match self.take_inner(by, tag, target, by_tokens, bytes)? {
+            Some(size) => Ok(Some(size)),
+            None => self.take_opening(by, tag, target, bytes),
         }
-        self.take_opening(by, tag, target, bytes)
     }
 
     /// Opens the group whose first tag is there, where a level is left for it, or closes the innermost one, whose last tag is there. Only

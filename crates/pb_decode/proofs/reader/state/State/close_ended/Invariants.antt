@@ -10,8 +10,8 @@ invariant-loop-self l = record {
   at : l.self.at ≡ l.fn.self.at;
   tag : l.self.step ≡ Tag;
   reads :
-      (m depth levels : ℕ) (base : List Record) (p0 : Place) (rest : List ℕ) → Reads l.by.pool m depth levels base p0 (state_view l.fn.self) rest
-      → Reads l.by.pool m depth levels base p0 (state_view l.self) rest;
+      (m depth levels : ℕ) (base : List Record) (p0 : Place) (rest : List ℕ) → Reads l.by.pool.now m depth levels base p0 (state_view l.fn.self) rest
+      → Reads l.by.pool.now m depth levels base p0 (state_view l.self) rest;
 }
 
 abbrev pub decreases-loop-self : goal.decreases-loop-self

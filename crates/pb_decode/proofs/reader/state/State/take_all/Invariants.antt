@@ -9,8 +9,8 @@ invariant-loop-ahead l = record {
   within : l.here ≤ length l.bytes;
   at : l.self.at ≡ l.fn.self.at + l.here;
   reads :
-      (m depth levels : ℕ) (base : List Record) (p0 : Place) → Reads l.by.pool m depth levels base p0 (state_view l.fn.self) l.fn.bytes
-      → Reads l.by.pool m depth levels base p0 (state_view l.self) (drop l.here l.bytes);
+      (m depth levels : ℕ) (base : List Record) (p0 : Place) → Reads l.by.pool.now m depth levels base p0 (state_view l.fn.self) l.fn.bytes
+      → Reads l.by.pool.now m depth levels base p0 (state_view l.self) (drop l.here l.bytes);
 }
 
 abbrev pub decreases-loop-ahead : goal.decreases-loop-ahead

@@ -10,8 +10,8 @@ invariant-loop-self l = record {
   at : l.self.at ≡ l.fn.self.at + l.here;
   weighs : weight l.self.step ≤ 2 * l.here + weight l.fn.self.step;
   reads :
-      (m depth levels : ℕ) (base : List Record) (p0 : Place) → Reads l.by.pool m depth levels base p0 (state_view l.fn.self) l.fn.bytes
-      → Reads l.by.pool m depth levels base p0 (state_view l.self) (drop l.here l.bytes);
+      (m depth levels : ℕ) (base : List Record) (p0 : Place) → Reads l.by.pool.now m depth levels base p0 (state_view l.fn.self) l.fn.bytes
+      → Reads l.by.pool.now m depth levels base p0 (state_view l.self) (drop l.here l.bytes);
 }
 
 abbrev pub decreases-loop-self : goal.decreases-loop-self
