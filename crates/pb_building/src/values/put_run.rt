@@ -1,6 +1,6 @@
 //! The elements of a run go where they belong.
 
-ghost use Rattle.std.specs.Prelude.{◌≡◌, map, OnOk};
+ghost use Rattle.std.specs.Prelude.{◌≡◌, ◌++◌, map, OnOk};
 ghost use Rattle.pb_wire.specs.Unknown.{records_of};
 ghost use Rattle.pb_value.specs.View.{body_view, value_view};
 ghost use Rattle.pb_building.specs.Values.Run.{put_records, put_run, put_each, with_each};
@@ -40,23 +40,37 @@ pub fn put_elements(alloc: Global, part: &mut Part, number: u32, values: Vec<Val
     }
 }
 
+/// Puts records after others. Where there are none, they are them.
+#[inline(always)]
+fn append(records: &mut Vec<(u32, Unknown)>, mut more: Vec<(u32, Unknown)>) -> Put
+    ensures { OnOk result (records.new.items ≡ records.old.items ++ more.items) }
+{
+    if records.is_empty() {
+        *records = more;
+        return Ok(());
+    }
+    Ok(records.append(&mut more)?)
+}
+
 /// Puts unknown records into the part they belong to. An entry drops them.
-fn put_records(part: &mut Part, mut more: Vec<(u32, Unknown)>) -> Put
+fn put_records(part: &mut Part, more: Vec<(u32, Unknown)>) -> Put
     ensures { OnOk result (part_view part.new ≡ put_records (records_of more.items) (part_view part.old)) }
 {
     match part {
-        Part::Message(_, body) => Ok(body.unknown.append(&mut more)?),
+        Part::Message(_, body) => Ok(append(&mut body.unknown, more)?),
         Part::Entry(_) => Ok(()),
-        Part::Group(records) => Ok(records.append(&mut more)?),
+        Part::Group(records) => Ok(append(records, more)?),
     }
 }
 
 /// Puts the elements of a run into the part that holds the list of a number: the values at the end of the list, and the
-/// undeclared numbers among the unknown records.
+/// undeclared numbers, which few runs have, among the unknown records.
 pub fn put_run(alloc: Global, part: &mut Part, number: u32, run: Run) -> Put
     ensures { OnOk result (part_view part.new ≡ put_run number run (part_view part.old)) }
 {
     let Run { values, undeclared } = run;
-    put_records(part, undeclared)?;
+    if !undeclared.is_empty() {
+        put_records(part, undeclared)?;
+    }
     put_elements(alloc, part, number, values)
 }
