@@ -29,8 +29,7 @@ pub enum DecodeError {
 }
 
 impl DecodeError {
-    /// The error's number: 40 for a fault, 41 for out of memory, 42 for an input that failed and 43 for a decoder that is
-    /// finished.
+    /// The error's number: 40 for a fault, 41 for out of memory, 42 for an input that failed, 43 for a finished decoder.
     pub fn number(&self) -> u8
         ensures { result ≡ number_of self.now }
     {

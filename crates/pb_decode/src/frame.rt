@@ -26,8 +26,7 @@ use std::alloc::Global;
 /// How many bytes are asked of an input first: most frames have no more, and their buffer is on the stack.
 const FIRST: usize = 4096;
 
-/// Takes what the input gives first of this many bytes into the buffer, and reports how many they are. Where none are wanted, none
-/// are asked for.
+/// Takes what the input gives first of this many bytes into the buffer, and how many they are. Of none it asks for none.
 fn read_first<I: Input>(
     input: &mut I,
     buffer: &mut [u8; FIRST],
@@ -77,8 +76,7 @@ fn read_at_once<'p>(
     Some(message)
 }
 
-/// Takes the first bytes of a frame, which were read before, and what the input gives of those after them. Returns how many
-/// they are together.
+/// Takes the first bytes of a frame, which are read already, and what the input gives of the others; and how many that is.
 fn take_frame<I: Input>(
     alloc: Global,
     pool: &Pool,

@@ -54,8 +54,7 @@ fn read_piece<I: Input>(
     Ok(count)
 }
 
-/// Takes what the input gives up to its end, but at most `most` bytes, and reports how many bytes it gave. They come into a buffer,
-/// piece by piece.
+/// Takes what the input gives up to its end, at most `most` bytes, piece by piece into a buffer, and how many it gave.
 pub(crate) fn read_pieces<I: Input>(
     alloc: Global,
     pool: &Pool,
@@ -109,8 +108,7 @@ fn has_byte<I: Input>(input: &mut I) -> Result<bool, DecodeError>
     Ok(true)
 }
 
-/// Takes what the input gives up to its end. Where that is more than the limit allows, it is refused at the first byte past
-/// the limit.
+/// Takes what the input gives up to its end. The first byte past the limit is refused.
 fn read_within<I: Input>(
     alloc: Global,
     pool: &Pool,

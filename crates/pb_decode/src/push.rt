@@ -104,8 +104,7 @@ fn take_joined(
     take_held(alloc, pool, reading)
 }
 
-/// How many more bytes to hold before what comes next is looked at again, at least one: all that are missing of a payload,
-/// and of a token the next.
+/// How many more bytes to hold before what comes next is read again: all that are missing of a payload, one of a token.
 fn wanted(step: Step, count: usize) -> usize
     ensures { 0 < result }
 {

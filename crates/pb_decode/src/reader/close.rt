@@ -91,8 +91,7 @@ impl State {
         Ok(())
     }
 
-    /// Closes all that ends at the reader's position: a packed list, and then the parts that end with it, or those that end at a
-    /// tag.
+    /// Closes all that ends here: a packed list, and then the parts that end with it, or those that end at a tag.
     #[inline(always)]
     pub(crate) fn take_ended(&mut self, by: &Reader<'_>) -> Result<(), DecodeError>
         requires can { (rest : List ℕ) × CanRead by.now.pool.now self.old rest }
