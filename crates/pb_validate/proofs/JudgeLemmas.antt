@@ -31,7 +31,8 @@ use Rattle.pb_validate.specs.declared.refusal.Refusal.{Refusal}
 use Rattle.pb_validate.specs.declared.refusal.Refusal.TheVariants as refusal
 use Rattle.pb_wire.specs.Scan.{here}
 use Rattle.pb_validate.specs.Payloads.{IsNumberOfType, ReadsPayload, UnreadFault, TextFault, ListFault, MessageFault}
-use Rattle.pb_validate.specs.Judging.{Front, ReadsAll, ReadsValue, ReadsRecord, AreWhole, opened, Refuses, RefusesBelow, IsRefusal, IsFault}
+use Rattle.pb_validate.specs.Judging.{Front, ReadsAll, ReadsValue, ReadsRecord, opened, Refuses, RefusesBelow, IsRefusal, IsFault}
+use Rattle.pb_validate.specs.Whole.{AreWhole}
 use Rattle.pb_validate.proofs.HereLemmas.{payload_leads}
 
 -- ---- answers

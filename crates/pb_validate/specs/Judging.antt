@@ -23,10 +23,6 @@ pub record Front (S : Schema) (c : S.Context) (levels : ℕ) (p : Place) (rs : L
   pub spelled : Leads (AreRecords rs) p q
   pub sound : AllSound S c levels rs
 
--- b is whole records, sound in a context with this many levels left
-abbrev pub AreWhole : (S : Schema) → S.Context → ℕ → List ℕ → Type 0
-AreWhole S c levels b = (rs : List Record) × AreRecords rs b × AllSound S c levels rs
-
 -- the records of a context up to their end, and the end tag if it is a group
 abbrev pub ReadsAll : (S : Schema) → Open S.Context → ℕ → Place → List Record → Place → Type 0
 ReadsAll S (records c) levels p rs q = Front S c levels p rs q × IsOver q

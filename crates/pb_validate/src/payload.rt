@@ -23,7 +23,8 @@ pub(crate) fn number_end(bytes: &[u8], at: usize, wire_type: u8, to: Option<u32>
     ensures ok { IfOk result (λ end. IsNumberOfType wire_type (here bytes.now at to) (here bytes.now end to)) }
     ensures fault { IfErr result (λ e. NumberFault wire_type (here bytes.now at to) (fault e.byte [] e.cause)) }
 {
-    Ok(number_at(bytes, at, wire_type, to)?.1)
+    let (_, end) = number_at(bytes, at, wire_type, to)?;
+    Ok(end)
 }
 
 /// The payload whose length begins at an index: the indexes where it begins and ends.

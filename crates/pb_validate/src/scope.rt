@@ -8,7 +8,8 @@ ghost use Rattle.pb_schema.specs.Context.{schema_of};
 ghost use Rattle.pb_wire.specs.Scan.{here};
 ghost use Rattle.pb_validate.specs.Contexts.{context_view};
 ghost use Rattle.pb_validate.specs.Payloads.{ReadsPayload, MessageFault};
-ghost use Rattle.pb_validate.specs.Judging.{AreWhole, open_view, CanJudge, ReadsRecords, ReadsOne, Refuses, RefusesRecords, RefusesRecord};
+ghost use Rattle.pb_validate.specs.Whole.{AreWhole};
+ghost use Rattle.pb_validate.specs.Judging.{open_view, CanJudge, ReadsRecords, ReadsOne, Refuses, RefusesRecords, RefusesRecord};
 
 use crate::context::{Context, Reading, group_context, reading_of};
 use crate::payload::{list_end, number_end, payload_at, text_end};

@@ -1,19 +1,21 @@
 //! Whether bytes are whole records in a context, and no more. It is fast since nothing is kept for a fault: `scope` finds that.
 
-ghost use Rattle.std.specs.Prelude.{◌≡◌, ◌≢◌, ◌-◌, ◌≤◌, ◌<◌, None, true, length, IfSome, IsUtf8};
-ghost use Rattle.pb_wire.specs.Fault.{HasTag, HasLength};
+ghost use Rattle.std.specs.Prelude.{◌≡◌, ◌≢◌, ◌≤◌, ◌<◌, None, true, length, IfSome, IsUtf8};
+ghost use Rattle.pb_wire.specs.Fault.{HasTag};
 ghost use Rattle.pb_wire.specs.Record.{len};
 ghost use Rattle.pb_wire.specs.Scan.{here, IsNumberType};
 ghost use Rattle.pb_wire.specs.Sound.{Sound};
 ghost use Rattle.pb_schema.specs.Context.{a_message, an_entry, schema_of};
 ghost use Rattle.pb_validate.specs.Contexts.{context_view, CanRead};
 ghost use Rattle.pb_validate.specs.Payloads.{IsNumberOfType};
-ghost use Rattle.pb_validate.specs.Judging.{ReadsRecord, AreWhole};
+ghost use Rattle.pb_validate.specs.Judging.{ReadsRecord};
+ghost use Rattle.pb_validate.specs.Whole.{AreWhole};
 
 use crate::context::{Context, Element, Reading, group_context, reading_of};
+use crate::payload::{number_end, payload_at};
 use crate::varints::{are_varints, varint_end};
 use pb_schema::{Kind, MessageId, Pool};
-use pb_wire::{MAX_BYTES, RecordTag, Scanned, scan_tag, tag_at, varint_at};
+use pb_wire::{RecordTag, tag_at};
 
 /// Shorter strings are tried as ASCII first.
 const SHORT: usize = 64;
@@ -38,47 +40,9 @@ fn whole_number_end(bytes: &[u8], at: usize, wire_type: u8) -> Option<usize>
         let end = varint_end(bytes, at)?;
         return Some(end);
     }
-    let size = if wire_type == 1 { 8 } else { 4 };
-    if bytes.len() - at < size {
-        return None;
-    }
-    Some(at + size)
-}
-
-/// The payload whose length begins at an index, if it is whole: the indexes where it begins and ends.
-#[inline(always)]
-fn whole_payload(bytes: &[u8], at: usize) -> Option<(usize, usize)>
-    requires { at ≤ length bytes.now }
-    ensures within { IfSome result (λ r. (at < r.0) × (r.0 ≤ r.1) × (r.1 ≤ length bytes.now)) }
-    ensures ok { IfSome result (λ r. HasLength (here bytes.now at None) (r.1 - r.0) (here bytes.now r.0 None)) }
-{
-    let Ok((size, start)) = varint_at(bytes, at, None) else {
-        return None;
-    };
-    if size > MAX_BYTES as u64 {
-        return None;
-    }
-    if bytes.len() - start < size as usize {
-        return None;
-    }
-    Some((start, start + size as usize))
-}
-
-/// The tag that begins at an index, if it is whole, whichever group it ends.
-#[inline(always)]
-fn whole_tag(bytes: &[u8], at: usize) -> Option<RecordTag>
-    requires { at ≤ length bytes.now }
-    ensures within { IfSome result (λ t. (at < t.end) × (t.end ≤ length bytes.now) × (t.at ≡ at)) }
-    ensures ok { IfSome result (λ t. HasTag (here bytes.now at None) t.number t.wire_type (here bytes.now t.end None)) }
-{
-    match scan_tag(&bytes[at..], None) {
-        Scanned::Whole(tag, size) => Some(RecordTag {
-            number: tag.number,
-            wire_type: tag.wire_type,
-            at,
-            end: at + size,
-        }),
-        _ => None,
+    match number_end(bytes, at, wire_type, None) {
+        Ok(end) => Some(end),
+        Err(_) => None,
     }
 }
 
@@ -153,7 +117,9 @@ pub(crate) fn record_end(
         tag.number tag.wire_type (here bytes.now tag.end None) (here bytes.now end None)) }
 {
     if tag.wire_type == 2 {
-        let (start, end) = whole_payload(bytes, tag.end)?;
+        let Ok((start, end)) = payload_at(bytes, tag.end, None) else {
+            return None;
+        };
         if payload_is_whole(pool, context, levels, tag.number, &bytes[start..end]) {
             Some(end)
         } else {
@@ -206,10 +172,15 @@ fn group_end(
     let inner = group_context(pool, context, tag.number);
     let mut at = tag.end;
     loop {
-        let next = whole_tag(bytes, at)?;
+        let Ok(next) = tag_at(bytes, at, Some(tag.number), None) else {
+            return None;
+        };
         if next.wire_type == 4 {
-            return (next.number == tag.number).then_some(next.end);
+            return Some(next.end);
         }
-        at = record_end(pool, inner, levels - 1, bytes, next)?;
+        match record_end(pool, inner, levels - 1, bytes, next) {
+            Some(end) => at = end,
+            None => return None,
+        }
     }
 }

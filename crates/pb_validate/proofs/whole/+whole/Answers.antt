@@ -1,6 +1,5 @@
-use Rattle.std.proofs.Common.{◌∙◌, ◌-◌, ℕ, ap, sym, refl, arith, [], None, Some}
+use Rattle.std.proofs.Common.{◌∙◌, ◌-◌, ap, sym, refl, arith, [], None}
 use Rattle.std.proofs.lemmas.Bool.{eqb-true}
-use Rattle.std.specs.Prelude.{nat_eq}
 use Rattle.pb_wire.specs.Record.{len}
 use Rattle.pb_wire.specs.Sound.{Sound}
 use Rattle.pb_schema.specs.Context.{schema_of}
@@ -8,7 +7,7 @@ use Rattle.pb_wire.specs.Scan.{here}
 use Rattle.pb_validate.specs.Contexts.{context_view, reading_view}
 use Rattle.pb_validate.proofs.HereLemmas.{payload_between}
 use Rattle.pb_validate.proofs.JudgeLemmas.{front_none, front_push, number_value, message_sound}
-use Rattle.pb_validate.proofs.WholeLemmas.{when_true, group_ended, fours, eights}
+use Rattle.pb_validate.proofs.WholeLemmas.{group_ended, fours, eights}
 use Rattle.pb_validate.proofs.whole.+whole.Goals as goal
 
 pub records_are_whole-loop-at-init : goal.records_are_whole-loop-at-init
@@ -30,31 +29,29 @@ group_end-loop-next-init t c = (
 
 pub group_end-loop-next-preserved : goal.group_end-loop-next-preserved
 group_end-loop-next-preserved t c =
-    let moved = c.in_ok-next.ensures.within in
-    let ended = c.in_ok-at.ensures.within in
-    let value = c.in_ok-at.ensures.ok in (
+    let moved = c.in-Ok.ensures.within in
+    let ended = c.in-Some.ensures.within in
+    let value = c.in-Some.ensures.ok in (
       let h = c.loop-next.invariant.0 in omega (arith, h, moved, ended),
       ended.1,
       _,
-      front_push c.loop-next.invariant.2 value.0 c.loop-next.invariant.3 c.in_ok-next.ensures.ok value.1,
+      front_push c.loop-next.invariant.2 value.0 c.loop-next.invariant.3 c.in-Ok.ensures.ok value.1,
     )
 
 pub group_end-returns-then-next-eq4-clause-ok : goal.group_end-returns-then-next-eq4-clause-ok
 group_end-returns-then-next-eq4-clause-ok t c =
-    rw c.then_some.ensures
-    (when_true (nat_eq c.in_ok-next.next.number c.args.tag.number) c.in_ok-next.next.end _
-    (λ same. group_ended (schema_of c.args.pool.now) (context_view c.args.context) _ c.args.levels c.args.tag.number c.in_ok-next.next.number c.in_ok-next.next.wire_type
-    (here c.args.bytes.now c.args.tag.end None) _ (here c.args.bytes.now c.in_ok-next.next.end None) c.loop-next.invariant.2 (omega (arith, c.if-levels-eq0.false))
-    c.group_context-inner.ensures.read c.loop-next.invariant.3 c.in_ok-next.ensures.ok c.if-next-eq4.true (ap (λ (n : ℕ). Some n) (sym (eqb-true _ _ same)))))
+    group_ended (schema_of c.args.pool.now) (context_view c.args.context) _ c.args.levels c.args.tag.number c.in-Ok.next.number c.in-Ok.next.wire_type
+    (here c.args.bytes.now c.args.tag.end None) _ (here c.args.bytes.now c.in-Ok.next.end None) c.loop-next.invariant.2 (omega (arith, c.if-levels-eq0.false))
+    c.group_context-inner.ensures.read c.loop-next.invariant.3 c.in-Ok.ensures.ok c.if-next-eq4.true (c.in-Ok.ensures.ends c.if-next-eq4.true)
 
 pub record_end-returns-then-payload_is_whole-clause-ok : goal.record_end-returns-then-payload_is_whole-clause-ok
 record_end-returns-then-payload_is_whole-clause-ok t c =
-    let w = c.in_ok-start.ensures.within in
+    let w = c.in-Ok.ensures.within in
     rw c.if-tag-eq2.true (
       len _,
       record {
         type = refl;
-        spelled = payload_between c.args.bytes.now c.args.tag.end _ _ None c.in_ok-start.ensures.ok w.1 w.2 c.args.tag.number;
+        spelled = payload_between c.args.bytes.now c.args.tag.end _ _ None c.in-Ok.ensures.ok w.1 w.2 c.args.tag.number;
         sound = c.payload_is_whole.ensures c.if-payload_is_whole.true;
       },
     )
