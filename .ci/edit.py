@@ -5,8 +5,6 @@ import subprocess
 import sys
 
 TOP = os.path.dirname(os.path.dirname(os.path.realpath(__file__)))
-# The mutants beside the gate; those of the gate are in crates/NAME/must-fail.
-EDITS = f"{TOP}/.ci/edits"
 
 # A proof file that names what an edit took away, and what cites that proof: by itself it says little of a contract.
 TAKEN_AWAY = re.compile(r"(\./)?proofs/.*(has no field|is not in scope|has no `|was not admitted)")
@@ -43,32 +41,40 @@ def copy_for(name, room):
                     subprocess.run(["cp", "-a", *paths], check=True)
 
 
-def edits_of(name, gate, beside):
-    """The edits of a crate: of the folder beside the gate, and of the gate too where gate is true."""
-    folders = [f"{TOP}/crates/{name}/must-fail"] * gate + [f"{beside}/{name}"]
-    return [f"{folder}/{it}" for folder in folders if os.path.isdir(folder) for it in sorted(os.listdir(folder)) if it.endswith(".edit")]
+def gate_edits(name):
+    """The edits of a crate that the gate tries."""
+    return edits_in(f"{TOP}/crates/{name}/must-fail")
 
 
-def chosen(words, gate, beside=EDITS):
-    """The edits that words choose, by their crate: NAME chooses those of a crate, NAME/EDIT one of them or of the gate, and no word all."""
+def other_edits(name):
+    """The edits of a crate that are not in the gate, of code and of definitions."""
+    return edits_in(f"{TOP}/.ci/mutants/{name}")
+
+
+def edits_in(folder):
+    return [f"{folder}/{it}" for it in sorted(os.listdir(folder)) if it.endswith(".edit")] if os.path.isdir(folder) else []
+
+
+def is_of_definitions(edit):
+    """Whether an edit changes definitions, as the files that it names tell, and not code."""
+    with open(edit, encoding="utf-8") as it:
+        return any(line.startswith("file: specs/") for line in it)
+
+
+def chosen(words, gate=False, definitions=False):
+    """The edits of code, or of definitions, that words choose, by their crate: NAME chooses those of a crate, NAME/EDIT one of them, and no word
+    all. Those of the gate are among them where gate is true, and one of them may be named."""
     found = {}
     for word in words or sorted(os.listdir(f"{TOP}/crates")):
         name, _, edit = word.partition("/")
-        edits = [it for it in edits_of(name, gate or edit != "", beside) if edit in ("", os.path.basename(it), os.path.basename(it).removesuffix(".edit"))]
+        edits = gate_edits(name) * (gate or edit != "") + other_edits(name)
+        edits = [it for it in edits if edit in ("", os.path.basename(it), os.path.basename(it).removesuffix(".edit"))]
+        edits = [it for it in edits if is_of_definitions(it) == definitions]
         if words and not edits:
-            sys.exit(f"{word}: no such edit")
+            sys.exit(f"{word}: no such edit of {'definitions' if definitions else 'code'}")
         if edits:
             found.setdefault(name, []).extend(edits)
     return found
-
-
-def folder_of_edits(words, otherwise=EDITS):
-    """The folder of the edits beside the gate, which `--from FOLDER` in front of the words names, and the words after it."""
-    if words[:1] != ["--from"]:
-        return otherwise, words
-    if len(words) < 2 or not os.path.isdir(words[1]):
-        sys.exit("--from: no such folder")
-    return os.path.abspath(words[1]), words[2:]
 
 
 def label(name, edit):
