@@ -21,8 +21,8 @@
 
 ghost use Rattle.std.specs.Prelude.{◌<◌, length};
 
+use pb_building::NoMemory;
 use pb_decode::{DecodeError, PushDecoder, decode, validate};
-use pb_building::error::NoMemory;
 use pb_schema::{EnumId, Kind, MessageId, Pool, Shape};
 use pb_test_types::{
     EnumRow, FIELDS_OF_F, FIELDS_OF_T, FieldRow, FileRow, PACKED, TypeRow, UNPACKED, pool_of,
