@@ -65,11 +65,11 @@ pub no_varint :
     → q ≡ passed (given_at at None rest) size
 no_varint at n size q rest bad r = absurd (varint_not_both bad.1 r)
 
-pub no_varint : (p : Place) (t : Scanned ℕ) → (t ≡ scanned.Short) ⊎ ((x : Cause) × (t ≡ scanned.Fault x)) → TellsVarint p t → (f : Fault) × VarintFault p f
-no_varint p scanned.Short e h = (_, h)
-no_varint p (scanned.Fault c) e h = (_, h.1)
-no_varint p (scanned.Whole n s) (inl e) h = absurd (cc)
-no_varint p (scanned.Whole n s) (inr e) h = let same = e.1 in absurd (cc)
+pub not_scanned : (p : Place) (t : Scanned ℕ) → (t ≡ scanned.Short) ⊎ ((x : Cause) × (t ≡ scanned.Fault x)) → TellsVarint p t → (f : Fault) × VarintFault p f
+not_scanned p scanned.Short e h = (_, h)
+not_scanned p (scanned.Fault c) e h = (_, h.1)
+not_scanned p (scanned.Whole n s) (inl e) h = absurd (cc)
+not_scanned p (scanned.Whole n s) (inr e) h = let same = e.1 in absurd (cc)
 
 -- the parts of the tag that is read
 pub tag_read :
