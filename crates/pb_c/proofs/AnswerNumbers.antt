@@ -1,4 +1,4 @@
--- The answer for a fault is neither that of a pool nor that of want of memory.
+-- The answer for a fault is neither that of a pool nor that for out of memory.
 use Rattle.std.proofs.Common.{◌≡◌, ◌≢◌, ℕ, ◌≤◌, refl, sym, ◌∙◌, arith}
 use Rattle.std.specs.Prelude.{IfSome}
 use Rattle.pb_wire.specs.Fault.{fault}
@@ -77,14 +77,14 @@ module _ (answer : ℕ) (Same : Type 0) where
   memory_kept : (answer ≡ 14) × Same → (answer ≢ 0) × (answer ≡ 14 → Same)
   memory_kept both = (λ done. omega (arith, both.0, done), λ memory. both.1)
 
-  -- what is reported of a set that is not read is no pool, and for want of memory nothing is reported
+  -- what is reported of a set that is not read is no pool, and where memory is out nothing is reported
   pub set_kept : (e : DescrError) (Told : PoolFault → Type 0) → ((w : PoolFault) → Told w → answer ≡ answer_of w) → IfSome (set_fault e) Told
       → (e ≡ descr.Memory → (answer ≡ 14) × Same) → (answer ≢ 0) × (answer ≡ 14 → Same)
   set_kept (descr.Fault byte path c) Told number told memory = let w = PoolFault.in_bytes (fault byte path.items c) in fault_kept w (number w told)
   set_kept (descr.Decl i c) Told number told memory = let w = PoolFault.in_file i c in fault_kept w (number w told)
   set_kept descr.Memory Told number told memory = memory_kept (memory refl)
 
-  -- what is reported of sources that are not parsed is no pool and no name, and for want of memory nothing is reported
+  -- what is reported of sources that are not parsed is no pool and no name, and where memory is out nothing is reported
   pub source_kept : (e : Unparsed) (Told : ℕ → ℕ → SourceCause → Type 0) → ((i byte : ℕ) (c : SourceCause) → Told i byte c → answer ≡ source_number c) → IsUnparsed Told e
       → (e ≡ Memory → (answer ≡ 14) × Same) → (answer ≢ 0) × (answer ≢ 4) × (answer ≡ 14 → Same)
   source_kept (Source i byte c) Told number told memory =

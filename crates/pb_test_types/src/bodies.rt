@@ -3,7 +3,8 @@
 ghost use Rattle.std.specs.Prelude.{◌≡◌, ◌-◌, Some, None, IfOk, IfErr};
 ghost use Rattle.pb_wire.specs.Unknown.{payload_of};
 ghost use Rattle.pb_value.specs.View.{body_view};
-ghost use Rattle.pb_test_types.specs.Words.{group_with, groups, payload_by, payload_word, with_record, field_onto, record_onto, word_onto, words_onto, body_words};
+ghost use Rattle.pb_test_types.specs.Words.{group_with, groups, payload_by, payload_word, with_record};
+ghost use Rattle.pb_test_types.specs.Words.{field_onto, record_onto, word_onto, words_onto, body_words};
 ghost use Rattle.pb_test_types.specs.declared.error.WordError.TheVariants.{Memory, NoMeaning};
 
 use crate::contents::content_of;

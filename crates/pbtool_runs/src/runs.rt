@@ -21,7 +21,7 @@ pub const NONE: Failures = Failures {
     err: FailurePlan::NEVER,
 };
 
-/// A device that fails after so many calls.
+/// A device that fails after this many calls.
 pub fn after(others: u64) -> FailurePlan {
     FailurePlan {
         fails_after: Some(others),

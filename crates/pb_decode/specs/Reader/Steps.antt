@@ -52,7 +52,7 @@ TakesNext pool old new rest result =
     (m depth levels : ℕ) (base : List Record) (p0 : Place)
     → Reads pool m depth levels base p0 (state_view old) rest → IfOk result (λ o. Taken pool m depth levels base p0 (state_view new) rest o)
 
--- at least so many of these bytes are taken, or nothing is done
+-- at least this many of these bytes are taken, or nothing is done
 abbrev pub PassesWhole : ℕ → StateKept → StateKept → List ℕ → Option ℕ → Type 0
 PassesWhole least old new rest (Some n) = (least ≤ n) × (n ≤ length rest) × (new.at ≡ old.at + n)
 PassesWhole least old new rest None = new ≡ old
