@@ -2,7 +2,6 @@
 use Rattle.std.proofs.Common.{◌≡◌, ℕ, ◌+◌, ◌-◌, ◌<◌, ◌≤◌, List, [], length, take, drop, refl, ap, subst, ◌∙◌, arith, Option, Some, None}
 use Rattle.std.specs.Prelude.{option_map}
 use Rattle.std.proofs.lemmas.List.{drop-drop, length-drop, take_all}
-use Rattle.pb_wire.specs.Record.{varint, fixed64, fixed32}
 use Rattle.pb_wire.specs.Spell.{Body}
 use Rattle.pb_wire.specs.Fault.{Fault, fault, Place, input_end, Reads}
 use Rattle.pb_wire.specs.Scan.{given_at, here, passed, number_view, Follows}

@@ -124,19 +124,19 @@ pub fn scan_tag(bytes: &[u8], left: Option<u32>) -> Scanned<Tag>
 
 /// The parts of the tag that a number is.
 #[inline(always)]
-fn tag_of(tag: u64) -> Result<Tag, Cause>
+pub(crate) fn tag_of(tag: u64) -> Result<Tag, Cause>
     ensures whole { (p q : Place) → Reads p tag q → IfOk result (λ t. HasTag p t.number t.wire_type q) }
     ensures settled { IfErr result (λ c. c ≢ Truncated) }
     ensures refused { (p q : Place) (innermost : Option ℕ) → Reads p tag q → IfErr result (λ c. TagFault innermost p (fault p.at [] c)) }
 {
-    if tag > u64::from(u32::MAX) {
+    let Ok(tag) = u32::try_from(tag) else {
         return Err(Cause::TagTooLarge);
-    }
-    let number = (tag / 8) as u32;
-    let wire_type = (tag % 8) as u8;
+    };
+    let number = tag / 8;
     if number == 0 {
         return Err(Cause::NumberZero);
     }
+    let wire_type = (tag % 8) as u8;
     if wire_type > 5 {
         return Err(Cause::BadType);
     }

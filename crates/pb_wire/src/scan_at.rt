@@ -8,7 +8,7 @@ ghost use Rattle.pb_wire.specs.declared.fault.Cause.TheVariants.{Truncated};
 
 use crate::fault::{Cause, WireFault};
 use crate::reading::refused;
-use crate::scan::{Number, Scanned, left_after, scan_length, scan_number, scan_tag, scan_varint};
+use crate::scan::{Number, Scanned, left_after, scan_length, scan_number, scan_varint, tag_of};
 
 /// A whole tag: its parts, and the indexes where it begins and ends.
 #[derive(Clone, Copy)]
@@ -70,23 +70,22 @@ pub fn tag_at(
     ensures ends { IfOk result (λ t. t.wire_type ≡ 4 → innermost ≡ Some t.number) }
     ensures fault { IfErr result (λ e. TagFault innermost (here bytes.now at to) (fault e.byte [] e.cause)) }
 {
-    match scan_tag(&bytes[at..], left_after(to, at)) {
-        Scanned::Whole(tag, size) => {
-            if tag.wire_type == 4 {
-                if let Err(cause) = group_end(innermost, tag.number) {
-                    return Err(refused(at, cause));
-                }
-            }
-            Ok(RecordTag {
-                number: tag.number,
-                wire_type: tag.wire_type,
-                at,
-                end: at + size,
-            })
+    let (tag, end) = varint_at(bytes, at, to)?;
+    let tag = match tag_of(tag) {
+        Ok(tag) => tag,
+        Err(cause) => return Err(refused(at, cause)),
+    };
+    if tag.wire_type == 4 {
+        if let Err(cause) = group_end(innermost, tag.number) {
+            return Err(refused(at, cause));
         }
-        Scanned::Short => Err(refused(bytes.len(), Cause::Truncated)),
-        Scanned::Fault(cause) => Err(refused(at, cause)),
     }
+    Ok(RecordTag {
+        number: tag.number,
+        wire_type: tag.wire_type,
+        at,
+        end,
+    })
 }
 
 /// Judges the last tag of a group of a number, where a group of this number is open innermost, if one is.
