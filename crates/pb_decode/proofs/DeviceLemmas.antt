@@ -18,15 +18,15 @@ use Rattle.pb_decode.specs.declared.error.DecodeError.{DecodeError}
 use Rattle.pb_decode.specs.declared.error.DecodeError.TheVariants as error
 use Rattle.pb_decode.specs.declared.push.Reading.{Reading}
 use Rattle.pb_decode.specs.Reader.{state_view, IfFault}
-use Rattle.pb_decode.specs.Reader.Origin.{Origin, origin, further, TookFrom, IsWhole, BadFrom, ReportedFrom}
+use Rattle.pb_decode.specs.Reader.Start.{Start, starting, further, TookFrom, IsWhole, BadFrom, ReportedFrom}
 use Rattle.pb_decode.specs.FromDevice.{IfRefused, TakesAtMost}
 use Rattle.pb_decode.specs.Loops.{ReadsOn, ReportedOf}
 use Rattle.pb_decode.proofs.OntoText.{text_from, whole_fault, beyond_reported}
 
-pub further_nil : (o : Origin) → further o [] ≡ o
+pub further_nil : (o : Start) → further o [] ≡ o
 further_nil o = ap (λ (z : List ℕ). record o { place = record o.place { rest = z } }) (append-nil o.place.rest)
 
-pub further_more : (o : Origin) (a b : List ℕ) → further (further o a) b ≡ further o (a ++ b)
+pub further_more : (o : Start) (a b : List ℕ) → further (further o a) b ≡ further o (a ++ b)
 further_more o a b = ap (λ (z : List ℕ). record o { place = record o.place { rest = z } }) (append_assoc o.place.rest a b)
 
 pub reads_none : (pool : Types) (r : Reading) (left : Option (List ℕ)) → ReadsOn pool r r left left 0
@@ -34,7 +34,7 @@ reads_none pool r left = record {
   bytes = [];
   size = refl;
   given = Consumes-nil left;
-  onward = λ o took. subst (λ (z : Origin). TookFrom pool z (state_view r.reader) r.held.items) (sym (further_nil o)) took;
+  onward = λ o took. subst (λ (z : Start). TookFrom pool z (state_view r.reader) r.held.items) (sym (further_nil o)) took;
 }
 
 pub reads_more : {pool : Types} {r s t : Reading} {x y z : Option (List ℕ)} {n m k : ℕ} → n + m ≡ k → ReadsOn pool r s x y n → ReadsOn pool s t y z m → ReadsOn pool r t x z k
@@ -42,13 +42,13 @@ reads_more {pool} {r} {s} {t} {x} {y} {z} sum h g = record {
   bytes = h.bytes ++ g.bytes;
   size = let a = h.size in let b = g.size in let joined = length-append h.bytes g.bytes in omega (arith, sum, a, b, joined);
   given = Consumes-trans x y z h.bytes g.bytes h.given g.given;
-  onward = λ o took. subst (λ (p : Origin). TookFrom pool p (state_view t.reader) t.held.items) (further_more o h.bytes g.bytes) (g.onward (further o h.bytes) (h.onward o took));
+  onward = λ o took. subst (λ (p : Start). TookFrom pool p (state_view t.reader) t.held.items) (further_more o h.bytes g.bytes) (g.onward (further o h.bytes) (h.onward o took));
 }
 
 -- the bytes were given before, and are taken now
 pub reads_front :
     {pool : Types} {r s : Reading} (x y : Option (List ℕ)) (bytes : List ℕ) {n : ℕ} → length bytes ≡ n → Consumes x y bytes
-    → ((o : Origin) → TookFrom pool o (state_view r.reader) r.held.items → TookFrom pool (further o bytes) (state_view s.reader) s.held.items) → ReadsOn pool r s x y n
+    → ((o : Start) → TookFrom pool o (state_view r.reader) r.held.items → TookFrom pool (further o bytes) (state_view s.reader) s.held.items) → ReadsOn pool r s x y n
 reads_front x y bytes size given onward = record { bytes = bytes; size = size; given = given; onward = onward }
 
 -- the input gave nothing more
@@ -61,7 +61,7 @@ reads_nothing {x = x} {y = y} z h none = record {
 }
 
 -- how far the reader has come
-pub reads_at : {pool : Types} {r s : Reading} {x y : Option (List ℕ)} {n : ℕ} (o : Origin) → ReadsOn pool r s x y n → TookFrom pool o (state_view r.reader) r.held.items → s.reader.at + length s.held.items ≡ r.reader.at + length r.held.items + n
+pub reads_at : {pool : Types} {r s : Reading} {x y : Option (List ℕ)} {n : ℕ} (o : Start) → ReadsOn pool r s x y n → TookFrom pool o (state_view r.reader) r.held.items → s.reader.at + length s.held.items ≡ r.reader.at + length r.held.items + n
 reads_at o h took =
     let before = took.at in
     let after = (h.onward o took).at in
@@ -69,20 +69,20 @@ reads_at o h took =
     let size = h.size in
     omega (arith, before, after, joined, size)
 
-pub reads_on : {pool : Types} {r s : Reading} {x y : Option (List ℕ)} {n : ℕ} (o : Origin) → ReadsOn pool r s x y n → TookFrom pool o (state_view r.reader) r.held.items → (p : Origin) × TookFrom pool p (state_view s.reader) s.held.items
+pub reads_on : {pool : Types} {r s : Reading} {x y : Option (List ℕ)} {n : ℕ} (o : Start) → ReadsOn pool r s x y n → TookFrom pool o (state_view r.reader) r.held.items → (p : Start) × TookFrom pool p (state_view s.reader) s.held.items
 reads_on o h took = (further o h.bytes, h.onward o took)
 
 pub reported_after :
-    {pool : Types} (o : Origin) (f : Fault) (x y z : Option (List ℕ)) (front : List ℕ) {depth_left most : ℕ} → length front + depth_left ≤ most → Consumes x y front → ReportedOf pool (further o front) y z depth_left f → ReportedOf pool o x z most f
+    {pool : Types} (o : Start) (f : Fault) (x y z : Option (List ℕ)) (front : List ℕ) {depth_left most : ℕ} → length front + depth_left ≤ most → Consumes x y front → ReportedOf pool (further o front) y z depth_left f → ReportedOf pool o x z most f
 reported_after {pool} o f x y z front fits given g = record {
   bytes = front ++ g.bytes;
   few = let b = g.few in let joined = length-append front g.bytes in omega (arith, fits, b, joined);
   given = Consumes-trans x y z front g.bytes given g.given;
-  reported = subst (λ (p : Origin). ReportedFrom pool p f) (further_more o front g.bytes) g.reported;
+  reported = subst (λ (p : Start). ReportedFrom pool p f) (further_more o front g.bytes) g.reported;
 }
 
 pub reported_more :
-    {pool : Types} {r s : Reading} {x y z : Option (List ℕ)} {n depth_left most : ℕ} (o : Origin) (f : Fault) → n + depth_left ≤ most → (h : ReadsOn pool r s x y n) → ReportedOf pool (further o h.bytes) y z depth_left f → ReportedOf pool o x z most f
+    {pool : Types} {r s : Reading} {x y z : Option (List ℕ)} {n depth_left most : ℕ} (o : Start) (f : Fault) → n + depth_left ≤ most → (h : ReadsOn pool r s x y n) → ReportedOf pool (further o h.bytes) y z depth_left f → ReportedOf pool o x z most f
 reported_more {x = x} {y = y} {z = z} o f fits h g = reported_after o f x y z h.bytes (let a = h.size in omega (arith, fits, a)) h.given g
 
 pub takes_after : (x y z : Option (List ℕ)) (front : List ℕ) {depth_left most : ℕ} → length front + depth_left ≤ most → Consumes x y front → TakesAtMost depth_left y z → TakesAtMost most x z
@@ -117,7 +117,7 @@ err_refused (Err e) P Q h bad = if_fault_refused e P Q h bad
 
 -- A TEXT, from position 0 on, with no known end
 module _ {pool : Types} {k : ℕ} {limits : Bounds} (base : List Record) where
-  pub reported_left : (x y : Option (List ℕ)) (most : ℕ) (f : Fault) → most ≡ limits.bytes → ReportedOf pool (origin k limits.depth base None) x y most f → IfSome x (λ left. HasFault (schema_of pool) (a_message k) limits left f)
+  pub reported_left : (x y : Option (List ℕ)) (most : ℕ) (f : Fault) → most ≡ limits.bytes → ReportedOf pool (starting k limits.depth base None) x y most f → IfSome x (λ left. HasFault (schema_of pool) (a_message k) limits left f)
   reported_left None y most f same h = tt
   reported_left (Some left) None most f same h = absurd h.given
   reported_left (Some left) (Some rest) most f same h =
@@ -125,7 +125,7 @@ module _ {pool : Types} {k : ℕ} {limits : Bounds} (base : List Record) where
 
   -- more bytes than the limit allows
   pub more_left :
-      {r s : Reading} (x y z : Option (List ℕ)) (most : ℕ) (bytes : List ℕ) → most ≡ limits.bytes → TookFrom pool (origin k limits.depth base None) (state_view r.reader) r.held.items → ReadsOn pool r s x y most → Consumes y z bytes
+      {r s : Reading} (x y z : Option (List ℕ)) (most : ℕ) (bytes : List ℕ) → most ≡ limits.bytes → TookFrom pool (starting k limits.depth base None) (state_view r.reader) r.held.items → ReadsOn pool r s x y most → Consumes y z bytes
       → length bytes ≡ 1 → IfSome x (λ left. HasFault (schema_of pool) (a_message k) limits left (fault most [] InputTooLarge))
   more_left None y z most bytes same took h given one = tt
   more_left (Some left) None z most bytes same took h given one = absurd h.given
@@ -136,16 +136,16 @@ module _ {pool : Types} {k : ℕ} {limits : Bounds} (base : List Record) where
       let part = ap length given ∙ length-append bytes last in
       let front : take most left ≡ h.bytes = ap (take most) h.given ∙ take_at h.bytes rest most size in
       beyond_reported most (state_view s.reader) s.held.items same (omega (arith, size, whole, part, one))
-      (subst (λ (b : List ℕ). TookFrom pool (further (origin k limits.depth base None) b) (state_view s.reader) s.held.items) (sym front) (h.onward (origin k limits.depth base None) took))
+      (subst (λ (b : List ℕ). TookFrom pool (further (starting k limits.depth base None) b) (state_view s.reader) s.held.items) (sym front) (h.onward (starting k limits.depth base None) took))
 
 -- all that is left, up to the end of the input
 pub text_left :
-    {pool : Types} {k : ℕ} {limits : Bounds} (x y : Option (List ℕ)) (bytes : List ℕ) (v : Message) → length bytes ≤ limits.bytes → Consumes x y bytes → IsAtEnd y → IsWhole pool (further (origin k limits.depth [] None) bytes) v
+    {pool : Types} {k : ℕ} {limits : Bounds} (x y : Option (List ℕ)) (bytes : List ℕ) (v : Message) → length bytes ≤ limits.bytes → Consumes x y bytes → IsAtEnd y → IsWhole pool (further (starting k limits.depth [] None) bytes) v
     → IfSome x (λ left. Text pool k limits left v)
 text_left {pool} {k} {limits} x y bytes v size given ended h =
     Consumes-whole x y bytes (λ left. Text pool k limits left v) given ended (text_from v size h)
 
 pub fault_left :
     (pool : Types) {k : ℕ} {limits : Bounds} (base : List Record) (x y : Option (List ℕ)) (bytes : List ℕ) (f : Fault) → length bytes ≤ limits.bytes → Consumes x y bytes → IsAtEnd y
-    → BadFrom pool (further (origin k limits.depth base None) bytes) f → IfSome x (λ left. HasFault (schema_of pool) (a_message k) limits left f)
+    → BadFrom pool (further (starting k limits.depth base None) bytes) f → IfSome x (λ left. HasFault (schema_of pool) (a_message k) limits left f)
 fault_left pool {k} {limits} base x y bytes f size given ended bad = Consumes-whole x y bytes (λ left. HasFault (schema_of pool) (a_message k) limits left f) given ended (whole_fault pool base f size bad)

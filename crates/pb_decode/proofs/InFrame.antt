@@ -17,7 +17,7 @@ use Rattle.pb_schema.specs.Types.{Types}
 use Rattle.pb_schema.specs.Context.{a_message, schema_of}
 use Rattle.pb_value.specs.Data.{Message}
 use Rattle.pb_value.specs.Derives.{Text}
-use Rattle.pb_decode.specs.Reader.Origin.{origin, further, IsWhole, BadFrom}
+use Rattle.pb_decode.specs.Reader.Start.{starting, further, IsWhole, BadFrom}
 use Rattle.pb_decode.specs.declared.error.DecodeError.{DecodeError}
 use Rattle.pb_decode.specs.declared.error.DecodeError.TheVariants as error
 use Rattle.pb_decode.specs.FromDevice.{IfRefused}
@@ -32,7 +32,7 @@ pub record IsAll (size : ℕ) (bytes front : List ℕ) : Type 0 where
   pub size_is : length bytes ≡ size
   pub same : front ≡ bytes
 
-pub all_there : {pool : Types} {k depth : ℕ} {bytes : List ℕ} {v : Message} (size : ℕ) → length bytes ≤ size → (w : IsWhole pool (further (origin k depth [] (Some size)) bytes) v) → IsAll size bytes w.front
+pub all_there : {pool : Types} {k depth : ℕ} {bytes : List ℕ} {v : Message} (size : ℕ) → length bytes ≤ size → (w : IsWhole pool (further (starting k depth [] (Some size)) bytes) v) → IsAll size bytes w.front
 all_there {bytes = bytes} size few w = by_end w.over
   where
     by_end : (w.after.known ≡ Some 0) ⊎ ((w.after.known ≡ None) × (w.after.rest ≡ [])) → IsAll size bytes w.front
@@ -49,7 +49,7 @@ all_there {bytes = bytes} size few w = by_end w.over
 
 -- THE VALUE
 pub frame_left :
-    {pool : Types} {k : ℕ} {limits : Bounds} (x y : Option (List ℕ)) (size : ℕ) (bytes : List ℕ) (v : Message) → size ≤ limits.bytes → length bytes ≤ size → Consumes x y bytes → IsWhole pool (further (origin k limits.depth [] (Some size)) bytes) v
+    {pool : Types} {k : ℕ} {limits : Bounds} (x y : Option (List ℕ)) (size : ℕ) (bytes : List ℕ) (v : Message) → size ≤ limits.bytes → length bytes ≤ size → Consumes x y bytes → IsWhole pool (further (starting k limits.depth [] (Some size)) bytes) v
     → IfSome x (λ left. IsFrameOf pool k limits size left v)
 frame_left None y size bytes v fits few given w = tt
 frame_left (Some left) None size bytes v fits few given w = absurd given
@@ -65,7 +65,7 @@ frame_left {pool} {k} {limits} (Some left) (Some rest) size bytes v fits few giv
           (record { size = omega (arith, size_is, fits); derives = record { records = w.records; spelled = subst (AreRecords w.records) all.same w.spelled; sound = w.sound; valued = w.valued } });
     }
 
-pub rest_left : {pool : Types} {k depth : ℕ} (x y : Option (List ℕ)) (size : ℕ) (bytes : List ℕ) (v : Message) → length bytes ≤ size → Consumes x y bytes → IsWhole pool (further (origin k depth [] (Some size)) bytes) v → IfSome x (λ left. y ≡ Some (drop size left))
+pub rest_left : {pool : Types} {k depth : ℕ} (x y : Option (List ℕ)) (size : ℕ) (bytes : List ℕ) (v : Message) → length bytes ≤ size → Consumes x y bytes → IsWhole pool (further (starting k depth [] (Some size)) bytes) v → IfSome x (λ left. y ≡ Some (drop size left))
 rest_left None y size bytes v few given w = tt
 rest_left (Some left) None size bytes v few given w = absurd given
 rest_left (Some left) (Some rest) size bytes v few given w = ap (λ (z : List ℕ). Some z) (sym (ap (drop size) given ∙ drop_at bytes rest size (all_there size few w).size_is))
@@ -88,14 +88,14 @@ rest_text (Some left) None size bytes all given = absurd given
 rest_text (Some left) (Some rest) size bytes all given = ap (λ (z : List ℕ). Some z) (sym (ap (drop size) given ∙ drop_at bytes rest size all))
 
 -- THE FAULT
-pub reported_frame : {pool : Types} {k depth : ℕ} (x y : Option (List ℕ)) (size most : ℕ) (f : Fault) → ReportedOf pool (origin k depth [] (Some size)) x y most f → IfSome x (λ left. BadFrame pool k depth 0 size left f)
+pub reported_frame : {pool : Types} {k depth : ℕ} (x y : Option (List ℕ)) (size most : ℕ) (f : Fault) → ReportedOf pool (starting k depth [] (Some size)) x y most f → IfSome x (λ left. BadFrame pool k depth 0 size left f)
 reported_frame None y size most f h = tt
 reported_frame (Some left) None size most f h = absurd h.given
 reported_frame {pool} {k} {depth} (Some left) (Some rest) size most f h = subst (λ (z : List ℕ). BadFrame pool k depth 0 size z f) (sym h.given) (bad_longer rest h.reported.bad h.reported.settled)
 
 -- and where the input ended, or all bytes of the frame are given
 pub bad_frame :
-    (pool : Types) {k depth : ℕ} (x y : Option (List ℕ)) (size : ℕ) (bytes : List ℕ) (f : Fault) → (length bytes ≡ size) ⊎ IsAtEnd y → Consumes x y bytes → BadFrom pool (further (origin k depth [] (Some size)) bytes) f
+    (pool : Types) {k depth : ℕ} (x y : Option (List ℕ)) (size : ℕ) (bytes : List ℕ) (f : Fault) → (length bytes ≡ size) ⊎ IsAtEnd y → Consumes x y bytes → BadFrom pool (further (starting k depth [] (Some size)) bytes) f
     → IfSome x (λ left. BadFrame pool k depth 0 size left f)
 bad_frame pool {k} {depth} x y size bytes f (inr ended) given bad = Consumes-whole x y bytes (λ left. BadFrame pool k depth 0 size left f) given ended bad
 bad_frame pool None y size bytes f (inl all) given bad = tt
@@ -104,7 +104,7 @@ bad_frame pool {k} {depth} (Some left) (Some rest) size bytes f (inl all) given 
     subst (λ (z : List ℕ). BadFrame pool k depth 0 size z f) (sym given) (bad_longer rest bad (never_cut (record { left = size; known = refl; enough = omega (arith, all) }) bad))
 
 -- where it is reported
-pub low_byte : (pool : Types) {k depth size : ℕ} {bytes : List ℕ} (f : Fault) → BadFrom pool (further (origin k depth [] (Some size)) bytes) f → f.byte ≤ length bytes
+pub low_byte : (pool : Types) {k depth size : ℕ} {bytes : List ℕ} (f : Fault) → BadFrom pool (further (starting k depth [] (Some size)) bytes) f → f.byte ≤ length bytes
 low_byte pool {bytes = bytes} f bad = let high = (bad_reported bad).high in omega (arith, high)
 
 -- FROM A LATER POSITION ON

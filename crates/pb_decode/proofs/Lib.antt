@@ -47,7 +47,7 @@ pub mod GoingLemmas
 -- for the contracts of the calls: what is known of an answer or of a fault, said weaker, and that what is right is answered
 pub mod Outcomes
 -- for a reader from where it began to the end of its message
-pub mod OriginLemmas
+pub mod StartLemmas
 -- for `decode` and `decode_onto`: an input onto what the reader began with, or its fault
 pub mod OntoText
 -- for an input: its bytes, read piece by piece

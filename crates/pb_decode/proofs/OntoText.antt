@@ -29,22 +29,22 @@ use Rattle.pb_value.proofs.OntoLemmas.{onto_joined}
 use Rattle.pb_value.proofs.RoundTrip.{canonical_text}
 use Rattle.pb_value.proofs.JoinedTexts.{AreRecords-append, AllSound-append, AllSound-behind, records_behind}
 use Rattle.pb_decode.specs.Reader.{State, Stops, over, cut}
-use Rattle.pb_decode.specs.Reader.Origin.{origin, further, TookFrom, IsWhole, BadFrom, ReportedFrom}
+use Rattle.pb_decode.specs.Reader.Start.{starting, further, TookFrom, IsWhole, BadFrom, ReportedFrom}
 use Rattle.pb_decode.specs.Onto.{IsTextOnto}
 use Rattle.pb_decode.specs.Push.{Took}
 use Rattle.pb_whole.proofs.Top.{nothing_good}
-use Rattle.pb_decode.proofs.OriginLemmas.{is_message, whole_there}
+use Rattle.pb_decode.proofs.StartLemmas.{is_message, whole_there}
 
 -- THE START: the canonical records have the message as their value
 pub begun_onto :
     {pool : Types} {k : ℕ} {v : Message} (depth_left depth : ℕ) (s : State) (held : List ℕ) → depth_left ≡ depth → IsPool pool → k < length pool.messages → IsWellFormed pool k v
-    → ((p : Types) (base : List Record) → k < length p.messages → IsWellFormed p k v → v ≡ value p k base → TookFrom p (origin k depth_left base None) s held) → TookFrom pool (origin k depth (canon pool k v) None) s held
+    → ((p : Types) (base : List Record) → k < length p.messages → IsWellFormed p k v → v ≡ value p k base → TookFrom p (starting k depth_left base None) s held) → TookFrom pool (starting k depth (canon pool k v) None) s held
 begun_onto {pool} {k} {v} depth_left depth s held same rules within good begun =
-    subst (λ (d : ℕ). TookFrom pool (origin k d (canon pool k v) None) s held) same (begun pool (canon pool k v) within good (sym (value-canon pool k v rules good)))
+    subst (λ (d : ℕ). TookFrom pool (starting k d (canon pool k v) None) s held) same (begun pool (canon pool k v) within good (sym (value-canon pool k v rules good)))
 
 -- THE ONE ANSWER
 -- the records before the end are all
-pub whole_front : {pool : Types} {k depth : ℕ} {base : List Record} {b : List ℕ} {v : Message} (w : IsWhole pool (further (origin k depth base None) b) v) → w.front ≡ b
+pub whole_front : {pool : Types} {k depth : ℕ} {base : List Record} {b : List ℕ} {v : Message} (w : IsWhole pool (further (starting k depth base None) b) v) → w.front ≡ b
 whole_front {b = b} w = by_end w.over
   where
     by_end : (w.after.known ≡ Some 0) ⊎ ((w.after.known ≡ None) × (w.after.rest ≡ [])) → w.front ≡ b
@@ -52,7 +52,7 @@ whole_front {b = b} w = by_end w.over
     by_end (inr ended) = sym (w.moves.given ∙ ap (λ (z : List ℕ). w.front ++ z) ended.1 ∙ append-nil w.front)
 
 pub text_onto :
-    {pool : Types} {m : ℕ} {limits : Bounds} {v : Message} {b : List ℕ} (w : Message) → length b ≤ limits.bytes → IsWhole pool (further (origin m limits.depth (canon pool m v) None) b) w → IsTextOnto pool m limits v b w
+    {pool : Types} {m : ℕ} {limits : Bounds} {v : Message} {b : List ℕ} (w : Message) → length b ≤ limits.bytes → IsWhole pool (further (starting m limits.depth (canon pool m v) None) b) w → IsTextOnto pool m limits v b w
 unfolding onto
 text_onto w size h = record {
   size = size;
@@ -61,17 +61,17 @@ text_onto w size h = record {
 
 -- onto nothing
 pub text_from :
-    {pool : Types} {m : ℕ} {limits : Bounds} {b : List ℕ} (w : Message) → length b ≤ limits.bytes → IsWhole pool (further (origin m limits.depth [] None) b) w → Text pool m limits b w
+    {pool : Types} {m : ℕ} {limits : Bounds} {b : List ℕ} (w : Message) → length b ≤ limits.bytes → IsWhole pool (further (starting m limits.depth [] None) b) w → Text pool m limits b w
 text_from w size h = record {
   size = size;
   derives = record { records = h.records; spelled = subst (AreRecords h.records) (whole_front h) h.spelled; sound = h.sound; valued = h.valued };
 }
 
 -- what a decoder has taken of an encoding, as a reader that began there
-pub from_took : {pool : Types} {m : ℕ} {limits : Bounds} {b : List ℕ} (s : State) (held : List ℕ) → Took pool m limits b s held → TookFrom pool (further (origin m limits.depth [] None) b) s held
+pub from_took : {pool : Types} {m : ℕ} {limits : Bounds} {b : List ℕ} (s : State) (held : List ℕ) → Took pool m limits b s held → TookFrom pool (further (starting m limits.depth [] None) b) s held
 from_took s held h = record { reads = h.reads; stops = h.stops; at = let at = h.at in omega (arith, at) }
 
-pub took_none : (pool : Types) (m : ℕ) (limits : Bounds) (s : State) (held : List ℕ) → TookFrom pool (origin m limits.depth [] None) s held → Took pool m limits [] s held
+pub took_none : (pool : Types) (m : ℕ) (limits : Bounds) (s : State) (held : List ℕ) → TookFrom pool (starting m limits.depth [] None) s held → Took pool m limits [] s held
 took_none pool m limits s held h = record { reads = h.reads; stops = h.stops; at = let at = h.at in omega (arith, at); size = omega arith }
 
 some_text : {pool : Types} {m : ℕ} {limits : Bounds} {v w : Message} {b : List ℕ} → IsTextOnto pool m limits v b w → IsSomeText (schema_of pool) (a_message m) limits b
@@ -107,42 +107,42 @@ nothing_derives pool m depth v none = record { records = []; spelled = refl; sou
 
 -- FAULTS
 pub whole_fault :
-    (pool : Types) {k : ℕ} {limits : Bounds} (base : List Record) {b : List ℕ} (f : Fault) → length b ≤ limits.bytes → BadFrom pool (further (origin k limits.depth base None) b) f → HasFault (schema_of pool) (a_message k) limits b f
+    (pool : Types) {k : ℕ} {limits : Bounds} (base : List Record) {b : List ℕ} (f : Fault) → length b ≤ limits.bytes → BadFrom pool (further (starting k limits.depth base None) b) f → HasFault (schema_of pool) (a_message k) limits b f
 whole_fault pool base f size h = HasFault.bad size h
 
 front_fault :
-    {pool : Types} {k : ℕ} {limits : Bounds} (base : List Record) {b : List ℕ} (f : Fault) → limits.bytes < length b → ReportedFrom pool (further (origin k limits.depth base None) (take limits.bytes b)) f
+    {pool : Types} {k : ℕ} {limits : Bounds} (base : List Record) {b : List ℕ} (f : Fault) → limits.bytes < length b → ReportedFrom pool (further (starting k limits.depth base None) (take limits.bytes b)) f
     → HasFault (schema_of pool) (a_message k) limits b f
 front_fault {limits = limits} base f more h = HasFault.bad_front more h.bad (beyond_settled limits.bytes f h.settled)
 
 -- a fault of the bytes within the limit
 pub front_reported :
-    {pool : Types} {k : ℕ} {limits : Bounds} (base : List Record) {b : List ℕ} (most : ℕ) (f : Fault) → most ≡ limits.bytes → most < length b → ReportedFrom pool (further (origin k limits.depth base None) (take most b)) f
+    {pool : Types} {k : ℕ} {limits : Bounds} (base : List Record) {b : List ℕ} (most : ℕ) (f : Fault) → most ≡ limits.bytes → most < length b → ReportedFrom pool (further (starting k limits.depth base None) (take most b)) f
     → HasFault (schema_of pool) (a_message k) limits b f
 front_reported {pool} {k} {limits} base {b} most f is more h =
-    front_fault base f (omega (arith, is, more)) (subst (λ (n : ℕ). ReportedFrom pool (further (origin k limits.depth base None) (take n b)) f) is h)
+    front_fault base f (omega (arith, is, more)) (subst (λ (n : ℕ). ReportedFrom pool (further (starting k limits.depth base None) (take n b)) f) is h)
 
 beyond_fault :
-    {pool : Types} {k : ℕ} {limits : Bounds} {base : List Record} {b : List ℕ} (s : State) (held : List ℕ) → limits.bytes < length b → TookFrom pool (further (origin k limits.depth base None) (take limits.bytes b)) s held
+    {pool : Types} {k : ℕ} {limits : Bounds} {base : List Record} {b : List ℕ} (s : State) (held : List ℕ) → limits.bytes < length b → TookFrom pool (further (starting k limits.depth base None) (take limits.bytes b)) s held
     → HasFault (schema_of pool) (a_message k) limits b (fault limits.bytes [] InputTooLarge)
 beyond_fault {pool} {k} {limits} {base} {b} s held more h = by_stops h.stops
   where
-    from_whole : (w : Message) → IsWhole pool (further (origin k limits.depth base None) (take limits.bytes b)) w → HasFault (schema_of pool) (a_message k) limits b (fault limits.bytes [] InputTooLarge)
+    from_whole : (w : Message) → IsWhole pool (further (starting k limits.depth base None) (take limits.bytes b)) w → HasFault (schema_of pool) (a_message k) limits b (fault limits.bytes [] InputTooLarge)
     from_whole w whole = HasFault.too_large more (whole.records, subst (AreRecords whole.records) (whole_front whole) whole.spelled, whole.sound) refl
 
-    by_stops : Stops pool k limits.depth (further (origin k limits.depth base None) (take limits.bytes b)).place s held → HasFault (schema_of pool) (a_message k) limits b (fault limits.bytes [] InputTooLarge)
+    by_stops : Stops pool k limits.depth (further (starting k limits.depth base None) (take limits.bytes b)).place s held → HasFault (schema_of pool) (a_message k) limits b (fault limits.bytes [] InputTooLarge)
     by_stops (cut bad) = HasFault.bad_front more bad refl
     by_stops (over none tag ended) =
-        let (w, form) = is_message (further (origin k limits.depth base None) (take limits.bytes b)) s held (record { parents = none; next = tag; over = ended }) h in
-        from_whole w (whole_there (further (origin k limits.depth base None) (take limits.bytes b)) s held k w (record { parents = none; next = tag; over = ended }) form h)
+        let (w, form) = is_message (further (starting k limits.depth base None) (take limits.bytes b)) s held (record { parents = none; next = tag; over = ended }) h in
+        from_whole w (whole_there (further (starting k limits.depth base None) (take limits.bytes b)) s held k w (record { parents = none; next = tag; over = ended }) form h)
 
 -- more bytes than the limit allows: those within it are whole, or cut short
 pub beyond_reported :
     {pool : Types} {k : ℕ} {limits : Bounds} {base : List Record} {b : List ℕ} (most : ℕ) (s : State) (held : List ℕ) → most ≡ limits.bytes → most < length b
-    → TookFrom pool (further (origin k limits.depth base None) (take most b)) s held → HasFault (schema_of pool) (a_message k) limits b (fault most [] InputTooLarge)
+    → TookFrom pool (further (starting k limits.depth base None) (take most b)) s held → HasFault (schema_of pool) (a_message k) limits b (fault most [] InputTooLarge)
 beyond_reported {pool} {k} {limits} {base} {b} most s held is more h =
     subst (λ (n : ℕ). HasFault (schema_of pool) (a_message k) limits b (fault n [] InputTooLarge)) (sym is)
-    (beyond_fault s held (omega (arith, is, more)) (subst (λ (n : ℕ). TookFrom pool (further (origin k limits.depth base None) (take n b)) s held) is h))
+    (beyond_fault s held (omega (arith, is, more)) (subst (λ (n : ℕ). TookFrom pool (further (starting k limits.depth base None) (take n b)) s held) is h))
 
 -- JOINED INPUTS: after bytes that the message derives from
 module _ (pool : Types) (rules : IsPool pool) (m depth : ℕ) (v : Message) (good : IsWellFormed pool m v) where

@@ -22,7 +22,7 @@ use Rattle.pb_building.specs.Open.Opened.{SoFar}
 use Rattle.pb_building.specs.Open.Parents.{Part, message_part, Parent, Scope, EndsAt, Held, at_top, Stands}
 use Rattle.pb_building.specs.Tokens.After.{After}
 use Rattle.pb_decode.specs.Reader.{State, here, path_here, Reads, IsReading, Stops, over, cut}
-use Rattle.pb_decode.specs.Reader.Origin.{Origin, origin, further, TookFrom, IsOverAt, IsWhole, BadFrom}
+use Rattle.pb_decode.specs.Reader.Start.{Start, starting, further, TookFrom, IsOverAt, IsWhole, BadFrom}
 use Rattle.pb_building.proofs.AfterLemmas.{after_record, at_record}
 use Rattle.pb_building.proofs.ParentLemmas.{stands_at_start}
 use Rattle.pb_decode.proofs.FinishLemmas.{cut_reported}
@@ -31,7 +31,7 @@ use Rattle.pb_whole.proofs.Top.{is_top, top_well_formed}
 -- MORE BYTES
 
 -- a reader that took some input is where a step goes on
-pub from_reading : {pool : Types} (o : Origin) (s : State) (held : List ℕ) → s.at + length held < 2 ^ 31 → TookFrom pool o s held → IsReading pool s held
+pub from_reading : {pool : Types} (o : Start) (s : State) (held : List ℕ) → s.at + length held < 2 ^ 31 → TookFrom pool o s held → IsReading pool s held
 from_reading o s held small h = record {
   m = o.kind;
   depth = o.depth;
@@ -43,7 +43,7 @@ from_reading o s held small h = record {
 }
 
 pub took_further :
-    {pool : Types} (o : Origin) (s t : State) (held rest more : List ℕ) → TookFrom pool o s held → t.at + length rest ≡ s.at + length held + length more
+    {pool : Types} (o : Start) (s t : State) (held rest more : List ℕ) → TookFrom pool o s held → t.at + length rest ≡ s.at + length held + length more
     → Reads pool o.kind o.depth 101 o.base (longer o.place more) t rest × Stops pool o.kind o.depth (longer o.place more) t rest → TookFrom pool (further o more) t rest
 took_further o s t held rest more h at there = record {
   reads = there.0;
@@ -53,17 +53,17 @@ took_further o s t held rest more h at there = record {
 
 -- THE END
 -- where nothing is open but the message, the reader is after a whole record of it
-pub stands_over : {pool : Types} (o : Origin) (s : State) (held : List ℕ) → IsOverAt s held → TookFrom pool o s held → Stands pool o.kind o.depth 101 o.base o.place [] s.now s.scope (here s held)
+pub stands_over : {pool : Types} (o : Start) (s : State) (held : List ℕ) → IsOverAt s held → TookFrom pool o s held → Stands pool o.kind o.depth 101 o.base o.place [] s.now s.scope (here s held)
 stands_over {pool} o s held ended h =
     at_record
     (subst (λ (z : Step). After pool o.kind o.depth 101 o.base o.place [] z s.now s.scope (here s held)) ended.next
     (subst (λ (z : List Parent). After pool o.kind o.depth 101 o.base o.place z s.next s.now s.scope (here s held)) ended.parents h.reads))
 
-pub is_message : {pool : Types} (o : Origin) (s : State) (held : List ℕ) → IsOverAt s held → TookFrom pool o s held → (v : Message) × (s.now ≡ message_part o.kind v)
+pub is_message : {pool : Types} (o : Start) (s : State) (held : List ℕ) → IsOverAt s held → TookFrom pool o s held → (v : Message) × (s.now ≡ message_part o.kind v)
 is_message o s held ended h = is_top refl (stands_over o s held ended h).held
 
 -- whole records lead from the top's first byte to the reader's position
-whole_read : (pool : Types) (o : Origin) (k : ℕ) (v : Message) (scope : Scope) (q : Place) → IsOver q → Stands pool o.kind o.depth 101 o.base o.place [] (message_part k v) scope q → IsWhole pool o v
+whole_read : (pool : Types) (o : Start) (k : ℕ) (v : Message) (scope : Scope) (q : Place) → IsOver q → Stands pool o.kind o.depth 101 o.base o.place [] (message_part k v) scope q → IsWhole pool o v
 unfolding value
 whole_read pool o k v scope q ended s = from_held s.held s.so_far s.worth
   where
@@ -85,17 +85,17 @@ whole_read pool o k v scope q ended s = from_held s.held s.so_far s.worth
           ∙ ap (λ (z : List Record). value_within pool 101 o.kind (z ++ rs)) is_base;
     }
 
-pub whole_there : {pool : Types} (o : Origin) (s : State) (held : List ℕ) (k : ℕ) (w : Message) → IsOverAt s held → s.now ≡ message_part k w → TookFrom pool o s held → IsWhole pool o w
+pub whole_there : {pool : Types} (o : Start) (s : State) (held : List ℕ) (k : ℕ) (w : Message) → IsOverAt s held → s.now ≡ message_part k w → TookFrom pool o s held → IsWhole pool o w
 whole_there {pool} o s held k w ended is h =
     whole_read pool o k w s.scope (here s held) ended.over
     (subst (λ (z : Part). Stands pool o.kind o.depth 101 o.base o.place [] z s.scope (here s held)) is (stands_over o s held ended h))
 
-pub well_formed_over : {pool : Types} (o : Origin) (s : State) (held : List ℕ) (k : ℕ) (w : Message) → IsPool pool → IsOverAt s held → s.now ≡ message_part k w → TookFrom pool o s held → IsWellFormed pool o.kind w
+pub well_formed_over : {pool : Types} (o : Start) (s : State) (held : List ℕ) (k : ℕ) (w : Message) → IsPool pool → IsOverAt s held → s.now ≡ message_part k w → TookFrom pool o s held → IsWellFormed pool o.kind w
 well_formed_over {pool} o s held k w ok ended is h =
     top_well_formed k w ok (subst (λ (z : Part). Stands pool o.kind o.depth 101 o.base o.place [] z s.scope (here s held)) is (stands_over o s held ended h))
 
 -- what is begun is cut short
-pub cut_over : {pool : Types} (o : Origin) (s : State) (held : List ℕ) → (IsOverAt s held → ⊥) → TookFrom pool o s held → BadFrom pool o (fault (s.at + length held) (path_here s) Truncated)
+pub cut_over : {pool : Types} (o : Start) (s : State) (held : List ℕ) → (IsOverAt s held → ⊥) → TookFrom pool o s held → BadFrom pool o (fault (s.at + length held) (path_here s) Truncated)
 cut_over {pool} o s held begun h = by_stops h.stops
   where
     by_stops : Stops pool o.kind o.depth o.place s held → BadFrom pool o (fault (s.at + length held) (path_here s) Truncated)
@@ -138,7 +138,7 @@ stops_at_start k depth base v scope (Some (suc n)) is stands = cut (cut_reported
 
 took_started :
     (pool : Types) (k depth : ℕ) (base : List Record) (end : Option ℕ) (v : Message) (scope : Scope) → scope.depth_left ≡ depth → scope.end ≡ end → ((n : ℕ) → scope.counts n ≡ 0) → depth ≤ 100 → k < length pool.messages
-    → IsWellFormed pool k v → v ≡ value pool k base → TookFrom pool (origin k depth base end) (started (message_part k v) scope) []
+    → IsWellFormed pool k v → v ≡ value pool k base → TookFrom pool (starting k depth base end) (started (message_part k v) scope) []
 unfolding value started
 took_started pool k depth base end v scope depth_left is_end counts deep within good is = record {
   reads = subst (λ (z : Place). After pool k depth 101 base (given_at 0 end []) [] step.Tag (message_part k v) scope z) placed (after_record stands);
@@ -154,18 +154,18 @@ took_started pool k depth base end v scope depth_left is_end counts deep within 
     placed : given_at 0 end [] ≡ given_at 0 (option_map (λ (e : ℕ). e - 0) scope.end) []
     placed = ap (λ (z : Option ℕ). given_at 0 z []) (sym (left_at_start end) ∙ ap (option_map (λ (e : ℕ). e - 0)) (sym is_end))
 
-pub took_origin :
+pub took_start :
     (pool : Types) (k depth : ℕ) (base : List Record) (end : Option ℕ) (v : Message) (s : State) (held : List ℕ) → s.at ≡ 0 → s.next ≡ step.Tag → s.parents ≡ [] → s.now ≡ message_part k v → s.scope.depth_left ≡ depth → s.scope.end ≡ end
-    → ((n : ℕ) → s.scope.counts n ≡ 0) → held ≡ [] → depth ≤ 100 → k < length pool.messages → IsWellFormed pool k v → v ≡ value pool k base → TookFrom pool (origin k depth base end) s held
-took_origin pool k depth base end v s held at tag none part depth_left is_end counts empty_held deep within good is =
-    subst (λ (z : State). TookFrom pool (origin k depth base end) z held) (sym (state_is s (message_part k v) at tag none part))
-    (subst (TookFrom pool (origin k depth base end) (started (message_part k v) s.scope)) (sym empty_held) (took_started pool k depth base end v s.scope depth_left is_end counts deep within good is))
+    → ((n : ℕ) → s.scope.counts n ≡ 0) → held ≡ [] → depth ≤ 100 → k < length pool.messages → IsWellFormed pool k v → v ≡ value pool k base → TookFrom pool (starting k depth base end) s held
+took_start pool k depth base end v s held at tag none part depth_left is_end counts empty_held deep within good is =
+    subst (λ (z : State). TookFrom pool (starting k depth base end) z held) (sym (state_is s (message_part k v) at tag none part))
+    (subst (TookFrom pool (starting k depth base end) (started (message_part k v) s.scope)) (sym empty_held) (took_started pool k depth base end v s.scope depth_left is_end counts deep within good is))
 
 -- onto nothing
 pub begun_empty :
     {pool : Types} (k depth_left depth : ℕ) (end : Option ℕ) (v : Message) (s : State) (held : List ℕ) → v ≡ empty → depth_left ≡ depth → k < length pool.messages
-    → ((p : Types) (base : List Record) → k < length p.messages → IsWellFormed p k v → v ≡ value p k base → TookFrom p (origin k depth_left base end) s held) → TookFrom pool (origin k depth [] end) s held
+    → ((p : Types) (base : List Record) → k < length p.messages → IsWellFormed p k v → v ≡ value p k base → TookFrom p (starting k depth_left base end) s held) → TookFrom pool (starting k depth [] end) s held
 unfolding value
 begun_empty {pool} k depth_left depth end v s held none same within begun =
-    subst (λ (d : ℕ). TookFrom pool (origin k d [] end) s held) same
+    subst (λ (d : ℕ). TookFrom pool (starting k d [] end) s held) same
     (begun pool [] within (subst (IsWellFormed pool k) (sym none) (record { parts = (tt, tt, tt, tt); depth = omega arith })) (none ∙ sym (value_of_nothing pool 101 k)))

@@ -4,7 +4,7 @@ use Rattle.std.specs.Io.KnownBytes.{Consumes}
 use Rattle.pb_wire.specs.Fault.{Fault}
 use Rattle.pb_schema.specs.Types.{Types}
 use Rattle.pb_decode.specs.declared.push.Reading.{Reading}
-use Rattle.pb_decode.specs.Reader.Origin.{Origin, further, ReportedFrom}
+use Rattle.pb_decode.specs.Reader.Start.{Start, further, ReportedFrom}
 use Rattle.pb_decode.specs.Reader.Pieces.{ReadFrom}
 
 -- the input gave this many bytes, and the reader went on over them
@@ -12,10 +12,10 @@ pub record ReadsOn (pool : Types) (before after : Reading) (old new : Option (Li
   pub bytes : List ℕ
   pub size : length bytes ≡ count
   pub given : Consumes old new bytes
-  pub onward : (o : Origin) → ReadFrom pool o before → ReadFrom pool (further o bytes) after
+  pub onward : (o : Start) → ReadFrom pool o before → ReadFrom pool (further o bytes) after
 
 -- of at most this many bytes that the input gave this fault is reported, which no more bytes change
-pub record ReportedOf (pool : Types) (o : Origin) (old new : Option (List ℕ)) (most : ℕ) (f : Fault) : Type 0 where
+pub record ReportedOf (pool : Types) (o : Start) (old new : Option (List ℕ)) (most : ℕ) (f : Fault) : Type 0 where
   pub bytes : List ℕ
   pub few : length bytes ≤ most
   pub given : Consumes old new bytes

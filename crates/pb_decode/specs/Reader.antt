@@ -1,6 +1,6 @@
 -- What a reader of a part has, and what it has found of the bytes given.
 pub mod Waiting
-pub mod Origin
+pub mod Start
 pub mod Steps
 pub mod Pieces
 pub mod Ended

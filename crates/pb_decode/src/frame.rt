@@ -9,14 +9,14 @@ ghost use Rattle.pb_value.specs.Derives.{Text};
 ghost use Rattle.pb_decode.specs.declared.error.DecodeError.TheVariants.{Device};
 ghost use Rattle.pb_decode.specs.FromDevice.{IfRefused, TellsFailures, TakesAtMost, GivesOrFails, TellsOrFails};
 ghost use Rattle.pb_decode.specs.Loops.{ReadsOn, ReportedOf};
-ghost use Rattle.pb_decode.specs.Reader.Origin.{Origin};
+ghost use Rattle.pb_decode.specs.Reader.Start.{Start};
 ghost use Rattle.pb_decode.specs.Reader.Pieces.{received, ReadFrom};
 ghost use Rattle.pb_decode.specs.Frame.{IsFrameOf, BadFrame, error_later};
 
 use crate::error::DecodeError;
 use crate::from_device::read_pieces;
 use crate::push::Reading;
-use crate::reader::origin::{begin_empty, finish_message, take_onward};
+use crate::reader::start::{begin_empty, finish_message, take_onward};
 use pb_schema::{MessageId, Pool};
 use pb_value::DynamicMessage;
 use pb_whole::build;
@@ -86,7 +86,7 @@ fn take_frame<I: Input>(
     size: usize,
 ) -> Result<usize, DecodeError>
     requires rules { IsPool pool.now }
-    requires took { (o : Origin) × ReadFrom pool.now o reading.old }
+    requires took { (o : Start) × ReadFrom pool.now o reading.old }
     requires small { received reading.old + size < 2 ^ 31 }
     requires count { length first.now ≤ size }
     requires ends { length first.now ≡ 0 → 0 < size → IsAtEnd (I.left input.old) }
@@ -94,7 +94,7 @@ fn take_frame<I: Input>(
     ensures read { (x : Option (List ℕ)) → Consumes x (I.left input.old) first.now
         → IfOk result (λ n. ReadsOn pool.now reading.old reading.new x (I.left input.new) n) }
     ensures ends { IfOk result (λ n. (n ≡ size) ⊎ IsAtEnd (I.left input.new)) }
-    ensures fault { (x : Option (List ℕ)) (o : Origin) → Consumes x (I.left input.old) first.now → ReadFrom pool.now o reading.old
+    ensures fault { (x : Option (List ℕ)) (o : Start) → Consumes x (I.left input.old) first.now → ReadFrom pool.now o reading.old
         → IfErr result (λ e. IfRefused e (ReportedOf pool.now o x (I.left input.new) size)) }
     ensures taken { (x : Option (List ℕ)) → Consumes x (I.left input.old) first.now → TakesAtMost size x (I.left input.new) }
     ensures failures { TellsFailures result (I.failures input.old) (I.failures input.new) }

@@ -8,7 +8,7 @@ ghost use Rattle.pb_schema.specs.Rules.{IsPool};
 ghost use Rattle.pb_value.specs.Data.{Message};
 ghost use Rattle.pb_value.specs.Derives.{Text};
 ghost use Rattle.pb_decode.specs.declared.error.DecodeError.TheVariants.{Device};
-ghost use Rattle.pb_decode.specs.Reader.Origin.{Origin, origin};
+ghost use Rattle.pb_decode.specs.Reader.Start.{Start, starting};
 ghost use Rattle.pb_decode.specs.FromDevice.{IfRefused, TellsFailures, TakesAtMost, GivesOrFails, TellsOrFails};
 ghost use Rattle.pb_decode.specs.Loops.{ReadsOn, ReportedOf};
 ghost use Rattle.pb_decode.specs.Reader.Pieces.{received, ReadFrom};
@@ -17,7 +17,7 @@ ghost use Rattle.pb_decode.specs.Push.{IsFaultOf};
 use crate::error::DecodeError;
 use crate::push::Reading;
 use crate::reader::fault::too_large;
-use crate::reader::origin::{begin_empty, finish_message, take_onward};
+use crate::reader::start::{begin_empty, finish_message, take_onward};
 use pb_schema::{MessageId, Pool};
 use pb_value::DynamicMessage;
 use pb_wire::{Input, Limits};
@@ -35,12 +35,12 @@ fn read_piece<I: Input>(
     buffer: &mut [u8],
 ) -> Result<usize, DecodeError>
     requires rules { IsPool pool.now }
-    requires took { (o : Origin) × ReadFrom pool.now o reading.old }
+    requires took { (o : Start) × ReadFrom pool.now o reading.old }
     requires small { received reading.old + length buffer.old < 2 ^ 31 }
     ensures count { IfOk result (λ n. n ≤ length buffer.old) }
     ensures read { IfOk result (λ n. ReadsOn pool.now reading.old reading.new (I.left input.old) (I.left input.new) n) }
     ensures ends { IfOk result (λ n. n ≡ 0 → 0 < length buffer.old → IsAtEnd (I.left input.new)) }
-    ensures fault { (o : Origin) → ReadFrom pool.now o reading.old
+    ensures fault { (o : Start) → ReadFrom pool.now o reading.old
         → IfErr result (λ e. IfRefused e (ReportedOf pool.now o (I.left input.old) (I.left input.new) (length buffer.old))) }
     ensures most { TakesAtMost (length buffer.old) (I.left input.old) (I.left input.new) }
     ensures failures { TellsFailures result (I.failures input.old) (I.failures input.new) }
@@ -63,12 +63,12 @@ pub(crate) fn read_pieces<I: Input>(
     most: usize,
 ) -> Result<usize, DecodeError>
     requires rules { IsPool pool.now }
-    requires took { (o : Origin) × ReadFrom pool.now o reading.old }
+    requires took { (o : Start) × ReadFrom pool.now o reading.old }
     requires small { received reading.old + most < 2 ^ 31 }
     ensures count { IfOk result (λ n. n ≤ most) }
     ensures read { IfOk result (λ n. ReadsOn pool.now reading.old reading.new (I.left input.old) (I.left input.new) n) }
     ensures ends { IfOk result (λ n. (n ≡ most) ⊎ IsAtEnd (I.left input.new)) }
-    ensures fault { (o : Origin) → ReadFrom pool.now o reading.old
+    ensures fault { (o : Start) → ReadFrom pool.now o reading.old
         → IfErr result (λ e. IfRefused e (ReportedOf pool.now o (I.left input.old) (I.left input.new) most)) }
     ensures taken { TakesAtMost most (I.left input.old) (I.left input.new) }
     ensures failures { TellsFailures result (I.failures input.old) (I.failures input.new) }
@@ -118,7 +118,7 @@ fn read_within<I: Input>(
     input: &mut I,
 ) -> Result<(), DecodeError>
     requires rules { IsPool pool.now }
-    requires took { (base : List Record) × ReadFrom pool.now (origin message_type.0 limits.depth base None) reading.old }
+    requires took { (base : List Record) × ReadFrom pool.now (starting message_type.0 limits.depth base None) reading.old }
     ensures read { OnOk result ((n : ℕ) × (n ≤ limits.bytes) × ReadsOn pool.now reading.old reading.new (I.left input.old) (I.left input.new) n) }
     ensures ends { OnOk result (IsAtEnd (I.left input.new)) }
     ensures small { limits.bytes < 2 ^ 31 }

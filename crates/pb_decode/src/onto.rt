@@ -11,7 +11,7 @@ ghost use Rattle.pb_value.specs.View.{body_view};
 ghost use Rattle.pb_value.specs.WellFormed.{IsWellFormed};
 ghost use Rattle.pb_value.specs.Derives.{Text};
 ghost use Rattle.pb_decode.specs.Reader.{IfFault};
-ghost use Rattle.pb_decode.specs.Reader.Origin.{origin, further};
+ghost use Rattle.pb_decode.specs.Reader.Start.{starting, further};
 ghost use Rattle.pb_decode.specs.Onto.{IsTextOnto, TextOnto, DerivesFor, canonical};
 ghost use Rattle.pb_decode.specs.Reader.Pieces.{received, ReadFrom};
 ghost use Rattle.pb_decode.specs.Push.{IsFaultOf, Gives, Tells};
@@ -19,7 +19,7 @@ ghost use Rattle.pb_decode.specs.Push.{IsFaultOf, Gives, Tells};
 use crate::error::DecodeError;
 use crate::push::Reading;
 use crate::reader::fault::too_large;
-use crate::reader::origin::{begin_at, finish_message, take_onward};
+use crate::reader::start::{begin_at, finish_message, take_onward};
 use pb_schema::{MessageId, Pool};
 use pb_value::{Body, DynamicMessage};
 use pb_wire::Limits;
@@ -35,11 +35,11 @@ fn take_within(
     bytes: &[u8],
 ) -> Result<(), DecodeError>
     requires rules { IsPool pool.now }
-    requires took { (base : List Record) × ReadFrom pool.now (origin message_type.0 limits.depth base None) reading.old }
+    requires took { (base : List Record) × ReadFrom pool.now (starting message_type.0 limits.depth base None) reading.old }
     ensures size { OnOk result (length bytes.now ≤ limits.bytes) }
     ensures at { OnOk result (received reading.new ≡ length bytes.now) }
-    ensures took { (base : List Record) → ReadFrom pool.now (origin message_type.0 limits.depth base None) reading.old
-        → OnOk result (ReadFrom pool.now (further (origin message_type.0 limits.depth base None) bytes.now) reading.new) }
+    ensures took { (base : List Record) → ReadFrom pool.now (starting message_type.0 limits.depth base None) reading.old
+        → OnOk result (ReadFrom pool.now (further (starting message_type.0 limits.depth base None) bytes.now) reading.new) }
     ensures fault { IfErr result (λ e. IfFault e (IsFaultOf pool.now message_type.0 limits bytes.now)) }
 {
     let most = limits.max_bytes();

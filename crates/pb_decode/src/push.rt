@@ -16,7 +16,7 @@ ghost use Rattle.pb_decode.specs.Reader.Pieces.{received, ReadText, ReadSome, Ta
 use crate::error::DecodeError;
 use crate::onto::read_onto;
 use crate::reader::fault::too_large;
-use crate::reader::origin::{begin_empty, finish_message};
+use crate::reader::start::{begin_empty, finish_message};
 use crate::reader::state::State;
 use crate::validating::refuse;
 use pb_building::{NoMemory, Step};

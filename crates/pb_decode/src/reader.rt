@@ -2,7 +2,7 @@
 
 pub(crate) mod close;
 pub(crate) mod fault;
-pub(crate) mod origin;
 pub(crate) mod record;
+pub(crate) mod start;
 pub(crate) mod state;
 pub(crate) mod step;

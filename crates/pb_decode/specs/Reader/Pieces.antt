@@ -8,15 +8,15 @@ use Rattle.pb_schema.specs.Types.{Types}
 use Rattle.pb_decode.specs.declared.error.DecodeError.{DecodeError}
 use Rattle.pb_decode.specs.declared.push.Reading.{Reading}
 use Rattle.pb_decode.specs.Reader.{state_view, Reads, Stops, IfFault, Reported}
-use Rattle.pb_decode.specs.Reader.Origin.{Origin, TookFrom}
+use Rattle.pb_decode.specs.Reader.Start.{Start, TookFrom}
 use Rattle.pb_decode.specs.Push.{Took, TookSome}
 
 -- how many bytes are received: those taken and those held
 abbrev pub received : Reading → ℕ
 received r = r.reader.at + length r.held.items
 
--- what is given from the origin on is read, but for the bytes held
-abbrev pub ReadFrom : Types → Origin → Reading → Type 0
+-- what is given from the start on is read, but for the bytes held
+abbrev pub ReadFrom : Types → Start → Reading → Type 0
 ReadFrom pool o r = TookFrom pool o (state_view r.reader) r.held.items
 
 -- the input b is

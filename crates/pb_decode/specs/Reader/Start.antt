@@ -16,22 +16,22 @@ use Rattle.pb_building.specs.declared.tokens.step.Step.TheVariants as step
 use Rattle.pb_decode.specs.Reader.{State, here, Reads, Stops, Reported}
 
 -- where a reader began: a message of a type with this many levels, onto what the base gives, at a place
-pub record Origin : Type 0 where
+pub record Start : Type 0 where
   pub kind : ℕ
   pub depth : ℕ
   pub base : List Record
   pub place : Place
 
 -- at position 0, up to the known end if there is one, with no byte given yet
-abbrev pub origin : ℕ → ℕ → List Record → Option ℕ → Origin
-origin k d rs end = record { kind = k; depth = d; base = rs; place = given_at 0 end [] }
+abbrev pub starting : ℕ → ℕ → List Record → Option ℕ → Start
+starting k d rs end = record { kind = k; depth = d; base = rs; place = given_at 0 end [] }
 
 -- with more bytes given
-abbrev pub further : Origin → List ℕ → Origin
+abbrev pub further : Start → List ℕ → Start
 further o more = record o { place = longer o.place more }
 
--- A reader has read what is given from its origin on, but for the bytes that it holds, of which no more can be taken.
-pub record TookFrom (pool : Types) (o : Origin) (s : State) (held : List ℕ) : Type 0 where
+-- A reader has read what is given from its start on, but for the bytes that it holds, of which no more can be taken.
+pub record TookFrom (pool : Types) (o : Start) (s : State) (held : List ℕ) : Type 0 where
   pub reads : Reads pool o.kind o.depth 101 o.base o.place s held
   pub stops : Stops pool o.kind o.depth o.place s held
   pub at : s.at + length held ≡ input_end o.place
@@ -42,8 +42,8 @@ pub record IsOverAt (s : State) (held : List ℕ) : Type 0 where
   pub next : s.next ≡ step.Tag
   pub over : IsOver (here s held)
 
--- Whole sound records lead from the origin to the end of the message, and after the base they make it v.
-pub record IsWhole (pool : Types) (o : Origin) (v : Message) : Type 0 where
+-- Whole sound records lead from the start to the end of the message, and after the base they make it v.
+pub record IsWhole (pool : Types) (o : Start) (v : Message) : Type 0 where
   pub records : List Record
   pub front : List ℕ
   pub after : Place
@@ -53,10 +53,10 @@ pub record IsWhole (pool : Types) (o : Origin) (v : Message) : Type 0 where
   pub over : IsOver after
   pub valued : v ≡ value pool o.kind (o.base ++ records)
 
--- the bytes from the origin on have this fault
-abbrev pub BadFrom : Types → Origin → Fault → Type 0
+-- the bytes from the start on have this fault
+abbrev pub BadFrom : Types → Start → Fault → Type 0
 BadFrom pool o f = Bad (schema_of pool) (in_records (a_message o.kind)) o.depth o.place f
 
 -- and no more bytes change it
-abbrev pub ReportedFrom : Types → Origin → Fault → Type 0
+abbrev pub ReportedFrom : Types → Start → Fault → Type 0
 ReportedFrom pool o f = Reported pool o.kind o.depth o.place f

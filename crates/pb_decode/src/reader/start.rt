@@ -12,7 +12,7 @@ ghost use Rattle.pb_building.specs.Open.Parents.{message_part};
 ghost use Rattle.pb_building.specs.Open.PartView.{part_view};
 ghost use Rattle.pb_decode.specs.Reader.{state_view, IfFault};
 ghost use Rattle.pb_decode.specs.Reader.Waiting.{Waits};
-ghost use Rattle.pb_decode.specs.Reader.Origin.{Origin, origin, further, IsOverAt, IsWhole, BadFrom, ReportedFrom};
+ghost use Rattle.pb_decode.specs.Reader.Start.{Start, starting, further, IsOverAt, IsWhole, BadFrom, ReportedFrom};
 ghost use Rattle.pb_decode.specs.Reader.Pieces.{received, ReadFrom};
 
 use crate::error::DecodeError;
@@ -38,7 +38,7 @@ pub(crate) fn begin_at(
     ensures at { (result.reader.at ≡ 0) × (length result.held.items ≡ 0) }
     ensures waits { end ≡ None → Waits (state_view result.reader) result.held.items }
     ensures took { (pool : Types) (base : List Record) → message_type.0 < length pool.messages → IsWellFormed pool message_type.0 (body_view body)
-        → body_view body ≡ value pool message_type.0 base → ReadFrom pool (origin message_type.0 depth_left base end) result }
+        → body_view body ≡ value pool message_type.0 base → ReadFrom pool (starting message_type.0 depth_left base end) result }
 {
     let occurrences = Occurrences::new(alloc);
     let parents = Vec::new(alloc);
@@ -70,7 +70,7 @@ pub(crate) fn begin_empty(
     requires { message_type.0 < length pool.now.messages }
     ensures at { (result.reader.at ≡ 0) × (length result.held.items ≡ 0) }
     ensures waits { end ≡ None → Waits (state_view result.reader) result.held.items }
-    ensures took { ReadFrom pool.now (origin message_type.0 limits.depth [] end) result }
+    ensures took { ReadFrom pool.now (starting message_type.0 limits.depth [] end) result }
 {
     let depth_left = limits.max_depth();
     begin_at(alloc, message_type, empty_body(alloc), depth_left, end)
@@ -84,11 +84,11 @@ pub(crate) fn take_onward(
     piece: &[u8],
 ) -> Result<(), DecodeError>
     requires rules { IsPool pool.now }
-    requires took { (o : Origin) × ReadFrom pool.now o reading.old }
+    requires took { (o : Start) × ReadFrom pool.now o reading.old }
     requires small { received reading.old + length piece.now < 2 ^ 31 }
     ensures at { OnOk result (received reading.new ≡ received reading.old + length piece.now) }
-    ensures took { (o : Origin) → ReadFrom pool.now o reading.old → OnOk result (ReadFrom pool.now (further o piece.now) reading.new) }
-    ensures fault { (o : Origin) → ReadFrom pool.now o reading.old → IfErr result (λ e. IfFault e (ReportedFrom pool.now (further o piece.now))) }
+    ensures took { (o : Start) → ReadFrom pool.now o reading.old → OnOk result (ReadFrom pool.now (further o piece.now) reading.new) }
+    ensures fault { (o : Start) → ReadFrom pool.now o reading.old → IfErr result (λ e. IfFault e (ReportedFrom pool.now (further o piece.now))) }
 {
     take_piece(alloc, pool, reading, piece)
 }
@@ -123,11 +123,11 @@ fn body_of(part: Part) -> Result<Body, DecodeError>
 /// The body of the message that is read, or the fault that it is cut short.
 fn whole_body(alloc: Global, pool: &Pool, reading: Reading) -> Result<Body, DecodeError>
     requires rules { IsPool pool.now }
-    requires took { (o : Origin) × ReadFrom pool.now o reading }
+    requires took { (o : Start) × ReadFrom pool.now o reading }
     requires small { received reading < 2 ^ 31 }
-    ensures well_formed { (o : Origin) → ReadFrom pool.now o reading → IfOk result (λ v. IsWellFormed pool.now o.kind (body_view v)) }
-    ensures whole { (o : Origin) → ReadFrom pool.now o reading → IfOk result (λ v. IsWhole pool.now o (body_view v)) }
-    ensures fault { (o : Origin) → ReadFrom pool.now o reading → IfErr result (λ e. IfFault e (BadFrom pool.now o)) }
+    ensures well_formed { (o : Start) → ReadFrom pool.now o reading → IfOk result (λ v. IsWellFormed pool.now o.kind (body_view v)) }
+    ensures whole { (o : Start) → ReadFrom pool.now o reading → IfOk result (λ v. IsWhole pool.now o (body_view v)) }
+    ensures fault { (o : Start) → ReadFrom pool.now o reading → IfErr result (λ e. IfFault e (BadFrom pool.now o)) }
 {
     if !is_over(&reading) {
         return Err(cut_short(alloc, &reading));
@@ -144,11 +144,11 @@ pub(crate) fn finish_message<'p>(
 ) -> Result<DynamicMessage<'p>, DecodeError>
     requires rules { IsPool pool.now }
     requires within { message_type.0 < length pool.now.messages }
-    requires took { (o : Origin) × (o.kind ≡ message_type.0) × ReadFrom pool.now o reading }
+    requires took { (o : Start) × (o.kind ≡ message_type.0) × ReadFrom pool.now o reading }
     requires small { received reading < 2 ^ 31 }
     ensures of_type { IfOk result (λ m. (m.pool ≡ pool.now) × (m.kind ≡ message_type.0)) }
-    ensures whole { (o : Origin) → ReadFrom pool.now o reading → IfOk result (λ m. IsWhole pool.now o m.body) }
-    ensures fault { (o : Origin) → ReadFrom pool.now o reading → IfErr result (λ e. IfFault e (BadFrom pool.now o)) }
+    ensures whole { (o : Start) → ReadFrom pool.now o reading → IfOk result (λ m. IsWhole pool.now o m.body) }
+    ensures fault { (o : Start) → ReadFrom pool.now o reading → IfErr result (λ e. IfFault e (BadFrom pool.now o)) }
 {
     let body = whole_body(alloc, pool, reading)?;
     Ok(from_well_formed(alloc, pool, message_type, body))

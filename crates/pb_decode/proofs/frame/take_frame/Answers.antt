@@ -1,7 +1,7 @@
 -- The first bytes are taken, and then those that the input gives after them.
 use Rattle.std.proofs.Common.{◌≡◌, ◌-◌, ◌<◌, ℕ, length, refl, arith, inl, inr, ◌⊎◌, ⊎_elim, zero, suc}
 use Rattle.std.proofs.lemmas.Result.{err_from_is_err_and}
-use Rattle.pb_decode.specs.Reader.Origin.{further, ReportedFrom}
+use Rattle.pb_decode.specs.Reader.Start.{further, ReportedFrom}
 use Rattle.pb_decode.specs.Loops.{ReportedOf}
 use Rattle.pb_decode.proofs.DeviceLemmas.{reads_front, reads_more, reported_after, takes_after, if_refused_weaker, if_fault_refused}
 use Rattle.pb_decode.proofs.frame.take_frame.Goals as goal

@@ -2,7 +2,7 @@
 use Rattle.std.proofs.Common.{refl, arith, ◌∙◌}
 use Rattle.std.proofs.lemmas.List.{length-take}
 use Rattle.std.proofs.lemmas.Result.{err_from_is_err_and}
-use Rattle.pb_decode.specs.Reader.Origin.{further}
+use Rattle.pb_decode.specs.Reader.Start.{further}
 use Rattle.pb_decode.specs.Loops.{ReportedOf}
 use Rattle.pb_decode.proofs.DeviceLemmas.{reads_none, reads_more, reads_at, reads_on, reported_more, takes_more, takes_read, if_refused_weaker}
 use Rattle.pb_decode.proofs.from_device.read_pieces.Goals as goal

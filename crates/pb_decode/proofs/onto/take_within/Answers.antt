@@ -6,7 +6,7 @@ use Rattle.pb_wire.specs.declared.fault.Cause.TheVariants.{InputTooLarge}
 use Rattle.pb_wire.specs.Grammar.{HasFault}
 use Rattle.pb_schema.specs.Context.{a_message, schema_of}
 use Rattle.pb_decode.specs.Reader.{state_view}
-use Rattle.pb_decode.specs.Reader.Origin.{origin}
+use Rattle.pb_decode.specs.Reader.Start.{starting}
 use Rattle.pb_decode.proofs.ReaderLemmas.{if_fault_weaker}
 use Rattle.pb_decode.proofs.OntoText.{whole_fault, front_reported, beyond_reported}
 use Rattle.pb_decode.proofs.Outcomes.{fault_weaker}
@@ -38,7 +38,7 @@ returns-clause-at c =
     c.take_onward-2.ensures.at
 
 pub returns-clause-took : goal.returns-clause-took
-returns-clause-took c = λ base took. c.take_onward-2.ensures.took (origin c.args.message_type.0 c.args.limits.depth base _) took
+returns-clause-took c = λ base took. c.take_onward-2.ensures.took (starting c.args.message_type.0 c.args.limits.depth base _) took
 
 pub returns-clause-fault : goal.returns-clause-fault
 returns-clause-fault c =

@@ -1,8 +1,8 @@
 -- No records give the empty message.
 use Rattle.pb_value.specs.View.{body_view}
 use Rattle.pb_decode.specs.Reader.{state_view}
-use Rattle.pb_decode.proofs.OriginLemmas.{begun_empty}
-use Rattle.pb_decode.proofs.reader.origin.begin_empty.Goals as goal
+use Rattle.pb_decode.proofs.StartLemmas.{begun_empty}
+use Rattle.pb_decode.proofs.reader.start.begin_empty.Goals as goal
 
 pub returns-clause-took : goal.returns-clause-took
 returns-clause-took c =

@@ -1,9 +1,9 @@
--- What is taken after what is held is taken from the origin on.
+-- What is taken after what is held is taken from the start on.
 use Rattle.std.proofs.Common.{arith}
 use Rattle.pb_decode.specs.Reader.{state_view}
 use Rattle.pb_decode.proofs.Outcomes.{on_ok_both}
-use Rattle.pb_decode.proofs.OriginLemmas.{from_reading, took_further}
-use Rattle.pb_decode.proofs.reader.origin.take_onward.Goals as goal
+use Rattle.pb_decode.proofs.StartLemmas.{from_reading, took_further}
+use Rattle.pb_decode.proofs.reader.start.take_onward.Goals as goal
 
 pub take_piece-requires-clause-reading : goal.take_piece-requires-clause-reading
 take_piece-requires-clause-reading c =

@@ -11,11 +11,11 @@ use Rattle.pb_decode.specs.declared.error.DecodeError.{DecodeError}
 use Rattle.pb_building.specs.Open.Parents.{message_part}
 use Rattle.pb_building.specs.Open.PartView.{part_view}
 use Rattle.pb_decode.specs.Reader.{state_view, path_here, IfFault}
-use Rattle.pb_decode.specs.Reader.Origin.{BadFrom, IsWhole}
+use Rattle.pb_decode.specs.Reader.Start.{BadFrom, IsWhole}
 use Rattle.pb_decode.proofs.ReaderLemmas.{if_fault_weaker}
 use Rattle.pb_decode.proofs.Outcomes.{ok_weaker}
-use Rattle.pb_decode.proofs.OriginLemmas.{is_message, whole_there, well_formed_over, cut_over}
-use Rattle.pb_decode.proofs.reader.origin.whole_body.Goals as goal
+use Rattle.pb_decode.proofs.StartLemmas.{is_message, whole_there, well_formed_over, cut_over}
+use Rattle.pb_decode.proofs.reader.start.whole_body.Goals as goal
 
 pub returns-then-not-is_over-clause-fault : goal.returns-then-not-is_over-clause-fault
 returns-then-not-is_over-clause-fault c =
