@@ -58,7 +58,7 @@ def build_ours(name, crates, work, libraries, sources):
         shutil.rmtree(folder, ignore_errors=True)
         os.makedirs(os.path.dirname(folder), exist_ok=True)
         run("cp", "-a", os.path.join(crates, crate), folder)
-        # Whose wrong bodies are refused is told by the gate.
+        # The gate reports whether the mutants are refused.
         shutil.rmtree(os.path.join(folder, "must-fail"), ignore_errors=True)
     program = os.path.join(copy, "crates", "timing")
     os.makedirs(os.path.join(program, "src"), exist_ok=True)
@@ -148,7 +148,7 @@ class Load:
     def look(self):
         self.seen.append(os.getloadavg()[0])
 
-    def told(self):
+    def reported(self):
         return [round(min(self.seen), 1), round(max(self.seen), 1)]
 
 
@@ -173,7 +173,7 @@ def save(part, load, figures):
     load.look()
     commit = subprocess.run(["git", "-C", TOP, "rev-parse", "--short", "HEAD"], capture_output=True, text=True).stdout.strip()
     protobuf = run("protoc", "--version").decode().split()[-1]
-    facts = {"date": datetime.date.today().isoformat(), "load": load.told(), "machine": machine(), "commit": commit, "protobuf": protobuf}
+    facts = {"date": datetime.date.today().isoformat(), "load": load.reported(), "machine": machine(), "commit": commit, "protobuf": protobuf}
     kept = json.load(open(FIGURES)) if os.path.exists(FIGURES) else {}
     kept[part] = {**facts, **figures}
     with open(FIGURES + ".new", "w") as out:

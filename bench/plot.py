@@ -125,10 +125,10 @@ def plot(report):
     drawing.y = 26
     drawing.text(20, title, "title")
     drawing.y += 24
-    told = report.figures["texts"]
-    drawing.text(20, f"MB of input a second of processor time, to decode and to drop; the best of {told['passes'] * 2} rounds, {told['date']}", "small")
+    reported = report.figures["texts"]
+    drawing.text(20, f"MB of input a second of processor time, to decode and to drop; the best of {reported['passes'] * 2} rounds, {reported['date']}", "small")
     drawing.y += 24
-    drawing.legend(told["protobuf"])
+    drawing.legend(reported["protobuf"])
     for of_part, found in parts.items():
         if found:
             drawing.part(of_part, found)

@@ -54,8 +54,8 @@ def by_library(words):
 
 def main(program, seconds="60", seed="7"):
     chosen, end, seen = random.Random(int(seed)), time.time() + float(seconds), collections.Counter()
-    room = tempfile.mkdtemp(prefix="mutate-")
-    os.chdir(room)
+    scratch = tempfile.mkdtemp(prefix="mutate-")
+    os.chdir(scratch)
     message, shop, source = read("shop_order.bin"), read("shop.set"), read("shop.proto")
     frame = bytes([len(message)]) + message
     while time.time() < end:
@@ -74,12 +74,12 @@ def main(program, seconds="60", seed="7"):
             pair = ["pieces", str(chosen.randrange(1, 20)), "shop.set", "shop.Order", "message"], ["canon", "shop.set", "shop.Order", "message"]
         else:
             pair = 2 * ([chosen.choice(["check", "show", "canon"]), "shop.set", "shop.Order", "message"],)
-        told, wanted = by_library(pair[0]), by_pbtool(program, pair[1])
-        seen[kind, "done" if told[0] == 0 else told[2].split()[-1]] += 1
-        if told != wanted:
-            print(f"{' '.join(pair[0])} in {room}:\n  library {told}\n  pbtool  {wanted}")
+        reported, wanted = by_library(pair[0]), by_pbtool(program, pair[1])
+        seen[kind, "done" if reported[0] == 0 else reported[2].split()[-1]] += 1
+        if reported != wanted:
+            print(f"{' '.join(pair[0])} in {scratch}:\n  library {reported}\n  pbtool  {wanted}")
             return 1
-    print(f"{seen.total()} mutated files told the same; of {len(seen)} kinds of answer:")
+    print(f"{seen.total()} mutated files have the same report; of {len(seen)} kinds of answer:")
     print(", ".join(f"{' '.join(it)} {count}" for it, count in sorted(seen.items())))
     return 0
 

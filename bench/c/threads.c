@@ -17,12 +17,12 @@ static size_t set_len, message_len, listing_len;
 static uint32_t type;
 static int rounds = 2000;
 
-static size_t read_file(const char *name, uint8_t *bytes, size_t room)
+static size_t read_file(const char *name, uint8_t *bytes, size_t capacity)
 {
     FILE *file = fopen(name, "rb");
     if (file == NULL)
         exit(2);
-    size_t len = fread(bytes, 1, room, file);
+    size_t len = fread(bytes, 1, capacity, file);
     fclose(file);
     return len;
 }

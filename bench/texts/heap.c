@@ -58,8 +58,8 @@ void free(void *block) {
 int clock_gettime(clockid_t clock, struct timespec *time) {
     if (clock != CLOCK_PROCESS_CPUTIME_ID) return syscall(SYS_clock_gettime, clock, time);
     static int times;
-    const char *told = getenv("HEAP_CLOCK");
-    size_t bytes = times++ % 2 && told && !strcmp(told, "most") ? most : held;
+    const char *reported = getenv("HEAP_CLOCK");
+    size_t bytes = times++ % 2 && reported && !strcmp(reported, "most") ? most : held;
     most = held;
     time->tv_sec = bytes / 1000000000;
     time->tv_nsec = bytes % 1000000000;

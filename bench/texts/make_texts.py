@@ -120,7 +120,7 @@ def wide_number(i):
 
 
 def wide(i, gap=0):
-    """A number of Wide, and where a gap is told, at each one of so many, one that it does not declare."""
+    """A number of Wide; with a gap of N, each Nth is a number that it does not declare."""
     return varint(wide_number(mixed(i) % WIDE) + (1 if gap and i % gap == 0 else 0))
 
 

@@ -77,7 +77,7 @@ static void answer(struct mb_pool *pool, const uint8_t *bytes, size_t len)
                                          MB_MAX_STEPS);
     if (decoded == MB_DONE && mb_message_encoded_length(&message, &out.len) == MB_DONE) {
         grow(&out, out.len + 1);
-        mb_message_encode(&message, out.bytes, out.room, &out.len);
+        mb_message_encode(&message, out.bytes, out.capacity, &out.len);
         respond(WRITTEN, out.bytes, out.len);
     } else {
         respond(PARSE_ERROR, (const uint8_t *)"refused", 7);

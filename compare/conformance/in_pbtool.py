@@ -73,10 +73,10 @@ class Tool:
             checked = self.run("check", "--lenient", self.path, name, bytes_of)
             if checked.returncode:
                 return response(PARSE_ERROR, checked.stderr)
-            told = self.run("json", "--lenient", self.path, name, bytes_of)
-            return response(SERIALIZE_ERROR, told.stderr) if told.returncode else response(JSON_WRITTEN, told.stdout.rstrip(b"\n"))
-        told = self.run("canon", "--lenient", self.path, name, bytes_of)
-        return response(PARSE_ERROR, told.stderr) if told.returncode else response(WRITTEN, bytes.fromhex(told.stdout.decode()))
+            reported = self.run("json", "--lenient", self.path, name, bytes_of)
+            return response(SERIALIZE_ERROR, reported.stderr) if reported.returncode else response(JSON_WRITTEN, reported.stdout.rstrip(b"\n"))
+        reported = self.run("canon", "--lenient", self.path, name, bytes_of)
+        return response(PARSE_ERROR, reported.stderr) if reported.returncode else response(WRITTEN, bytes.fromhex(reported.stdout.decode()))
 
 
 def main(path):

@@ -84,7 +84,7 @@ int main(int argc, char **argv)
         answer = mb_message_encoded_length(&message, &size);
     grow(&file, size + 1);
     if (answer == MB_DONE)
-        answer = mb_message_encode(&message, file.bytes, file.room, &size);
+        answer = mb_message_encode(&message, file.bytes, file.capacity, &size);
     for (size_t i = 0; answer == MB_DONE && i < size; i++)
         printf("%02x", file.bytes[i]);
     if (answer == MB_DONE)

@@ -6,7 +6,7 @@
 
 #include <stdio.h>
 
-/* A fault, with room for its whole path. */
+/* A fault, with space for its whole path. */
 struct report {
     struct mb_fault fault;
     struct mb_step path[MB_MAX_STEPS];
@@ -15,13 +15,13 @@ struct report {
 /* Bytes in a buffer that grows, of which the first ones are done with. All zeros are no bytes. */
 struct buffer {
     uint8_t *bytes;
-    size_t done, len, room;
+    size_t done, len, capacity;
 };
 
 /* Prints the steps of a fault's path, and its cause. */
 void print_path(FILE *out, const char *before, const struct report *report, const char *between);
 
-/* Tells on standard error why a call on a message did not answer MB_DONE. Returns the status to exit with: 1 for a refusal, 3 for memory. */
+/* Prints on standard error why a call on a message did not answer MB_DONE. Returns the status to exit with: 1 for a refusal, 3 for memory. */
 int print_refusal(uint32_t answer, const struct report *report);
 
 /* Says which part of a message has no JSON form: the numbers of the fields that lead to it, and why. */
@@ -30,20 +30,20 @@ void print_json_refusal(uint32_t answer, const uint32_t *path, size_t steps);
 /* Says at which byte a JSON text is refused, and why. */
 void print_text_refusal(uint32_t answer, size_t byte);
 
-/* The same of mb_pool_link. The names in the text are those that the refusal tells. */
+/* The same of mb_pool_link. The names in the text are those of the refusal. */
 int print_link_refusal(uint32_t answer, const struct report *report, const struct mb_refusal *refusal, const uint8_t *text);
 
 /* The same of mb_pool_compile, of sources with these names. */
 int print_compile_refusal(uint32_t answer, const struct mb_refusal *refusal, const uint8_t *text, char *const *names);
 
-/* Gives a buffer more room. Where there is no memory it tells so and exits with status 3. */
-void grow(struct buffer *buffer, size_t room);
+/* Gives a buffer this capacity. If memory runs out, it reports that and exits with status 3. */
+void grow(struct buffer *buffer, size_t capacity);
 
-/* A file to be read, and its end. Where it can't be opened, or a read failed, they tell so and exit with status 3. */
+/* A file to be read, and its end. If it cannot be opened, or a read fails, they report that and exit with status 3. */
 FILE *open_file(const char *name);
 void close_file(FILE *file, const char *name);
 
-/* Forgets what is done with of the buffer, and reads on behind the rest, into twice the room where it is full. Returns whether anything was read. */
+/* Drops the bytes of the buffer that are done with, and reads more after the rest; a full buffer gets twice the capacity. Returns whether anything was read. */
 bool read_more(FILE *file, struct buffer *buffer);
 
 /* The bytes of a file. */

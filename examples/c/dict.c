@@ -12,8 +12,8 @@ static uint32_t to_json(struct mb_pool *pool, struct mb_message *message, struct
 
     do {
         grow(json, json->len + 256);
-        answer = mb_message_json(pool, message, true, true, json->bytes, json->room, &json->len, path, MB_MAX_STEPS, &steps);
-    } while (answer == MB_DONE && json->len > json->room);
+        answer = mb_message_json(pool, message, true, true, json->bytes, json->capacity, &json->len, path, MB_MAX_STEPS, &steps);
+    } while (answer == MB_DONE && json->len > json->capacity);
     if (answer >= MB_JSON_NO_KIND && answer <= MB_JSON_UNSUPPORTED)
         print_json_refusal(answer, path, steps);
     return answer;

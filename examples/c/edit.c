@@ -44,7 +44,7 @@ int main(int argc, char **argv)
     if (answer != MB_DONE || (answer = edit(&order)) != MB_DONE || (answer = mb_message_encoded_length(&order, &size)) != MB_DONE)
         return print_refusal(answer, &report);
     grow(&file, size + 1);
-    answer = mb_message_encode(&order, file.bytes, file.room, &size);
+    answer = mb_message_encode(&order, file.bytes, file.capacity, &size);
     FILE *out = answer == MB_DONE ? fopen(argv[3], "wb") : NULL;
     bool is_written = out != NULL && fwrite(file.bytes, 1, size, out) == size;
     is_written = out != NULL && fclose(out) == 0 && is_written;

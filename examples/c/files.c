@@ -3,10 +3,10 @@
 #include <stdlib.h>
 #include <string.h>
 
-void grow(struct buffer *buffer, size_t room)
+void grow(struct buffer *buffer, size_t capacity)
 {
-    buffer->room = room;
-    if ((buffer->bytes = realloc(buffer->bytes, room)) == NULL) {
+    buffer->capacity = capacity;
+    if ((buffer->bytes = realloc(buffer->bytes, capacity)) == NULL) {
         fprintf(stderr, "memory\n");
         exit(3);
     }
@@ -37,9 +37,9 @@ bool read_more(FILE *file, struct buffer *buffer)
     if (buffer->done > 0)
         memmove(buffer->bytes, buffer->bytes + buffer->done, buffer->len);
     buffer->done = 0;
-    if (buffer->len == buffer->room)
-        grow(buffer, buffer->room == 0 ? 4096 : 2 * buffer->room);
-    size_t count = fread(buffer->bytes + buffer->len, 1, buffer->room - buffer->len, file);
+    if (buffer->len == buffer->capacity)
+        grow(buffer, buffer->capacity == 0 ? 4096 : 2 * buffer->capacity);
+    size_t count = fread(buffer->bytes + buffer->len, 1, buffer->capacity - buffer->len, file);
     buffer->len += count;
     return count > 0;
 }
@@ -91,10 +91,10 @@ void link_set(const char *set_name, bool is_lenient, struct mb_pool *pool)
     do {
         grow(&text, refusal.file_len + refusal.name_len + 256);
         if (is_lenient)
-            answer = mb_pool_link_lenient(set.bytes, set.len, pool, &left_out, &report.fault, report.path, MB_MAX_STEPS, &refusal, text.bytes, text.room);
+            answer = mb_pool_link_lenient(set.bytes, set.len, pool, &left_out, &report.fault, report.path, MB_MAX_STEPS, &refusal, text.bytes, text.capacity);
         else
-            answer = mb_pool_link(set.bytes, set.len, pool, &report.fault, report.path, MB_MAX_STEPS, &refusal, text.bytes, text.room);
-    } while (answer != MB_DONE && refusal.file_len + refusal.name_len > text.room);
+            answer = mb_pool_link(set.bytes, set.len, pool, &report.fault, report.path, MB_MAX_STEPS, &refusal, text.bytes, text.capacity);
+    } while (answer != MB_DONE && refusal.file_len + refusal.name_len > text.capacity);
     if (answer != MB_DONE)
         exit(print_link_refusal(answer, &report, &refusal, text.bytes));
     free(text.bytes);

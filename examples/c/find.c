@@ -52,7 +52,7 @@ int main(int argc, char **argv)
     size_t count = read_path(argv[4], numbers);
     /* No string in the input is longer than the input. */
     grow(&bytes, file.len + 1);
-    answer = mb_find(&pool, type, file.bytes, file.len, MB_MAX_BYTES, MB_MAX_DEPTH, numbers, count, &value, bytes.bytes, bytes.room,
+    answer = mb_find(&pool, type, file.bytes, file.len, MB_MAX_BYTES, MB_MAX_DEPTH, numbers, count, &value, bytes.bytes, bytes.capacity,
                      &report.fault, report.path, MB_MAX_STEPS);
     if (answer == MB_DONE)
         print_value(&value, bytes.bytes);

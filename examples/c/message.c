@@ -1,6 +1,6 @@
 /* message encode|list|decimal|json|empty [--lenient] SET TYPE FILE: decodes the message that a file holds, and prints its canonical bytes in hexadecimal
  * digits, as `pbtool canon` does, or its listing, as `pbtool show` does or `pbtool show --decimal`, or its JSON, as `pbtool json` does; or prints the bytes
- * of an empty message. The message stays with the library in between, behind a handle of its own, and the pool is freed before.
+ * of an empty message. In between, the library keeps the message, by a handle of its own, and the pool is freed before.
  * message relink [--lenient] SET TYPE FILE: as encode, by the types of the set that the library writes of the pool.
  * message from-json [--lenient] SET TYPE FILE: reads the message that a file holds as JSON, and writes its canonical bytes, as `pbtool from-json` does.
  * message json-bytes [--lenient] SET TYPE FILE: the same, by the call that keeps no message.
@@ -33,8 +33,8 @@ static uint32_t relink(struct mb_pool *pool, const char *name, uint32_t *type)
 
     do {
         grow(&set, set.len + 256);
-        answer = mb_pool_set(pool, set.bytes, set.room, &set.len);
-    } while (answer == MB_DONE && set.len > set.room);
+        answer = mb_pool_set(pool, set.bytes, set.capacity, &set.len);
+    } while (answer == MB_DONE && set.len > set.capacity);
     if (answer == MB_DONE)
         answer = mb_pool_link(set.bytes, set.len, pool, &report.fault, report.path, MB_MAX_STEPS, &refusal, NULL, 0);
     if (answer == MB_DONE)
@@ -64,8 +64,8 @@ static uint32_t list(struct mb_message *message, struct buffer *out, bool is_dec
 
     do {
         grow(out, out->len + 256);
-        answer = (is_decimal ? mb_message_show_decimal : mb_message_show)(message, out->bytes, out->room, &out->len);
-    } while (answer == MB_DONE && out->len > out->room);
+        answer = (is_decimal ? mb_message_show_decimal : mb_message_show)(message, out->bytes, out->capacity, &out->len);
+    } while (answer == MB_DONE && out->len > out->capacity);
     if (answer == MB_DONE)
         fwrite(out->bytes, 1, out->len, stdout);
     return answer;
@@ -79,8 +79,8 @@ static uint32_t print_json(struct mb_pool *pool, struct mb_message *message, str
 
     do {
         grow(out, out->len + 256);
-        answer = mb_message_json(pool, message, false, false, out->bytes, out->room, &out->len, path, MB_MAX_STEPS, &steps);
-    } while (answer == MB_DONE && out->len > out->room);
+        answer = mb_message_json(pool, message, false, false, out->bytes, out->capacity, &out->len, path, MB_MAX_STEPS, &steps);
+    } while (answer == MB_DONE && out->len > out->capacity);
     if (answer == MB_DONE) {
         fwrite(out->bytes, 1, out->len, stdout);
         printf("\n");
@@ -98,7 +98,7 @@ static uint32_t encode(struct mb_message *message, struct buffer *out)
     if (answer != MB_DONE)
         return answer;
     grow(out, out->len + 1);
-    answer = mb_message_encode(message, out->bytes, out->room, &out->len);
+    answer = mb_message_encode(message, out->bytes, out->capacity, &out->len);
     for (size_t i = 0; answer == MB_DONE && i < out->len; i++)
         printf("%02x", out->bytes[i]);
     if (answer == MB_DONE)
@@ -127,7 +127,7 @@ static uint32_t write_bytes(struct mb_message *message, struct buffer *out)
     if (answer != MB_DONE)
         return answer;
     grow(out, out->len);
-    answer = mb_message_encode(message, out->bytes, out->room, &out->len);
+    answer = mb_message_encode(message, out->bytes, out->capacity, &out->len);
     if (answer == MB_DONE)
         fwrite(out->bytes, 1, out->len, stdout);
     return answer;
@@ -142,8 +142,8 @@ static uint32_t write_json_bytes(const char *name, struct mb_pool *pool, uint32_
 
     do {
         grow(out, out->len + 256);
-        answer = mb_from_json(pool, type, file.bytes, file.len, is_lenient, out->bytes, out->room, &out->len, &byte);
-    } while (answer == MB_DONE && out->len > out->room);
+        answer = mb_from_json(pool, type, file.bytes, file.len, is_lenient, out->bytes, out->capacity, &out->len, &byte);
+    } while (answer == MB_DONE && out->len > out->capacity);
     free(file.bytes);
     if (answer == MB_DONE)
         fwrite(out->bytes, 1, out->len, stdout);

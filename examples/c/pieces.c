@@ -32,7 +32,7 @@ static uint32_t print_bytes(struct mb_message *message)
     if (answer != MB_DONE)
         return answer;
     grow(&out, out.len + 1);
-    answer = mb_message_encode(message, out.bytes, out.room, &out.len);
+    answer = mb_message_encode(message, out.bytes, out.capacity, &out.len);
     for (size_t i = 0; answer == MB_DONE && i < out.len; i++)
         printf("%02x", out.bytes[i]);
     if (answer == MB_DONE)

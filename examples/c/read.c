@@ -63,15 +63,15 @@ static uint32_t print_after(struct mb_message *message, struct place *place, str
 
 static uint32_t print_fields(struct mb_message *message, struct place *place)
 {
-    size_t count = 0, room;
+    size_t count = 0, capacity;
     uint32_t *numbers = NULL, answer;
 
     do {
-        room = count + 16;
-        if ((numbers = realloc(numbers, room * sizeof *numbers)) == NULL)
+        capacity = count + 16;
+        if ((numbers = realloc(numbers, capacity * sizeof *numbers)) == NULL)
             return MB_MEMORY;
-        answer = mb_message_fields(message, place->steps, place->len, place->keys, place->keys_len, numbers, room, &count);
-    } while (answer == MB_DONE && count > room);
+        answer = mb_message_fields(message, place->steps, place->len, place->keys, place->keys_len, numbers, capacity, &count);
+    } while (answer == MB_DONE && count > capacity);
     for (size_t i = 0; answer == MB_DONE && i < count; i++)
         answer = print_after(message, place, (struct mb_value){MB_FIELD, numbers[i]});
     free(numbers);
@@ -96,9 +96,9 @@ static uint32_t print_entry(struct mb_message *message, struct place *place, siz
 
     do {
         grow(string, string->len + 16);
-        answer = mb_message_key(message, place->steps, place->len, place->keys, place->keys_len, index, &key, string->bytes, string->room);
+        answer = mb_message_key(message, place->steps, place->len, place->keys, place->keys_len, index, &key, string->bytes, string->capacity);
         string->len = answer == MB_DONE && key.kind == MB_STRING ? key.number : 0;
-    } while (string->len > string->room);
+    } while (string->len > string->capacity);
     if (answer != MB_DONE || key.kind != MB_STRING)
         return answer == MB_DONE ? print_after(message, place, key) : answer;
     key.number = place->keys_len;
@@ -122,7 +122,7 @@ static uint32_t print_bytes(struct mb_message *message, struct place *place, siz
     struct buffer bytes = {0};
 
     grow(&bytes, size + 1);
-    uint32_t answer = mb_message_read(message, place->steps, place->len, place->keys, place->keys_len, bytes.bytes, bytes.room, &bytes.len);
+    uint32_t answer = mb_message_read(message, place->steps, place->len, place->keys, place->keys_len, bytes.bytes, bytes.capacity, &bytes.len);
     if (answer == MB_DONE)
         print_hexadecimal(bytes.bytes, bytes.len);
     printf("\n");

@@ -20,9 +20,9 @@ int main(int argc, char **argv)
     /* Where the listing is longer than the buffer, its length is reported: call again with that much. */
     do {
         grow(&listing, listing.len + 256);
-        answer = (is_decimal ? mb_show_decimal : mb_show)(&pool, type, file.bytes, file.len, MB_MAX_BYTES, MB_MAX_DEPTH, listing.bytes, listing.room,
+        answer = (is_decimal ? mb_show_decimal : mb_show)(&pool, type, file.bytes, file.len, MB_MAX_BYTES, MB_MAX_DEPTH, listing.bytes, listing.capacity,
                                                           &listing.len, &report.fault, report.path, MB_MAX_STEPS);
-    } while (answer == MB_DONE && listing.len > listing.room);
+    } while (answer == MB_DONE && listing.len > listing.capacity);
     if (answer == MB_DONE)
         fwrite(listing.bytes, 1, listing.len, stdout);
     free(listing.bytes);

@@ -42,8 +42,8 @@ int main(int argc, char **argv)
     /* Where the names are longer than the buffer, their lengths are reported: once more with that much. */
     do {
         grow(&text, refusal.file_len + refusal.name_len + 256);
-        answer = (is_lenient ? mb_pool_compile_lenient : mb_pool_compile)(names, count, texts, count, &pool, &refusal, text.bytes, text.room);
-    } while (answer != MB_DONE && refusal.file_len + refusal.name_len > text.room);
+        answer = (is_lenient ? mb_pool_compile_lenient : mb_pool_compile)(names, count, texts, count, &pool, &refusal, text.bytes, text.capacity);
+    } while (answer != MB_DONE && refusal.file_len + refusal.name_len > text.capacity);
     int status = answer == MB_DONE ? 0 : print_compile_refusal(answer, &refusal, text.bytes, argv + 2);
     for (size_t i = 0; i < count; i++)
         free((void *)texts[i].at);

@@ -17,7 +17,7 @@ static struct buffer name;
 /* Whether a call did not find the buffer large enough for the whole name: then it is made large enough, and the call is to be made again. */
 static bool is_cut(void)
 {
-    if (name.len <= name.room)
+    if (name.len <= name.capacity)
         return false;
     grow(&name, name.len);
     return true;
@@ -33,7 +33,7 @@ static struct mb_type message_at(struct mb_pool *pool, uint32_t type)
     struct mb_type report = {0};
 
     do
-        mb_pool_message(pool, type, &report, name.bytes, name.room, &name.len);
+        mb_pool_message(pool, type, &report, name.bytes, name.capacity, &name.len);
     while (is_cut());
     return report;
 }
@@ -43,7 +43,7 @@ static struct mb_enum enum_at(struct mb_pool *pool, size_t entry)
     struct mb_enum report = {0};
 
     do
-        mb_pool_enum(pool, entry, &report, name.bytes, name.room, &name.len);
+        mb_pool_enum(pool, entry, &report, name.bytes, name.capacity, &name.len);
     while (is_cut());
     return report;
 }
@@ -54,7 +54,7 @@ static struct mb_file file_at(struct mb_pool *pool, size_t index)
     struct mb_file report = {0};
 
     do {
-        mb_pool_file(pool, index, &report, name.bytes, name.room);
+        mb_pool_file(pool, index, &report, name.bytes, name.capacity);
         name.len = report.name_len + report.package_len;
     } while (is_cut());
     name.len = report.name_len;
@@ -66,7 +66,7 @@ static struct mb_field field_at(struct mb_pool *pool, uint32_t type, size_t inde
     struct mb_field report = {0};
 
     do
-        mb_pool_field_at(pool, type, index, &report, detail, name.bytes, name.room, &name.len);
+        mb_pool_field_at(pool, type, index, &report, detail, name.bytes, name.capacity, &name.len);
     while (is_cut());
     return report;
 }
@@ -99,7 +99,7 @@ static void print_field(struct mb_pool *pool, uint32_t type, size_t index)
     printf(" %" PRIu32 " ", field.number);
     if (field.shape == 2) {
         do
-            mb_pool_oneof(pool, type, detail, name.bytes, name.room, &name.len);
+            mb_pool_oneof(pool, type, detail, name.bytes, name.capacity, &name.len);
         while (is_cut());
         printf("oneof:");
         print_name();
@@ -144,7 +144,7 @@ static void print_enum(struct mb_pool *pool, size_t entry)
         print_name();
         printf(" ");
         do
-            mb_pool_enum_value(pool, entry, index, &number, name.bytes, name.room, &name.len);
+            mb_pool_enum_value(pool, entry, index, &number, name.bytes, name.capacity, &name.len);
         while (is_cut());
         print_name();
         printf(" %" PRId32 "\n", number);

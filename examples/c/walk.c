@@ -1,4 +1,4 @@
-/* walk [--lenient] SET TYPE FILE: lists a stream of messages, each behind its length, as `pbtool frames` does. FILE is read piece by piece, so it may be a
+/* walk [--lenient] SET TYPE FILE: lists a stream of messages, each after its length, as `pbtool frames` does. FILE is read piece by piece, so it may be a
  * pipe, and not much more of it is held than one frame. */
 #include "common.h"
 
@@ -11,9 +11,9 @@ static uint32_t list(struct mb_pool *pool, uint32_t type, const uint8_t *bytes, 
 
     do {
         grow(listing, listing->len + 256);
-        answer = mb_show(pool, type, bytes, len, MB_MAX_BYTES, MB_MAX_DEPTH, listing->bytes, listing->room, &listing->len, &report->fault,
+        answer = mb_show(pool, type, bytes, len, MB_MAX_BYTES, MB_MAX_DEPTH, listing->bytes, listing->capacity, &listing->len, &report->fault,
                          report->path, MB_MAX_STEPS);
-    } while (answer == MB_DONE && listing->len > listing->room);
+    } while (answer == MB_DONE && listing->len > listing->capacity);
     for (size_t at = 0; answer == MB_DONE && at < listing->len; at++) {
         if (at == 0 || listing->bytes[at - 1] == '\n')
             printf("  ");

@@ -19,19 +19,19 @@ static uint32_t print_equal(void)
     return answer;
 }
 
-static uint32_t unknown(uint8_t *out, size_t room, size_t *size)
+static uint32_t unknown(uint8_t *out, size_t capacity, size_t *size)
 {
-    return mb_message_unknown(&copy, NULL, 0, NULL, 0, out, room, size);
+    return mb_message_unknown(&copy, NULL, 0, NULL, 0, out, capacity, size);
 }
 
-static uint32_t encode(uint8_t *out, size_t room, size_t *size)
+static uint32_t encode(uint8_t *out, size_t capacity, size_t *size)
 {
-    return mb_message_encode(&copy, out, room, size);
+    return mb_message_encode(&copy, out, capacity, size);
 }
 
-static uint32_t frame(uint8_t *out, size_t room, size_t *size)
+static uint32_t frame(uint8_t *out, size_t capacity, size_t *size)
 {
-    return mb_message_frame(&copy, out, room, size);
+    return mb_message_frame(&copy, out, capacity, size);
 }
 
 /* Prints what a call writes, in a buffer that grows where it was too small. */
@@ -42,8 +42,8 @@ static uint32_t print_written(const char *what, uint32_t (*write)(uint8_t *, siz
 
     do {
         grow(&out, out.len + 256);
-        answer = write(out.bytes, out.room, &out.len);
-    } while (answer == MB_DONE && out.len > out.room);
+        answer = write(out.bytes, out.capacity, &out.len);
+    } while (answer == MB_DONE && out.len > out.capacity);
     if (answer == MB_DONE)
         printf("%s ", what);
     for (size_t i = 0; answer == MB_DONE && i < out.len; i++)

@@ -93,27 +93,27 @@ static PyObject *refuse_output(uint32_t answer, const struct json *json)
     return json != NULL && answer >= MB_JSON_NO_KIND && answer <= MB_JSON_UNSUPPORTED ? refuse_json(answer, json) : refuse(answer, NULL);
 }
 
-static uint32_t write_json(struct mb_message *handle, struct json *json, uint8_t *out, size_t room, size_t *size)
+static uint32_t write_json(struct mb_message *handle, struct json *json, uint8_t *out, size_t capacity, size_t *size)
 {
-    return mb_message_json(json->pool, handle, json->declared_names, json->indented, out, room, size, json->path, MB_MAX_STEPS, &json->steps);
+    return mb_message_json(json->pool, handle, json->declared_names, json->indented, out, capacity, size, json->path, MB_MAX_STEPS, &json->steps);
 }
 
-static uint32_t write_listing(struct mb_message *handle, struct json *json, uint8_t *out, size_t room, size_t *size)
+static uint32_t write_listing(struct mb_message *handle, struct json *json, uint8_t *out, size_t capacity, size_t *size)
 {
     (void)json;
-    return mb_message_show(handle, out, room, size);
+    return mb_message_show(handle, out, capacity, size);
 }
 
-static uint32_t write_decimal(struct mb_message *handle, struct json *json, uint8_t *out, size_t room, size_t *size)
+static uint32_t write_decimal(struct mb_message *handle, struct json *json, uint8_t *out, size_t capacity, size_t *size)
 {
     (void)json;
-    return mb_message_show_decimal(handle, out, room, size);
+    return mb_message_show_decimal(handle, out, capacity, size);
 }
 
-static uint32_t write_bytes(struct mb_message *handle, struct json *json, uint8_t *out, size_t room, size_t *size)
+static uint32_t write_bytes(struct mb_message *handle, struct json *json, uint8_t *out, size_t capacity, size_t *size)
 {
     (void)json;
-    return mb_message_encode(handle, out, room, size);
+    return mb_message_encode(handle, out, capacity, size);
 }
 
 /* What is written of a message: to the stack, and once more where it is longer. */

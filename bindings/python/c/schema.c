@@ -4,13 +4,13 @@
 /* A name that a call writes: to the stack where it is short. */
 struct name {
     uint8_t small[256], *at;
-    size_t room, len;
+    size_t capacity, len;
 };
 
 static void begin(struct name *name)
 {
     name->at = name->small;
-    name->room = sizeof name->small;
+    name->capacity = sizeof name->small;
     name->len = 0;
 }
 
@@ -25,7 +25,7 @@ static bool is_cut(struct name *name, uint32_t *answer)
 {
     size_t len = name->len;
 
-    if (*answer != MB_DONE || len <= name->room)
+    if (*answer != MB_DONE || len <= name->capacity)
         return false;
     drop(name);
     begin(name);
@@ -35,7 +35,7 @@ static bool is_cut(struct name *name, uint32_t *answer)
         return false;
     }
     name->at = more;
-    name->room = len;
+    name->capacity = len;
     return true;
 }
 
@@ -64,7 +64,7 @@ PyObject *read_message(Pool *pool, uint32_t number, struct mb_type *is)
 
     begin(&name);
     do
-        answer = mb_pool_message(&pool->handle, number, is, name.at, name.room, &name.len);
+        answer = mb_pool_message(&pool->handle, number, is, name.at, name.capacity, &name.len);
     while (is_cut(&name, &answer));
     return end(&name, answer);
 }
@@ -76,7 +76,7 @@ PyObject *read_field_at(Pool *pool, uint32_t number, size_t index, struct mb_fie
 
     begin(&name);
     do
-        answer = mb_pool_field_at(&pool->handle, number, index, is, detail, name.at, name.room, &name.len);
+        answer = mb_pool_field_at(&pool->handle, number, index, is, detail, name.at, name.capacity, &name.len);
     while (is_cut(&name, &answer));
     return end(&name, answer);
 }
@@ -88,7 +88,7 @@ PyObject *read_oneof(Pool *pool, uint32_t number, size_t index)
 
     begin(&name);
     do
-        answer = mb_pool_oneof(&pool->handle, number, index, name.at, name.room, &name.len);
+        answer = mb_pool_oneof(&pool->handle, number, index, name.at, name.capacity, &name.len);
     while (is_cut(&name, &answer));
     return end(&name, answer);
 }
@@ -100,7 +100,7 @@ PyObject *read_enum(Pool *pool, size_t entry, struct mb_enum *is)
 
     begin(&name);
     do
-        answer = mb_pool_enum(&pool->handle, entry, is, name.at, name.room, &name.len);
+        answer = mb_pool_enum(&pool->handle, entry, is, name.at, name.capacity, &name.len);
     while (is_cut(&name, &answer));
     return end(&name, answer);
 }
@@ -129,7 +129,7 @@ PyObject *pool_file(PyObject *self, PyObject *args)
         return NULL;
     begin(&name);
     do {
-        answer = mb_pool_file(&((Pool *)self)->handle, (size_t)index, &file, name.at, name.room);
+        answer = mb_pool_file(&((Pool *)self)->handle, (size_t)index, &file, name.at, name.capacity);
         name.len = file.name_len + file.package_len;
     } while (is_cut(&name, &answer));
     if (answer == MB_DONE)
@@ -189,7 +189,7 @@ PyObject *pool_enum_value(PyObject *self, PyObject *args)
         return NULL;
     begin(&name);
     do
-        answer = mb_pool_enum_value(&((Pool *)self)->handle, (size_t)entry, (size_t)index, &number, name.at, name.room, &name.len);
+        answer = mb_pool_enum_value(&((Pool *)self)->handle, (size_t)entry, (size_t)index, &number, name.at, name.capacity, &name.len);
     while (is_cut(&name, &answer));
     PyObject *text = end(&name, answer);
     return text == NULL ? NULL : Py_BuildValue("Ni", text, (int)number);

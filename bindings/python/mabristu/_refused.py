@@ -10,7 +10,7 @@ class Refused(ValueError):
     """Bytes, a descriptor set or sources that are refused. Its text is the line that pbtool prints.
 
     cause is the name of the cause, and number its number. byte, path, file and name say where, or are None: path is a tuple of steps
-    (number, before), outermost first, each the record of a field number with so many whole records of that number before it in its parent;
+    (number, before), outermost first, each the record of a field number with this number of whole records of the same field before it in its parent;
     of a part that has no JSON form, path is the field numbers that lead to it;
     file is the name of a source or of a file that does not link, or the index of a file of a set; name is that of a declaration. Of a frame of a
     stream, frame is its index and at where it begins; then byte counts from there, and size is how many bytes the frame has by its length, or None

@@ -341,7 +341,7 @@ class Streams(Shop):
             def read(self, size=-1):
                 return super().read(min(size, 1000))
 
-        # Two messages of an unknown record of 200,000 bytes, and one between whose length says so many, and that is no message.
+        # Two messages of an unknown record of 200,000 bytes, and between them one with the same length that is no message.
         long = b"\xfa\x06\xc0\x9a\x0c" + 200_000 * b"\x07"
         length = b"\xc5\x9a\x0c"
         bad = []

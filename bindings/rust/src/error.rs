@@ -16,7 +16,7 @@ const NUMBERS: u32 = 255;
 
 /// The name that the library has for the cause of a number.
 fn cause_name(number: u32) -> Option<String> {
-    let name = written_alone(|out, room, size| unsafe { calls::mb_cause_name(number, out, room, size) });
+    let name = written_alone(|out, capacity, size| unsafe { calls::mb_cause_name(number, out, capacity, size) });
     Some(text(name.ok()?))
 }
 

@@ -45,12 +45,12 @@ impl Message {
 
     /// The canonical bytes.
     pub fn encode(&self) -> Result<Vec<u8>, Error> {
-        written_alone(|out, room, size| unsafe { calls::mb_message_encode(self.handle(), out, room, size) })
+        written_alone(|out, capacity, size| unsafe { calls::mb_message_encode(self.handle(), out, capacity, size) })
     }
 
     /// The message as a frame of a stream: the number of canonical bytes as a varint, and then these. [`MessageType::frames`] reads such a stream.
     pub fn frame(&self) -> Result<Vec<u8>, Error> {
-        written_alone(|out, room, size| unsafe { calls::mb_message_frame(self.handle(), out, room, size) })
+        written_alone(|out, capacity, size| unsafe { calls::mb_message_frame(self.handle(), out, capacity, size) })
     }
 
     /// How many canonical bytes there are.
@@ -62,12 +62,12 @@ impl Message {
 
     /// The listing, as `pbtool show` prints it.
     pub fn listing(&self) -> Result<String, Error> {
-        Ok(text(written_alone(|out, room, size| unsafe { calls::mb_message_show(self.handle(), out, room, size) })?))
+        Ok(text(written_alone(|out, capacity, size| unsafe { calls::mb_message_show(self.handle(), out, capacity, size) })?))
     }
 
     /// The listing with each float as the shortest decimal that reads back to the same bits, or `nan`, `inf` or `-inf`.
     pub fn listing_decimal(&self) -> Result<String, Error> {
-        Ok(text(written_alone(|out, room, size| unsafe { calls::mb_message_show_decimal(self.handle(), out, room, size) })?))
+        Ok(text(written_alone(|out, capacity, size| unsafe { calls::mb_message_show_decimal(self.handle(), out, capacity, size) })?))
     }
 
     /// Decodes bytes onto the message, within the limits of its type: then it is what its canonical bytes followed by these decode to. Where they are
@@ -102,14 +102,14 @@ impl Message {
         let (mut out, mut size, mut path, mut steps) = (vec![0; 4096], 0, [0; calls::MAX_STEPS], 0);
         loop {
             let answer = unsafe {
-                let (at, room, path_at) = (out.as_mut_ptr(), out.len(), path.as_mut_ptr());
+                let (at, capacity, path_at) = (out.as_mut_ptr(), out.len(), path.as_mut_ptr());
                 calls::mb_message_json(
                     self.message_type.pool.handle(),
                     self.handle(),
                     form.declared_names,
                     form.indented,
                     at,
-                    room,
+                    capacity,
                     &mut size,
                     path_at,
                     path.len(),

@@ -118,18 +118,18 @@ impl MessageType {
     /// The canonical bytes of a message.
     pub fn canonical(&self, bytes: &[u8]) -> Result<Vec<u8>, Error> {
         let Limits { max_bytes, max_depth } = self.limits;
-        written(bytes.len(), |out, room, size, fault, path, steps| unsafe {
+        written(bytes.len(), |out, capacity, size, fault, path, steps| unsafe {
             let (at, len) = (bytes.as_ptr(), bytes.len());
-            calls::mb_canon(self.pool.handle(), self.number, at, len, max_bytes, max_depth, out, room, size, fault, path, steps)
+            calls::mb_canon(self.pool.handle(), self.number, at, len, max_bytes, max_depth, out, capacity, size, fault, path, steps)
         })
     }
 
     /// The listing of a message, as `pbtool show` prints it.
     pub fn listing(&self, bytes: &[u8]) -> Result<String, Error> {
         let Limits { max_bytes, max_depth } = self.limits;
-        let listing = written(5 * bytes.len(), |out, room, size, fault, path, steps| unsafe {
+        let listing = written(5 * bytes.len(), |out, capacity, size, fault, path, steps| unsafe {
             let (at, len) = (bytes.as_ptr(), bytes.len());
-            calls::mb_show(self.pool.handle(), self.number, at, len, max_bytes, max_depth, out, room, size, fault, path, steps)
+            calls::mb_show(self.pool.handle(), self.number, at, len, max_bytes, max_depth, out, capacity, size, fault, path, steps)
         })?;
         Ok(text(listing))
     }
@@ -137,9 +137,9 @@ impl MessageType {
     /// The listing with each float as the shortest decimal that reads back to the same bits, or `nan`, `inf` or `-inf`.
     pub fn listing_decimal(&self, bytes: &[u8]) -> Result<String, Error> {
         let Limits { max_bytes, max_depth } = self.limits;
-        let listing = written(5 * bytes.len(), |out, room, size, fault, path, steps| unsafe {
+        let listing = written(5 * bytes.len(), |out, capacity, size, fault, path, steps| unsafe {
             let (at, len) = (bytes.as_ptr(), bytes.len());
-            calls::mb_show_decimal(self.pool.handle(), self.number, at, len, max_bytes, max_depth, out, room, size, fault, path, steps)
+            calls::mb_show_decimal(self.pool.handle(), self.number, at, len, max_bytes, max_depth, out, capacity, size, fault, path, steps)
         })?;
         Ok(text(listing))
     }
@@ -211,9 +211,9 @@ impl MessageType {
 
     fn write_json(&self, json: &[u8], lenient: bool) -> Result<Vec<u8>, Error> {
         let mut byte = 0;
-        let bytes = written(json.len(), |out, room, size, _, _, _| unsafe {
+        let bytes = written(json.len(), |out, capacity, size, _, _, _| unsafe {
             let (at, len) = (json.as_ptr(), json.len());
-            calls::mb_from_json(self.pool.handle(), self.number, at, len, lenient, out, room, size, &mut byte)
+            calls::mb_from_json(self.pool.handle(), self.number, at, len, lenient, out, capacity, size, &mut byte)
         });
         bytes.map_err(|error| of_text(error, byte))
     }
@@ -257,11 +257,25 @@ impl MessageType {
         let Limits { max_bytes, max_depth } = self.limits;
         let mut value = Reported::default();
         let mut is_absent = false;
-        let out = written(256, |out, room, size, fault, path, steps| unsafe {
+        let out = written(256, |out, capacity, size, fault, path, steps| unsafe {
             let (at, len, handle) = (bytes.as_ptr(), bytes.len(), self.pool.handle());
             let (of, count) = (numbers.as_ptr(), numbers.len());
-            let answer =
-                calls::mb_find(handle, self.number, at, len, max_bytes, max_depth, of, count, &mut value, out, room, fault, path, steps);
+            let answer = calls::mb_find(
+                handle,
+                self.number,
+                at,
+                len,
+                max_bytes,
+                max_depth,
+                of,
+                count,
+                &mut value,
+                out,
+                capacity,
+                fault,
+                path,
+                steps,
+            );
             is_absent = answer == calls::ABSENT;
             *size = if answer == calls::DONE { size_of(&value) } else { 0 };
             if is_absent {
@@ -294,7 +308,7 @@ pub fn raw_check(bytes: &[u8], Limits { max_bytes, max_depth }: Limits) -> Resul
 
 /// The shortest spelling of the records that bytes are.
 pub fn raw_short(bytes: &[u8], Limits { max_bytes, max_depth }: Limits) -> Result<Vec<u8>, Error> {
-    written(bytes.len(), |out, room, size, fault, path, steps| unsafe {
-        calls::mb_raw_short(bytes.as_ptr(), bytes.len(), max_bytes, max_depth, out, room, size, fault, path, steps)
+    written(bytes.len(), |out, capacity, size, fault, path, steps| unsafe {
+        calls::mb_raw_short(bytes.as_ptr(), bytes.len(), max_bytes, max_depth, out, capacity, size, fault, path, steps)
     })
 }

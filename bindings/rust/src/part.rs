@@ -214,8 +214,8 @@ impl<'a> Part<'a> {
     pub fn unknown(&self) -> Result<Vec<u8>, Error> {
         let keys: Vec<Bytes> = self.keys.iter().map(|key| Bytes { at: key.as_ptr(), len: key.len() }).collect();
         let (place, steps) = (self.steps.as_ptr(), self.steps.len());
-        written_alone(|out, room, size| unsafe {
-            calls::mb_message_unknown(self.message.handle(), place, steps, keys.as_ptr(), keys.len(), out, room, size)
+        written_alone(|out, capacity, size| unsafe {
+            calls::mb_message_unknown(self.message.handle(), place, steps, keys.as_ptr(), keys.len(), out, capacity, size)
         })
     }
 
@@ -233,8 +233,9 @@ impl<'a> Part<'a> {
         let mut key = Reported::default();
         let keys: Vec<Bytes> = self.keys.iter().map(|key| Bytes { at: key.as_ptr(), len: key.len() }).collect();
         let (place, steps) = (self.steps.as_ptr(), self.steps.len());
-        let out = written_alone(|out, room, size| unsafe {
-            let answer = calls::mb_message_key(self.message.handle(), place, steps, keys.as_ptr(), keys.len(), index, &mut key, out, room);
+        let out = written_alone(|out, capacity, size| unsafe {
+            let answer =
+                calls::mb_message_key(self.message.handle(), place, steps, keys.as_ptr(), keys.len(), index, &mut key, out, capacity);
             *size = crate::value::size(&key);
             answer
         })?;

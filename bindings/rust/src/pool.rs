@@ -40,8 +40,8 @@ impl Pool {
     /// Links a descriptor set, as `protoc --include_imports --descriptor_set_out` or `pbtool compile` writes one.
     pub fn link(set: &[u8]) -> Result<Pool, Error> {
         let pool = Pool::empty();
-        linked(&[], |fault, path, steps, refusal, text, room| unsafe {
-            calls::mb_pool_link(set.as_ptr(), set.len(), pool.handle(), fault, path, steps, refusal, text, room)
+        linked(&[], |fault, path, steps, refusal, text, capacity| unsafe {
+            calls::mb_pool_link(set.as_ptr(), set.len(), pool.handle(), fault, path, steps, refusal, text, capacity)
         })?;
         Ok(pool)
     }
@@ -50,10 +50,20 @@ impl Pool {
     /// enums. [`Pool::left_out`] is how many parts were left out.
     pub fn link_lenient(set: &[u8]) -> Result<Pool, Error> {
         let (mut pool, left_out) = (Pool::empty(), Cell::new(0));
-        linked(&[], |fault, path, steps, refusal, text, room| unsafe {
+        linked(&[], |fault, path, steps, refusal, text, capacity| unsafe {
             let mut count = 0;
-            let answer =
-                calls::mb_pool_link_lenient(set.as_ptr(), set.len(), pool.handle(), &mut count, fault, path, steps, refusal, text, room);
+            let answer = calls::mb_pool_link_lenient(
+                set.as_ptr(),
+                set.len(),
+                pool.handle(),
+                &mut count,
+                fault,
+                path,
+                steps,
+                refusal,
+                text,
+                capacity,
+            );
             left_out.set(count);
             answer
         })?;
@@ -79,16 +89,16 @@ impl Pool {
         let names: Vec<&str> = sources.iter().map(|(name, _)| name.as_ref()).collect();
         let name_bytes: Vec<Bytes> = names.iter().map(|name| listed(name.as_bytes())).collect();
         let text_bytes: Vec<Bytes> = sources.iter().map(|(_, text)| listed(text.as_ref())).collect();
-        linked(&names, |_, _, _, refusal, text, room| unsafe {
+        linked(&names, |_, _, _, refusal, text, capacity| unsafe {
             let (names, texts) = (name_bytes.as_ptr(), text_bytes.as_ptr());
-            call(names, name_bytes.len(), texts, text_bytes.len(), pool.handle(), refusal, text, room)
+            call(names, name_bytes.len(), texts, text_bytes.len(), pool.handle(), refusal, text, capacity)
         })?;
         Ok(pool)
     }
 
     /// A descriptor set of the pool's types: linking it makes the same types again. Services and options, which a pool does not hold, are not in it.
     pub fn to_set(&self) -> Result<Vec<u8>, Error> {
-        written_alone(|out, room, size| unsafe { calls::mb_pool_set(self.handle(), out, room, size) })
+        written_alone(|out, capacity, size| unsafe { calls::mb_pool_set(self.handle(), out, capacity, size) })
     }
 
     /// How many parts of the set lenient reading left out.

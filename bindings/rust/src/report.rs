@@ -73,7 +73,7 @@ pub fn written(
 
 /// The same of a call that reports no fault.
 pub fn written_alone(mut call: impl FnMut(*mut u8, usize, &mut usize) -> u32) -> Result<Vec<u8>, Error> {
-    written(4096, |out, room, size, _, _, _| call(out, room, size))
+    written(4096, |out, capacity, size, _, _, _| call(out, capacity, size))
 }
 
 /// Makes a call that links types. Where the names that it reports are longer than the buffer for them, it is made again.

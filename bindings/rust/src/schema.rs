@@ -89,18 +89,20 @@ impl Pool {
     /// The full name of the message type of a number, and what it is.
     pub(crate) fn reported_type(&self, number: u32) -> Result<(String, TypeReport), Error> {
         let mut report = TypeReport::default();
-        let name = written_alone(|out, room, size| unsafe { calls::mb_pool_message(self.handle(), number, &mut report, out, room, size) })?;
+        let name = written_alone(|out, capacity, size| unsafe {
+            calls::mb_pool_message(self.handle(), number, &mut report, out, capacity, size)
+        })?;
         Ok((text(name), report))
     }
 
     fn oneof(&self, number: u32, index: usize) -> Result<String, Error> {
-        written_alone(|out, room, size| unsafe { calls::mb_pool_oneof(self.handle(), number, index, out, room, size) }).map(text)
+        written_alone(|out, capacity, size| unsafe { calls::mb_pool_oneof(self.handle(), number, index, out, capacity, size) }).map(text)
     }
 
     fn declared_field(&self, number: u32, index: usize) -> Result<DeclaredField, Error> {
         let (mut report, mut detail) = (FieldReport::default(), 0);
-        let name = written_alone(|out, room, size| unsafe {
-            calls::mb_pool_field_at(self.handle(), number, index, &mut report, &mut detail, out, room, size)
+        let name = written_alone(|out, capacity, size| unsafe {
+            calls::mb_pool_field_at(self.handle(), number, index, &mut report, &mut detail, out, capacity, size)
         })?;
         let field = Field::of(report);
         let oneof = if field.shape == Shape::Oneof { Some(self.oneof(number, detail as usize)?) } else { None };
@@ -116,15 +118,16 @@ impl Pool {
     /// The name of a value of an enum, and its number.
     fn value(&self, entry: usize, index: usize) -> Result<(String, i32), Error> {
         let mut number = 0;
-        let name = written_alone(|out, room, size| unsafe {
-            calls::mb_pool_enum_value(self.handle(), entry, index, &mut number, out, room, size)
+        let name = written_alone(|out, capacity, size| unsafe {
+            calls::mb_pool_enum_value(self.handle(), entry, index, &mut number, out, capacity, size)
         })?;
         Ok((text(name), number))
     }
 
     fn declared_enum(&self, entry: usize) -> Result<DeclaredEnum, Error> {
         let mut report = EnumReport::default();
-        let name = written_alone(|out, room, size| unsafe { calls::mb_pool_enum(self.handle(), entry, &mut report, out, room, size) })?;
+        let name =
+            written_alone(|out, capacity, size| unsafe { calls::mb_pool_enum(self.handle(), entry, &mut report, out, capacity, size) })?;
         let values = (0..report.values).map(|index| self.value(entry, index)).collect::<Result<_, _>>()?;
         Ok(DeclaredEnum { name: text(name), file: report.file, parent: parent(report.nested, report.parent), values })
     }

@@ -8,7 +8,7 @@ pub struct Fault {
     pub cause: u32,
 }
 
-/// A record, by its number and by how many whole records of that number stand before it in what holds it.
+/// A record, by its field number and by how many whole records of that number come before it in its parent.
 #[repr(C)]
 #[derive(Clone, Copy, Debug, Default, PartialEq, Eq)]
 pub struct Step {

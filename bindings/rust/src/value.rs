@@ -19,9 +19,9 @@ pub enum Value {
     Enum(i32),
     /// A message, by the number of its type ([`crate::MessageType::number`]).
     Message(u32),
-    /// A list of so many values.
+    /// A list of this length.
     List(usize),
-    /// A map of so many entries.
+    /// A map with this number of entries.
     Map(usize),
 }
 

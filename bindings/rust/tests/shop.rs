@@ -233,7 +233,7 @@ fn reads_long_frames_by_pieces() {
             Ok(count)
         }
     }
-    // Two messages of an unknown record of 200,000 bytes, and one between whose length says so many, and that is no message.
+    // Two messages of an unknown record of 200,000 bytes, and between them one with the same length that is no message.
     let long = [&[0xfa, 0x06, 0xc0, 0x9a, 0x0c][..], &vec![7; 200_000]].concat();
     let length = [0xc5, 0x9a, 0x0c];
     let stream = [&length[..], &long, &length, &[0x0f], &long[1..], &length, &long].concat();

@@ -1,6 +1,6 @@
-/* Refuses each growth of memory of each call in turn: growths SET TYPE MESSAGE SOURCE LENIENT, of which the last is a set of proto2. The allocator is
+/* Refuses each allocation of memory of each call in turn: allocations SET TYPE MESSAGE SOURCE LENIENT, of which the last is a set of proto2. The allocator is
  * this program's own, over the archive of the crate alone. A call must answer MB_MEMORY, have written nothing and hold nothing more than before, up to
- * the first number of growths with which it answers as with ample memory. */
+ * the first number of allocations with which it answers as with ample memory. */
 #include "mabristu.h"
 
 #include <stdbool.h>
@@ -352,7 +352,7 @@ static bool hold(bool is_built)
                           mb_message_fields(&second, NULL, 0, NULL, 0, NULL, 0, &count) == MB_DONE));
 }
 
-/* Refuses the growths of each call in turn. Returns how many of the calls are wrong. */
+/* Refuses the allocations of each call in turn. Returns how many of the calls are wrong. */
 static int wrong_calls(bool is_built, bool is_shop)
 {
     static struct outputs outputs, blank;
@@ -380,11 +380,11 @@ static int wrong_calls(bool is_built, bool is_shop)
             mb_message_free(&held);
             mb_message_free(&second);
             if (live != before || (answer == MB_MEMORY && memcmp(&outputs, &blank, sizeof outputs) != 0)) {
-                printf("%s with %ld growths: WRONG: answer %u, %ld blocks more\n", calls[i].name, number, answer, live - before);
+                printf("%s with %ld allocations: WRONG: answer %u, %ld blocks more\n", calls[i].name, number, answer, live - before);
                 wrong++;
             }
         } while (answer == MB_MEMORY);
-        printf("%s%s: %ld growths refused, then answer %u by %ld\n", calls[i].name, is_built ? ", built" : "", number, answer, tried);
+        printf("%s%s: %ld allocations refused, then answer %u by %ld\n", calls[i].name, is_built ? ", built" : "", number, answer, tried);
         wrong += answer != calls[i].answer;
     }
     return wrong;
