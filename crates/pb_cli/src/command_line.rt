@@ -17,8 +17,8 @@ use crate::words::definition;
 use clap::error::ErrorKind;
 use clap::{ArgMatches, Error};
 use pb_command::{
-    Afterwards, Command, Comparison, Files, FloatForm, FrameForm, Layout, RawForm, Readers,
-    Reading, Refusal, Roots, Source, execute_explained, execute_then,
+    Cleanup, Command, Comparison, Files, FloatForm, FrameForm, Layout, RawForm, Readers, Reading,
+    Refusal, Roots, Source, execute_explained, execute_then,
 };
 use pb_wire::{Output, write_all};
 use std::alloc::Global;
@@ -59,14 +59,14 @@ pub fn run<F: Files, O: Output, E: Output>(
     ensures unfailing { is_explained (subcommand_of tool (words_of args.now)) ≡ false
         → F.is_steady files.old ≡ true → F.takes_writes files.old ≡ true → F.failures files.new ≡ F.failures files.old }
 {
-    run_then(alloc, Afterwards::GoesOn, args, files, out, err)
+    run_then(alloc, Cleanup::Free, args, files, out, err)
 }
 
 /// Does what `run` does, in a program that goes on or ends after it. Where it ends, the pool and the message of the command are not
 /// freed.
 pub fn run_then<F: Files, O: Output, E: Output>(
     alloc: Global,
-    afterwards: Afterwards,
+    cleanup: Cleanup,
     args: &[String],
     files: &mut F,
     out: &mut O,
@@ -103,7 +103,7 @@ pub fn run_then<F: Files, O: Output, E: Output>(
         return Refusal::Memory.tell(err);
     };
     match definition.try_get_matches_from(args) {
-        Ok(matches) => dispatch(alloc, afterwards, &matches, files, out, err),
+        Ok(matches) => dispatch(alloc, cleanup, &matches, files, out, err),
         Err(error) => usage(alloc, &error, err),
     }
 }
@@ -127,7 +127,7 @@ fn usage<E: Output>(alloc: Global, error: &Error, err: &mut E) -> u8
 /// Does the command that the words named, and explains its refusal if they say so.
 fn dispatch<F: Files, O: Output, E: Output>(
     alloc: Global,
-    afterwards: Afterwards,
+    cleanup: Cleanup,
     matches: &ArgMatches<'_>,
     files: &mut F,
     out: &mut O,
@@ -151,9 +151,9 @@ fn dispatch<F: Files, O: Output, E: Output>(
 {
     let command = command_of(matches);
     if explains(matches) {
-        execute_explained(alloc, afterwards, &command, files, out, err)
+        execute_explained(alloc, cleanup, &command, files, out, err)
     } else {
-        execute_then(alloc, afterwards, &command, files, out, err)
+        execute_then(alloc, cleanup, &command, files, out, err)
     }
 }
 

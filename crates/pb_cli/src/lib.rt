@@ -1,7 +1,7 @@
 //! The words of the command line, and the command that they name. A program that calls commands itself finds them here too.
 //!
 //! ```rust
-//! use pb_cli::{Afterwards, HostFiles, Refusal, run_then};
+//! use pb_cli::{Cleanup, HostFiles, Refusal, run_then};
 //! use pb_wire::{Output, WriteOutput, write_all};
 //! use std::io::ErrorKind;
 //! use std::process::ExitCode;
@@ -17,7 +17,7 @@
 //!     let mut out = WriteOutput::new(rt.stdout());
 //!     let status = run_then(
 //!         rt.alloc(),
-//!         Afterwards::Ends,
+//!         Cleanup::LeaveToSystem,
 //!         args.as_slice(),
 //!         &mut files,
 //!         &mut out,
@@ -39,6 +39,6 @@ mod words;
 
 pub use command_line::{run, run_then};
 pub use pb_command::{
-    Afterwards, Command, Comparison, Files, FloatForm, FrameForm, HostFiles, Layout, MemFiles,
+    Cleanup, Command, Comparison, Files, FloatForm, FrameForm, HostFiles, Layout, MemFiles,
     RawForm, Readers, Reading, Refusal, Roots, Source, execute, execute_explained, execute_then,
 };

@@ -13,7 +13,7 @@ ghost use Rattle.pb_command.specs.AllFrames.{AllBegunBy, AllFramesBy};
 ghost use Rattle.pb_command.specs.PassingOn.{Concludes, IsGoing, PutsAnswer, TurnIs};
 ghost use Rattle.pb_command.specs.Steps.{AllBegunAtPath, AllBegunOf, AllFramesAtPath, AllFramesOf, Comes, NoFile};
 
-use crate::afterwards::{Afterwards, part_with};
+use crate::cleanup::{Cleanup, clean_up};
 use crate::command::{FrameForm, Source};
 use crate::frames::put_frame;
 use crate::shown::Shown;
@@ -60,7 +60,7 @@ enum Turn<'a> {
 /// reported when the last frame was read.
 pub fn all_frames<'a, F: Files, O: Output>(
     alloc: Global,
-    afterwards: Afterwards,
+    cleanup: Cleanup,
     form: FrameForm,
     source: &Source<'a>,
     files: &mut F,
@@ -74,16 +74,16 @@ pub fn all_frames<'a, F: Files, O: Output>(
 {
     match form {
         FrameForm::Listing(floats) => {
-            all_frames_listed(alloc, afterwards, floats, source, files, out)
+            all_frames_listed(alloc, cleanup, floats, source, files, out)
         }
-        FrameForm::Json => all_frames_json(alloc, afterwards, source, files, out),
+        FrameForm::Json => all_frames_json(alloc, cleanup, source, files, out),
     }
 }
 
 /// Lists the messages of a file.
 fn all_frames_listed<'a, F: Files, O: Output>(
     alloc: Global,
-    afterwards: Afterwards,
+    cleanup: Cleanup,
     floats: FloatForm,
     source: &Source<'a>,
     files: &mut F,
@@ -105,14 +105,14 @@ fn all_frames_listed<'a, F: Files, O: Output>(
     )?;
     let shown = Shown::Listing(floats);
     let answer = all_frames_at(alloc, shown, &pool, message_type, source.file, files, out);
-    part_with(pool, afterwards);
+    clean_up(pool, cleanup);
     answer
 }
 
 /// Writes the messages of a file as JSON, with the names that the set gives to fields.
 fn all_frames_json<'a, F: Files, O: Output>(
     alloc: Global,
-    afterwards: Afterwards,
+    cleanup: Cleanup,
     source: &Source<'a>,
     files: &mut F,
     out: &mut O,
@@ -135,7 +135,7 @@ fn all_frames_json<'a, F: Files, O: Output>(
         files,
         out,
     );
-    part_with(named, afterwards);
+    clean_up(named, cleanup);
     answer
 }
 

@@ -1,20 +1,20 @@
-//! What a program does after a command, and what becomes of the command's memory.
+//! What becomes of a command's memory when the command is done.
 
 use std::mem::forget;
 
-/// What the program does when a command is done.
+/// What becomes of the pool and the message of a command when it is done.
 #[derive(Clone, Copy, Debug, PartialEq, Eq)]
-pub enum Afterwards {
-    /// It goes on, so the command frees its pool and its message.
-    GoesOn,
-    /// It ends, and the system takes all its memory at once: the pool and the message are left to it.
-    Ends,
+pub enum Cleanup {
+    /// The command frees them, for a program that goes on.
+    Free,
+    /// They are left to the system, which takes all memory of a program at once when it ends.
+    LeaveToSystem,
 }
 
-/// Frees a value, or leaves it to the end of the program.
-pub(crate) fn part_with<T: Drop>(value: T, afterwards: Afterwards) {
-    match afterwards {
-        Afterwards::GoesOn => drop(value),
-        Afterwards::Ends => forget(value),
+/// Frees a value, or leaves it to the system.
+pub(crate) fn clean_up<T: Drop>(value: T, cleanup: Cleanup) {
+    match cleanup {
+        Cleanup::Free => drop(value),
+        Cleanup::LeaveToSystem => forget(value),
     }
 }

@@ -7,7 +7,7 @@ ghost use Rattle.pb_files.specs.Refusal.{KeepsFailures};
 ghost use Rattle.pb_command.specs.CompatAnswer.{AnswersBreak, ComparesTo, verdict_answer};
 ghost use Rattle.pb_command.specs.Steps.{Comes, CompatOf, IsNothing, NoFile};
 
-use crate::afterwards::{Afterwards, part_with};
+use crate::cleanup::{Cleanup, clean_up};
 use crate::command::Comparison;
 use pb_files::{Files, OUTPUT, Refusal, pool_at};
 use pb_schema::Pool;
@@ -18,7 +18,7 @@ use std::alloc::Global;
 /// Shows what happens to messages of the types of the old set that are read by the new one, and if asked also the other way.
 pub fn compat<'a, F: Files, O: Output>(
     alloc: Global,
-    afterwards: Afterwards,
+    cleanup: Cleanup,
     comparison: &Comparison<'a>,
     files: &mut F,
     out: &mut O,
@@ -39,8 +39,8 @@ pub fn compat<'a, F: Files, O: Output>(
         comparison.type_name,
         out,
     );
-    part_with(before, afterwards);
-    part_with(after, afterwards);
+    clean_up(before, cleanup);
+    clean_up(after, cleanup);
     answer
 }
 

@@ -9,8 +9,8 @@ ghost use Rattle.pb_files.specs.Refusal.{KeepsFailures, refusal_line, refusal_st
 ghost use Rattle.pb_output.specs.Sending.{Cut, Sent, SentOrCut};
 ghost use Rattle.pb_command.specs.Steps.{BegunOf, Comes, RightOf};
 
-use crate::afterwards::Afterwards;
 use crate::all_frames::all_frames;
+use crate::cleanup::Cleanup;
 use crate::command::Command;
 use crate::compat::compat;
 use crate::compile::compile;
@@ -53,14 +53,14 @@ pub fn execute<F: Files, O: Output, E: Output>(
     // Steady files that take writes do not fail.
     ensures unfailing { F.is_steady files.old ≡ true → F.takes_writes files.old ≡ true → F.failures files.new ≡ F.failures files.old }
 {
-    execute_then(alloc, Afterwards::GoesOn, command, files, out, err)
+    execute_then(alloc, Cleanup::Free, command, files, out, err)
 }
 
 /// Does a command as `execute` does, in a program that goes on or ends after it. Where it ends, the pool and the message of the command
 /// are not freed.
 pub fn execute_then<F: Files, O: Output, E: Output>(
     alloc: Global,
-    afterwards: Afterwards,
+    cleanup: Cleanup,
     command: &Command<'_>,
     files: &mut F,
     out: &mut O,
@@ -81,14 +81,14 @@ pub fn execute_then<F: Files, O: Output, E: Output>(
     // Steady files that take writes do not fail.
     ensures unfailing { F.is_steady files.old ≡ true → F.takes_writes files.old ≡ true → F.failures files.new ≡ F.failures files.old }
 {
-    let outcome = perform(alloc, afterwards, command, files, out);
+    let outcome = perform(alloc, cleanup, command, files, out);
     conclude(outcome, err)
 }
 
 /// The work of a command, without the line that reports a refusal.
 pub(crate) fn perform<'a, F: Files, O: Output>(
     alloc: Global,
-    afterwards: Afterwards,
+    cleanup: Cleanup,
     command: &Command<'a>,
     files: &mut F,
     out: &mut O,
@@ -101,10 +101,10 @@ pub(crate) fn perform<'a, F: Files, O: Output>(
 {
     match command {
         Command::Raw { form, file } => raw(alloc, Limits::FULL, *form, file, files, out),
-        Command::Check { source } => message(alloc, afterwards, Form::Check, source, files, out),
+        Command::Check { source } => message(alloc, cleanup, Form::Check, source, files, out),
         Command::Show { floats, source } => message(
             alloc,
-            afterwards,
+            cleanup,
             Form::Listing(*floats),
             source,
             files,
@@ -112,27 +112,27 @@ pub(crate) fn perform<'a, F: Files, O: Output>(
         ),
         Command::Canon { out: to, source } => message(
             alloc,
-            afterwards,
+            cleanup,
             form_of(*to),
             source,
             files,
             out,
         ),
-        Command::Json { layout, source } => json(alloc, afterwards, *layout, source, files, out),
-        Command::FromJson { out: to, source } => from_json(alloc, afterwards, source, to, files),
-        Command::Frames { form, source } => frames(alloc, afterwards, *form, source, files, out),
+        Command::Json { layout, source } => json(alloc, cleanup, *layout, source, files, out),
+        Command::FromJson { out: to, source } => from_json(alloc, cleanup, source, to, files),
+        Command::Frames { form, source } => frames(alloc, cleanup, *form, source, files, out),
         Command::AllFrames { form, source } => all_frames(
-            alloc, afterwards, *form, source, files, out,
+            alloc, cleanup, *form, source, files, out,
         ),
         Command::Types { reading, set, name } => types(
-            alloc, afterwards, *reading, set, *name, files, out,
+            alloc, cleanup, *reading, set, *name, files, out,
         ),
         Command::Compile {
             roots,
             out: to,
             names,
         } => compile(alloc, *roots, to, names, files),
-        Command::Compat { comparison } => compat(alloc, afterwards, comparison, files, out),
+        Command::Compat { comparison } => compat(alloc, cleanup, comparison, files, out),
     }
 }
 

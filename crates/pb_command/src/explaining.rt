@@ -6,7 +6,7 @@ ghost use Rattle.pb_files.specs.FileMap.{IsHonest};
 ghost use Rattle.pb_files.specs.Refusal.{refusal_line, refusal_status};
 ghost use Rattle.pb_output.specs.Sending.{Cut, Sent, SentOrCut};
 
-use crate::afterwards::Afterwards;
+use crate::cleanup::Cleanup;
 use crate::command::{Command, Source};
 use crate::executing::perform;
 use pb_files::{Files, Refusal};
@@ -19,7 +19,7 @@ use std::alloc::Global;
 /// again for them.
 pub fn execute_explained<F: Files, O: Output, E: Output>(
     alloc: Global,
-    afterwards: Afterwards,
+    cleanup: Cleanup,
     command: &Command<'_>,
     files: &mut F,
     out: &mut O,
@@ -34,7 +34,7 @@ pub fn execute_explained<F: Files, O: Output, E: Output>(
     // What is not refused is not explained.
     ensures quiet { result ≡ 0 → Sent E.written E.failures err.old err.new [] }
 {
-    let outcome = perform(alloc, afterwards, command, files, out);
+    let outcome = perform(alloc, cleanup, command, files, out);
     conclude(alloc, command, outcome, files, err)
 }
 

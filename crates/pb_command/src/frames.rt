@@ -12,7 +12,7 @@ ghost use Rattle.pb_command.specs.Steps.{Comes, NoFile, StreamAt, StreamBegun, S
 ghost use Rattle.pb_command.specs.Streaming.{FramesBegunIn, FramesIn, IsToldOfFormless, IsToldOfFrame, PutsFrames, PutsNext};
 ghost use Rattle.pb_files.specs.Refusal.{KeepsFailures};
 
-use crate::afterwards::{Afterwards, part_with};
+use crate::cleanup::{Cleanup, clean_up};
 use crate::command::{FrameForm, Source};
 use crate::form::put_json_line;
 use crate::shown::Shown;
@@ -41,7 +41,7 @@ enum Next<'a> {
 /// Shows the messages of a file up to its end or to what is no message. What was printed before a refusal stays.
 pub fn frames<'a, F: Files, O: Output>(
     alloc: Global,
-    afterwards: Afterwards,
+    cleanup: Cleanup,
     form: FrameForm,
     source: &Source<'a>,
     files: &mut F,
@@ -54,15 +54,15 @@ pub fn frames<'a, F: Files, O: Output>(
     ensures unfailing { F.is_steady files.old ≡ true → F.failures files.new ≡ F.failures files.old }
 {
     match form {
-        FrameForm::Listing(floats) => listed_frames(alloc, afterwards, floats, source, files, out),
-        FrameForm::Json => json_frames(alloc, afterwards, source, files, out),
+        FrameForm::Listing(floats) => listed_frames(alloc, cleanup, floats, source, files, out),
+        FrameForm::Json => json_frames(alloc, cleanup, source, files, out),
     }
 }
 
 /// Lists the messages of a file.
 fn listed_frames<'a, F: Files, O: Output>(
     alloc: Global,
-    afterwards: Afterwards,
+    cleanup: Cleanup,
     floats: FloatForm,
     source: &Source<'a>,
     files: &mut F,
@@ -78,14 +78,14 @@ fn listed_frames<'a, F: Files, O: Output>(
     let (pool, kind) = find_type(alloc, source.reading, source.set, source.type_name, files)?;
     let shown = Shown::Listing(floats);
     let answer = frames_at(alloc, shown, &pool, kind, source.file, files, out);
-    part_with(pool, afterwards);
+    clean_up(pool, cleanup);
     answer
 }
 
 /// Writes the messages of a file as JSON, with the names that the set gives to fields.
 fn json_frames<'a, F: Files, O: Output>(
     alloc: Global,
-    afterwards: Afterwards,
+    cleanup: Cleanup,
     source: &Source<'a>,
     files: &mut F,
     out: &mut O,
@@ -108,7 +108,7 @@ fn json_frames<'a, F: Files, O: Output>(
         files,
         out,
     );
-    part_with(named, afterwards);
+    clean_up(named, cleanup);
     answer
 }
 

@@ -12,7 +12,7 @@ ghost use Rattle.pb_json_read.specs.declared.error.JsonReadError.{JsonReadError 
 ghost use Rattle.pb_command.specs.FromJsonAnswer.{rules_by, too_long_line};
 ghost use Rattle.pb_command.specs.Steps.{Comes, IsNothing, JsonReadAt, JsonReadOf};
 
-use crate::afterwards::{Afterwards, part_with};
+use crate::cleanup::{Cleanup, clean_up};
 use crate::command::Source;
 use crate::form::save_canonical;
 use pb_files::{Files, NamedType, Reading, Refusal, find_named_type, read_file};
@@ -24,7 +24,7 @@ use std::alloc::Global;
 /// Writes the canonical bytes of the message that a file holds as JSON to a file: whole, or nothing where it is refused.
 pub fn from_json<'a, F: Files>(
     alloc: Global,
-    afterwards: Afterwards,
+    cleanup: Cleanup,
     source: &Source<'a>,
     out: &'a str,
     files: &mut F,
@@ -38,7 +38,7 @@ pub fn from_json<'a, F: Files>(
     let named = find_named_type(alloc, source.reading, source.set, source.type_name, files)?;
     let rules = rules_of(source.reading);
     let answer = from_json_at(alloc, rules, &named, source.file, out, files);
-    part_with(named, afterwards);
+    clean_up(named, cleanup);
     answer
 }
 

@@ -1,9 +1,9 @@
 //! The commands, and what each does over files and two outputs.
 #![tactic(auto)]
 
-mod afterwards;
 mod all_frames;
 mod by_type;
+mod cleanup;
 mod command;
 mod compat;
 mod compile;
@@ -20,7 +20,7 @@ mod shown;
 mod sources;
 mod types;
 
-pub use afterwards::Afterwards;
+pub use cleanup::Cleanup;
 pub use command::{Command, Comparison, FrameForm, RawForm, Roots, Source};
 pub use executing::{execute, execute_then};
 pub use explaining::execute_explained;

@@ -6,8 +6,8 @@ ghost use Rattle.pb_output.specs.Sending.{Cut, Sent};
 ghost use Rattle.pb_command.specs.Steps.{Comes, IsNothing, JsonOf, MessageAt, MessageOf};
 ghost use Rattle.pb_files.specs.Refusal.{KeepsFailures};
 
-use crate::afterwards::{Afterwards, part_with};
 use crate::by_type::read_message;
+use crate::cleanup::{Cleanup, clean_up};
 use crate::command::Source;
 use crate::form::{Form, make};
 use pb_files::{Files, Refusal, find_named_type, find_type};
@@ -19,7 +19,7 @@ use std::alloc::Global;
 /// Makes it of the message of a file: nothing is printed before the message is accepted.
 pub fn message<'a, F: Files, O: Output>(
     alloc: Global,
-    afterwards: Afterwards,
+    cleanup: Cleanup,
     form: Form<'a, '_>,
     source: &Source<'a>,
     files: &mut F,
@@ -32,24 +32,15 @@ pub fn message<'a, F: Files, O: Output>(
     ensures unfailing { F.is_steady files.old ≡ true → F.takes_writes files.old ≡ true → F.failures files.new ≡ F.failures files.old }
 {
     let (pool, kind) = find_type(alloc, source.reading, source.set, source.type_name, files)?;
-    let answer = message_at(
-        alloc,
-        afterwards,
-        form,
-        &pool,
-        kind,
-        source.file,
-        files,
-        out,
-    );
-    part_with(pool, afterwards);
+    let answer = message_at(alloc, cleanup, form, &pool, kind, source.file, files, out);
+    clean_up(pool, cleanup);
     answer
 }
 
 /// Writes the message of a file as JSON, with the names that the set gives to fields.
 pub fn json<'a, F: Files, O: Output>(
     alloc: Global,
-    afterwards: Afterwards,
+    cleanup: Cleanup,
     layout: Layout,
     source: &Source<'a>,
     files: &mut F,
@@ -64,7 +55,7 @@ pub fn json<'a, F: Files, O: Output>(
     let named = find_named_type(alloc, source.reading, source.set, source.type_name, files)?;
     let answer = message_at(
         alloc,
-        afterwards,
+        cleanup,
         Form::Json(layout, &named.names),
         &named.pool,
         named.message_type,
@@ -72,14 +63,14 @@ pub fn json<'a, F: Files, O: Output>(
         files,
         out,
     );
-    part_with(named, afterwards);
+    clean_up(named, cleanup);
     answer
 }
 
 /// Makes it of the message of a type that the file at a path holds.
 fn message_at<'a, F: Files, O: Output>(
     alloc: Global,
-    afterwards: Afterwards,
+    cleanup: Cleanup,
     form: Form<'a, '_>,
     pool: &Pool,
     message_type: MessageId,
@@ -96,6 +87,6 @@ fn message_at<'a, F: Files, O: Output>(
 {
     let message = read_message(alloc, pool, message_type, path, files)?;
     let answer = make(form, &message, files, out);
-    part_with(message, afterwards);
+    clean_up(message, cleanup);
     answer
 }

@@ -12,7 +12,7 @@ ghost use Rattle.pb_files.specs.Refusal.{KeepsFailures};
 ghost use Rattle.pb_command.specs.Steps.{Comes, IsNothing, NoFile, TypesOf};
 ghost use Rattle.pb_command.specs.TypesAnswer.{NamedAnswer, ShownAnswer, omitted_line, set_listing};
 
-use crate::afterwards::{Afterwards, part_with};
+use crate::cleanup::{Cleanup, clean_up};
 use pb_descr::Omitted;
 use pb_files::{Files, LinkedSet, OUTPUT, Reading, Refusal, pool_at};
 use pb_listing::{file_name, put_enum_type, put_message_type, put_types};
@@ -24,7 +24,7 @@ use std::alloc::Global;
 /// Shows what the set in a file declares and what reading left out of it, or the message type or enum of a name.
 pub fn types<'a, F: Files, O: Output>(
     alloc: Global,
-    afterwards: Afterwards,
+    cleanup: Cleanup,
     reading: Reading,
     set: &'a str,
     name: Option<&'a str>,
@@ -39,7 +39,7 @@ pub fn types<'a, F: Files, O: Output>(
 {
     let linked = pool_at(alloc, reading, set, files)?;
     let answer = show(&linked, name, out);
-    part_with(linked, afterwards);
+    clean_up(linked, cleanup);
     answer
 }
 

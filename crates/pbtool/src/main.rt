@@ -1,7 +1,7 @@
 //! The program: does the command that its words name, over the files and outputs of its process.
 #![tactic(auto)]
 
-use pb_cli::{Afterwards, HostFiles, Refusal, run_then};
+use pb_cli::{Cleanup, HostFiles, Refusal, run_then};
 use pb_wire::{Output, WriteOutput, write_all};
 use std::io::ErrorKind;
 use std::process::ExitCode;
@@ -17,7 +17,7 @@ fn main(rt: HostRuntime) -> ExitCode {
     let mut out = WriteOutput::new(rt.stdout());
     let status = run_then(
         rt.alloc(),
-        Afterwards::Ends,
+        Cleanup::LeaveToSystem,
         args.as_slice(),
         &mut files,
         &mut out,

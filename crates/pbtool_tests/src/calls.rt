@@ -3,7 +3,7 @@
 
 use crate::raw::FLAT;
 use pb_cli::{
-    Afterwards, Command, FloatForm, FrameForm, Layout, Reading, Source, execute, execute_then,
+    Cleanup, Command, FloatForm, FrameForm, Layout, Reading, Source, execute, execute_then,
     run_then,
 };
 use pb_decode::decode;
@@ -128,7 +128,7 @@ fn types(rt: HostRuntime) -> Result<(), Fail> {
 /// after it.
 fn is_done(
     alloc: Global,
-    afterwards: Option<Afterwards>,
+    cleanup: Option<Cleanup>,
     command: &Command<'_>,
     comes: Comes,
 ) -> Result<bool, Fail> {
@@ -137,7 +137,7 @@ fn is_done(
     let mut files = files_of(alloc, &entries, NONE)?;
     let mut out = output(alloc);
     let mut err = output(alloc);
-    let status = match afterwards {
+    let status = match cleanup {
         None => execute(alloc, command, &mut files, &mut out, &mut err),
         Some(it) => execute_then(alloc, it, command, &mut files, &mut out, &mut err),
     };
@@ -213,9 +213,9 @@ fn commands(rt: HostRuntime) -> Result<(), Fail> {
             (1, b"", b"type N unknown\n"),
         ),
     ];
-    for afterwards in [None, Some(Afterwards::GoesOn), Some(Afterwards::Ends)] {
+    for cleanup in [None, Some(Cleanup::Free), Some(Cleanup::LeaveToSystem)] {
         for (command, comes) in rows {
-            assert!(rt; is_done(alloc, afterwards, &command, comes)?, "{command:?}");
+            assert!(rt; is_done(alloc, cleanup, &command, comes)?, "{command:?}");
         }
     }
     Ok(())
@@ -233,7 +233,7 @@ fn words(rt: HostRuntime) -> Result<(), Fail> {
     }
     let mut out = output(alloc);
     let mut err = output(alloc);
-    let ends = Afterwards::Ends;
+    let ends = Cleanup::LeaveToSystem;
     let status = run_then(alloc, ends, args.as_slice(), &mut files, &mut out, &mut err);
     assert!(rt; status == 0 && out.bytes() == b"a: 150\n".as_slice() && err.bytes().is_empty());
     Ok(())
