@@ -20,22 +20,22 @@ def lanes(gigabytes):
     return max(1, min(len(os.sched_getaffinity(0)), free // (gigabytes * 1_000_000)))
 
 
-def copy_tree(room):
+def copy_tree(scratch):
     """Copies the tree, without what is kept of checks."""
     tree = ["tar", "-C", TOP, "--exclude=./.git", "--exclude=./crates/*/out", "--exclude=./bench", "-cf", "-", "."]
     packed = subprocess.Popen(tree, stdout=subprocess.PIPE)
-    subprocess.run(["tar", "-C", room, "-xf", "-"], stdin=packed.stdout, check=True)
+    subprocess.run(["tar", "-C", scratch, "-xf", "-"], stdin=packed.stdout, check=True)
 
 
-def copy_for(name, room):
+def copy_for(name, scratch):
     """Copies the tree. Of what is kept, the proofs of this crate are copied, and the built libraries are linked, which a build replaces."""
-    copy_tree(room)
+    copy_tree(scratch)
     for crate in os.listdir(f"{TOP}/crates"):
         kept = [("rlib", "-al")] + [("incremental", "-a")] * (crate == name)
         for part, how in kept:
             if os.path.isdir(f"{TOP}/crates/{crate}/out/{part}"):
-                os.makedirs(f"{room}/crates/{crate}/out", exist_ok=True)
-                paths = [f"{TOP}/crates/{crate}/out/{part}", f"{room}/crates/{crate}/out/{part}"]
+                os.makedirs(f"{scratch}/crates/{crate}/out", exist_ok=True)
+                paths = [f"{TOP}/crates/{crate}/out/{part}", f"{scratch}/crates/{crate}/out/{part}"]
                 # (a link needs one file system)
                 if subprocess.run(["cp", how, *paths], stderr=subprocess.DEVNULL).returncode:
                     subprocess.run(["cp", "-a", *paths], check=True)

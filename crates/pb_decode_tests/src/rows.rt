@@ -411,7 +411,7 @@ frame cut_behind_a_read - - 1 20 12127a7a7a7a7a7a7a7a7a7a7a7a7a7a7a7a ? ! 19 2[0
 ";
 
 /// The bytes, and the answer where no allocation is refused.
-pub(crate) const GROWTHS: &str = "
+pub(crate) const ALLOCATIONS: &str = "
 grow packed-and-single-elements - - 3206038e029ea7053001 = 3207038e029ea70501
 grow messages-of-one-field-join - - 1a0208011a0312017a = 1a05080112017a
 grow oneof-number-between-messages - - 42020801380542025802 = 42025802
@@ -428,7 +428,7 @@ grow occurrences-4 - - 0801a30108010802ac01 ! 8 20[0] WrongEnd
 ";
 
 /// The same of the type `Q`.
-pub(crate) const CLOSED_GROWTHS: &str = "
+pub(crate) const CLOSED_ALLOCATIONS: &str = "
 grow proto2-3 - - 1b08051c1b08061c = 1b08061c
 grow proto2-5 - - 20072002 = 20022007
 grow proto2-8 - - 2a0401070209 = 2a02010228072809
@@ -440,7 +440,7 @@ grow wrong_end - - 1b24 ! 1 3[0] WrongEnd
 ";
 
 /// The same of the type `R`.
-pub(crate) const GROUP_GROWTHS: &str = "
+pub(crate) const GROUP_ALLOCATIONS: &str = "
 grow list_of_groups - - 0b10050c0b0c = 0b10050c0b0c
 grow group_goes_on - - 1b08011c1b1c = 1b08011c
 grow group_leaves_oneof - - 1b08011c2005 = 2005

@@ -7,9 +7,9 @@ use super::hostile::{
 use super::messages::{is_merged, is_put_onto};
 use super::pieces::is_pushed;
 use super::rows::{
-    ALIVE, CLOSED, CLOSED_GROWTHS, CLOSED_RUNS, DEEP, FALLING, FLAT, FRAMES, FRONTS, GROUP_GROWTHS,
-    GROUPS, GROWTHS, LISTS, MANY_RECORDS, MAPS, MAPS_IN_GROUPS, MAPS_IN_MAPS, MERGES, NESTED,
-    ONE_RECORD, ONTO, PIECES, RECORDS, RUNS, WORKED,
+    ALIVE, ALLOCATIONS, CLOSED, CLOSED_ALLOCATIONS, CLOSED_RUNS, DEEP, FALLING, FLAT, FRAMES,
+    FRONTS, GROUP_ALLOCATIONS, GROUPS, LISTS, MANY_RECORDS, MAPS, MAPS_IN_GROUPS, MAPS_IN_MAPS,
+    MERGES, NESTED, ONE_RECORD, ONTO, PIECES, RECORDS, RUNS, WORKED,
 };
 use super::sample::{Schema, sample};
 use super::words::{limits_of, word};
@@ -196,26 +196,26 @@ fn many_decoders(rt: HostRuntime) -> Result<(), Fail> {
     Ok(())
 }
 
-/// Each answer is that of ample memory or Memory where an allocation is refused, which `.ci/growths` does.
+/// Each answer is that of ample memory or Memory where an allocation is refused, which `.ci/allocations` does.
 #[test]
-fn refused_growths(rt: HostRuntime) -> Result<(), Fail> {
-    let wrong = wrong_row(rt.alloc(), "T", GROWTHS)?;
+fn refused_allocations(rt: HostRuntime) -> Result<(), Fail> {
+    let wrong = wrong_row(rt.alloc(), "T", ALLOCATIONS)?;
     assert!(rt; wrong.is_none(), "{wrong:?}");
     Ok(())
 }
 
 /// The same.
 #[test]
-fn refused_growths_of_closed_enums(rt: HostRuntime) -> Result<(), Fail> {
-    let wrong = wrong_row(rt.alloc(), "Q", CLOSED_GROWTHS)?;
+fn refused_allocations_of_closed_enums(rt: HostRuntime) -> Result<(), Fail> {
+    let wrong = wrong_row(rt.alloc(), "Q", CLOSED_ALLOCATIONS)?;
     assert!(rt; wrong.is_none(), "{wrong:?}");
     Ok(())
 }
 
 /// The same.
 #[test]
-fn refused_growths_of_groups(rt: HostRuntime) -> Result<(), Fail> {
-    let wrong = wrong_row(rt.alloc(), "R", GROUP_GROWTHS)?;
+fn refused_allocations_of_groups(rt: HostRuntime) -> Result<(), Fail> {
+    let wrong = wrong_row(rt.alloc(), "R", GROUP_ALLOCATIONS)?;
     assert!(rt; wrong.is_none(), "{wrong:?}");
     Ok(())
 }

@@ -148,9 +148,9 @@ fn lenient_causes(rt: HostRuntime) -> Result<(), Fail> {
     Ok(())
 }
 
-/// What is answered where an allocation is refused, which `.ci/growths` does.
+/// What is answered where an allocation is refused, which `.ci/allocations` does.
 #[test]
-fn lenient_growths(rt: HostRuntime) -> Result<(), Fail> {
+fn lenient_allocations(rt: HostRuntime) -> Result<(), Fail> {
     for row in TOLD.lines() {
         assert!(rt; row.is_empty() || is_told(rt.alloc(), row, true)?, "{row}");
     }

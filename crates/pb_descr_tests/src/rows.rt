@@ -169,9 +169,9 @@ fn is_right(alloc: Global, row: &str) -> Result<bool, Fail> {
     Ok(is_kept_or_memory(alloc, &set))
 }
 
-/// What the calls answer where an allocation is refused, which `.ci/growths` does.
+/// What the calls answer where an allocation is refused, which `.ci/allocations` does.
 #[test]
-fn growths(rt: HostRuntime) -> Result<(), Fail> {
+fn allocations(rt: HostRuntime) -> Result<(), Fail> {
     for row in SETS.lines() {
         assert!(rt; row.is_empty() || is_right(rt.alloc(), row)?, "{row}");
     }

@@ -243,16 +243,16 @@ fn are_grown(alloc: Global, pool: &Pool, rows: &str) -> Result<bool, Fail> {
     Ok(true)
 }
 
-fn are_growths_told(alloc: Global) -> Result<bool, Fail> {
+fn are_refusals_reported(alloc: Global) -> Result<bool, Fail> {
     let pool = pool(alloc)?;
     Ok(are_grown(alloc, &pool, ROWS)? && are_grown(alloc, &pool, CLOSED)?)
 }
 
-/// What the calls answer where an allocation is refused, which `.ci/growths` does.
+/// What the calls answer where an allocation is refused, which `.ci/allocations` does.
 #[test]
-fn growths(rt: HostRuntime) -> Result<(), Fail> {
-    let are_told = are_growths_told(rt.alloc())?;
-    assert!(rt; are_told);
+fn allocations(rt: HostRuntime) -> Result<(), Fail> {
+    let are_reported = are_refusals_reported(rt.alloc())?;
+    assert!(rt; are_reported);
     Ok(())
 }
 

@@ -202,7 +202,7 @@ fn is_told(alloc: Global, row: &str) -> Result<bool, Fail> {
     answers(alloc, &set, wanted)
 }
 
-// `.ci/growths` refuses each allocation in this test, and in those of the sets as they are resolved and as pools are declared.
+// `.ci/allocations` refuses each allocation in this test, and in those of the sets as they are resolved and as pools are declared.
 #[test]
 fn sets(rt: HostRuntime) -> Result<(), Fail> {
     for row in ROWS.lines() {

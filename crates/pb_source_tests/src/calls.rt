@@ -75,9 +75,9 @@ fn long_sources(rt: HostRuntime) -> Result<(), Fail> {
     Ok(())
 }
 
-/// Where an allocation is refused, as by `.ci/growths`, that is reported at byte 0.
+/// Where an allocation is refused, as by `.ci/allocations`, that is reported at byte 0.
 #[test]
-fn growths(rt: HostRuntime) -> Result<(), Fail> {
+fn allocations(rt: HostRuntime) -> Result<(), Fail> {
     let is_told = match lex(rt.alloc(), "message M { int32 a = 1; }") {
         Ok(tokens) => tokens.len() == 9 && tokens[0].kind == TokenKind::Word,
         Err(fault) => {

@@ -88,7 +88,7 @@ fn sources(rt: HostRuntime) -> Result<(), Fail> {
     Ok(())
 }
 
-/// Where an allocation is refused, which `.ci/growths` does, the fault is `Memory` at byte 0, or the answer is the same.
+/// Where an allocation is refused, which `.ci/allocations` does, the fault is `Memory` at byte 0, or the answer is the same.
 #[test]
 fn allocations(rt: HostRuntime) -> Result<(), Fail> {
     for row in ROWS.lines() {

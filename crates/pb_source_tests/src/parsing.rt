@@ -76,9 +76,9 @@ fn sources(rt: HostRuntime) -> Result<(), Fail> {
     Ok(())
 }
 
-/// Where an allocation is refused, as by `.ci/growths`, that is reported at byte 0, or the answer is as before.
+/// Where an allocation is refused, as by `.ci/allocations`, that is reported at byte 0, or the answer is as before.
 #[test]
-fn growths(rt: HostRuntime) -> Result<(), Fail> {
+fn allocations(rt: HostRuntime) -> Result<(), Fail> {
     for row in ROWS.lines() {
         assert!(rt;
             row.is_empty() || holds(rt.alloc(), row, "0 Memory")?,

@@ -1,4 +1,4 @@
-//! The rows of streams where each call of their device fails in turn, and where an allocation is refused, which `.ci/growths` does.
+//! The rows of streams where each call of their device fails in turn, and where an allocation is refused, which `.ci/allocations` does.
 
 use super::devices::{failing_after, is_written_back};
 use super::frames::{CLOSED, ROWS, Refusal, Row, is_refusal};
@@ -200,7 +200,7 @@ fn are_whole(alloc: Global, schema: &Schema, rows: &[Row]) -> Result<bool, Fail>
 }
 
 #[test]
-fn growths(rt: HostRuntime) -> Result<(), Fail> {
+fn allocations(rt: HostRuntime) -> Result<(), Fail> {
     let schema = sample(rt.alloc())?;
     let closed = closed_sample(rt.alloc())?;
     assert!(rt; are_whole(rt.alloc(), &schema, ROWS)? && are_whole(rt.alloc(), &closed, CLOSED)?);

@@ -2,6 +2,8 @@
 #![tactic(auto)]
 
 #[cfg(test)]
+mod allocations;
+#[cfg(test)]
 mod caller;
 #[cfg(test)]
 mod calls;
@@ -11,8 +13,6 @@ mod devices;
 mod faults;
 #[cfg(test)]
 mod first_call;
-#[cfg(test)]
-mod growths;
 #[cfg(test)]
 mod rows;
 #[cfg(test)]

@@ -1,4 +1,4 @@
-//! What devices answer where an allocation is refused, which `.ci/growths` does.
+//! What devices answer where an allocation is refused, which `.ci/allocations` does.
 
 use pb_wire::{FailurePlan, MemInput, MemOutput, ReadFault, read_up_to, write_all};
 use std::alloc::Global;

@@ -1,4 +1,4 @@
-// Counts the allocations of the program that it is loaded into, and refuses the one that REFUSED numbers, with all after it where ONWARD is set. The count goes to the file GROWTHS when the program ends. It takes no memory itself.
+// Counts the allocations of the program that it is loaded into, and refuses the one that REFUSED numbers, with all after it where ONWARD is set. The count goes to the file COUNT when the program ends. It takes no memory itself.
 #define _GNU_SOURCE
 #include <dlfcn.h>
 #include <errno.h>
@@ -19,7 +19,7 @@ __attribute__((constructor)) static void begin(void) {
 
 __attribute__((destructor)) static void tell(void) {
     char text[24];
-    const char *path = getenv("GROWTHS");
+    const char *path = getenv("COUNT");
     int file = path ? open(path, O_WRONLY | O_CREAT | O_TRUNC, 0600) : -1;
     if (file >= 0) {
         int size = snprintf(text, sizeof text, "%ld\n", count);
