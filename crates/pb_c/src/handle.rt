@@ -7,7 +7,7 @@ pub(crate) mod shared;
 
 use self::seal::Seal;
 use self::shared::Shared;
-use pb_c_boxes::Parts;
+use pb_c_boxes::RawBox;
 use std::alloc::Global;
 use std::mem;
 use std::ptr::null_mut;
@@ -46,7 +46,7 @@ pub(crate) fn put(handle: &mut PoolHandle, shared: Box<Shared, Global>)
     ensures { handle.new.seal.pool ≡ Some shared.value }
 {
     *handle = PoolHandle {
-        seal: Seal::of_parts(Parts::of(shared)),
+        seal: Seal::of_parts(RawBox::of(shared)),
         full: true,
     };
 }

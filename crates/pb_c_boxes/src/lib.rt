@@ -1,6 +1,6 @@
 //! A box as its pointer and its allocator, for the handles of `pb_c`.
 #![tactic(auto)]
 
-mod parts;
+mod raw_box;
 
-pub use parts::Parts;
+pub use raw_box::RawBox;

@@ -8,7 +8,7 @@ use Rattle.std_heap.specs.contracts.GlobalAllocator.TheImpl.{ghosts, dict}
 use Rattle.std_heap.proofs.Global.TheLaws as heap
 use Rattle.pb_c_decoding.specs.contracts.own.OwnDecoder as Own
 use Rattle.pb_c_decoding.proofs.own.OwnDecoder.TheLaws as own
-use Rattle.pb_c_boxes.specs.contracts.parts.Parts as Parts
+use Rattle.pb_c_boxes.specs.contracts.raw_box.RawBox as RawBox
 use Rattle.pb_c_decoding.specs.contracts.seal.DecoderSeal as Seal
 
 -- a box of a decoder, from the heap
@@ -20,7 +20,7 @@ boxed = record {
 }
 
 abbrev pub parts_slot : Slot 0
-parts_slot = plain (λ _. Parts.the_row Own.the_row Heap.the_row ghosts)
+parts_slot = plain (λ _. RawBox.the_row Own.the_row Heap.the_row ghosts)
 
 abbrev pub seal_slot : Slot 0
 seal_slot = plain (λ _. Seal.the_row)

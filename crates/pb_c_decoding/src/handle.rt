@@ -4,7 +4,7 @@ ghost use Rattle.std.specs.Prelude.{◌≡◌, is_some, Option, option_map};
 
 use crate::own::OwnDecoder;
 use crate::seal::DecoderSeal;
-use pb_c_boxes::Parts;
+use pb_c_boxes::RawBox;
 use std::alloc::Global;
 use std::mem;
 use std::ptr::null_mut;
@@ -43,7 +43,7 @@ pub fn put(handle: &mut DecoderHandle, decoder: Box<OwnDecoder, Global>)
     ensures { handle.new.seal.decoder ≡ Some decoder.value }
 {
     *handle = DecoderHandle {
-        seal: DecoderSeal::of_parts(Parts::of(decoder)),
+        seal: DecoderSeal::of_parts(RawBox::of(decoder)),
         full: true,
     };
 }

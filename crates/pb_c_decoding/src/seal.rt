@@ -5,7 +5,7 @@ ghost use Rattle.pb_decode.specs.Decoder.{Decoder};
 ghost use Rattle.pb_c_decoding.specs.Seal.{decoder_coded, seal_owns};
 
 use crate::own::OwnDecoder;
-use pb_c_boxes::Parts;
+use pb_c_boxes::RawBox;
 use std::alloc::Global;
 use std::marker::Model;
 
@@ -31,10 +31,10 @@ impl DecoderSeal {
     }
 
     /// Holds what a box held.
-    pub(crate) fn of_parts(parts: Parts<OwnDecoder, Global>) -> DecoderSeal
+    pub(crate) fn of_parts(parts: RawBox<OwnDecoder, Global>) -> DecoderSeal
         ensures { result.decoder ≡ Some parts.value }
     {
-        let Parts { at, alloc } = parts;
+        let RawBox { at, alloc } = parts;
         DecoderSeal {
             at: at as *mut u8,
             alloc,
@@ -42,12 +42,12 @@ impl DecoderSeal {
     }
 
     /// What is held, as the parts of a box.
-    pub(crate) fn into_parts(self) -> Parts<OwnDecoder, Global>
+    pub(crate) fn into_parts(self) -> RawBox<OwnDecoder, Global>
         requires { (d : Decoder) × (self.decoder ≡ Some d) }
         ensures { self.decoder ≡ Some result.value }
     {
         let DecoderSeal { at, alloc } = self;
-        Parts {
+        RawBox {
             at: at as *mut OwnDecoder,
             alloc,
         }

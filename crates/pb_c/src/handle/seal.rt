@@ -5,7 +5,7 @@ ghost use Rattle.pb_c.specs.declared.handle.shared.Shared.{Shared};
 ghost use Rattle.pb_c.specs.Seal.{pool_coded, seal_owns};
 
 use super::shared::Shared;
-use pb_c_boxes::Parts;
+use pb_c_boxes::RawBox;
 use std::alloc::Global;
 use std::marker::Model;
 
@@ -31,10 +31,10 @@ impl Seal {
     }
 
     /// Holds what a box held.
-    pub(super) fn of_parts(parts: Parts<Shared, Global>) -> Seal
+    pub(super) fn of_parts(parts: RawBox<Shared, Global>) -> Seal
         ensures { result.pool ≡ Some parts.value }
     {
-        let Parts { at, alloc } = parts;
+        let RawBox { at, alloc } = parts;
         Seal {
             at: at as *mut u8,
             alloc,
@@ -42,12 +42,12 @@ impl Seal {
     }
 
     /// What is held, as the parts of a box.
-    pub(super) fn into_parts(self) -> Parts<Shared, Global>
+    pub(super) fn into_parts(self) -> RawBox<Shared, Global>
         requires { (s : Shared) × (self.pool ≡ Some s) }
         ensures { self.pool ≡ Some result.value }
     {
         let Seal { at, alloc } = self;
-        Parts {
+        RawBox {
             at: at as *mut Shared,
             alloc,
         }

@@ -4,7 +4,7 @@ ghost use Rattle.std.specs.Prelude.{◌≡◌, is_some, Option, option_map};
 
 use super::own::OwnMessage;
 use super::seal::MessageSeal;
-use pb_c_boxes::Parts;
+use pb_c_boxes::RawBox;
 use std::alloc::Global;
 use std::mem;
 use std::ptr::null_mut;
@@ -43,7 +43,7 @@ pub(crate) fn put(handle: &mut MessageHandle, message: Box<OwnMessage, Global>)
     ensures { handle.new.seal.message ≡ Some message.value }
 {
     *handle = MessageHandle {
-        seal: MessageSeal::of_parts(Parts::of(message)),
+        seal: MessageSeal::of_parts(RawBox::of(message)),
         full: true,
     };
 }

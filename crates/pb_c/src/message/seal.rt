@@ -5,7 +5,7 @@ ghost use Rattle.pb_value.specs.Dynamic.{Dynamic};
 ghost use Rattle.pb_c.specs.Message.Seal.{message_coded, seal_owns};
 
 use super::own::OwnMessage;
-use pb_c_boxes::Parts;
+use pb_c_boxes::RawBox;
 use std::alloc::Global;
 use std::marker::Model;
 
@@ -31,10 +31,10 @@ impl MessageSeal {
     }
 
     /// Holds what a box held.
-    pub(super) fn of_parts(parts: Parts<OwnMessage, Global>) -> MessageSeal
+    pub(super) fn of_parts(parts: RawBox<OwnMessage, Global>) -> MessageSeal
         ensures { result.message ≡ Some parts.value }
     {
-        let Parts { at, alloc } = parts;
+        let RawBox { at, alloc } = parts;
         MessageSeal {
             at: at as *mut u8,
             alloc,
@@ -42,12 +42,12 @@ impl MessageSeal {
     }
 
     /// What is held, as the parts of a box.
-    pub(super) fn into_parts(self) -> Parts<OwnMessage, Global>
+    pub(super) fn into_parts(self) -> RawBox<OwnMessage, Global>
         requires { (m : Dynamic) × (self.message ≡ Some m) }
         ensures { self.message ≡ Some result.value }
     {
         let MessageSeal { at, alloc } = self;
-        Parts {
+        RawBox {
             at: at as *mut OwnMessage,
             alloc,
         }

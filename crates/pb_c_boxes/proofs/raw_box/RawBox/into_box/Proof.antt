@@ -35,14 +35,14 @@ use Rattle.std.proofs.alloc.Calls.{token, Goes-blank}
 use Rattle.std_alloc.specs.Box.Ownership.{box_owns}
 use Rattle.std_alloc.proofs.BoxSteps.Form.{Bx, D, R, P, B, args, box_ty, word, box_typed}
 use Rattle.std_alloc.proofs.BoxSteps.Steps.{box_out, box_in}
-use Rattle.pb_c_boxes.specs.contracts.parts.Parts as Parts
+use Rattle.pb_c_boxes.specs.contracts.raw_box.RawBox as RawBox
 use Rattle.std_alloc.specs.contracts.boxed.Box.from_raw as from_raw
 use Rattle.std_alloc.proofs.boxed.Box.from_raw.Symbol as symbol
 use Rattle.std_alloc.proofs.boxed.Box.from_raw.Met as met
-use Rattle.pb_c_boxes.specs.contracts.parts.Parts.into_box as promised
-use Rattle.pb_c_boxes.specs.contracts.parts.Parts.into_box.Key.{name as #self}
-use Rattle.pb_c_boxes.proofs.parts.Parts.into_box.Statement as stated
-use Rattle.pb_c_boxes.proofs.parts.Parts.into_box.Code as code
+use Rattle.pb_c_boxes.specs.contracts.raw_box.RawBox.into_box as promised
+use Rattle.pb_c_boxes.specs.contracts.raw_box.RawBox.into_box.Key.{name as #self}
+use Rattle.pb_c_boxes.proofs.raw_box.RawBox.into_box.Statement as stated
+use Rattle.pb_c_boxes.proofs.raw_box.RawBox.into_box.Code as code
 
 -- what is left after the call
 abbrev result_out : Body
@@ -56,7 +56,7 @@ module _ (E : Bx) where
   ended = promised.ended E.row E.al.row E.al.g E.al.d E.al.drops
 
   abbrev parts_type : RattleType
-  parts_type = Parts.the_row (R E) (P E) E.al.g
+  parts_type = RawBox.the_row (R E) (P E) E.al.g
 
   abbrev stays : Stays ended.signature.params ended.kept
   stays = (stay_dropped (plain (λ _. parts_type)) no, tt)

@@ -37,14 +37,14 @@ use Rattle.std.proofs.alloc.Calls.{token, handle_tells, Goes-blank}
 use Rattle.std_alloc.specs.Box.Ownership.{box_owns}
 use Rattle.std_alloc.proofs.BoxSteps.Form.{Bx, D, τ, R, P, B, word, box_typed}
 use Rattle.std_alloc.proofs.BoxSteps.Steps.{box_out, box_in}
-use Rattle.pb_c_boxes.specs.contracts.parts.Parts as Parts
+use Rattle.pb_c_boxes.specs.contracts.raw_box.RawBox as RawBox
 use Rattle.std_alloc.specs.contracts.boxed.Box.into_raw_with_allocator as opened
 use Rattle.std_alloc.proofs.boxed.Box.into_raw_with_allocator.Symbol as symbol
 use Rattle.std_alloc.proofs.boxed.Box.into_raw_with_allocator.Met as met
-use Rattle.pb_c_boxes.specs.contracts.parts.Parts.of as promised
-use Rattle.pb_c_boxes.specs.contracts.parts.Parts.of.Key.{name as #self}
-use Rattle.pb_c_boxes.proofs.parts.Parts.of.Statement as stated
-use Rattle.pb_c_boxes.proofs.parts.Parts.of.Code as code
+use Rattle.pb_c_boxes.specs.contracts.raw_box.RawBox.of as promised
+use Rattle.pb_c_boxes.specs.contracts.raw_box.RawBox.of.Key.{name as #self}
+use Rattle.pb_c_boxes.proofs.raw_box.RawBox.of.Statement as stated
+use Rattle.pb_c_boxes.proofs.raw_box.RawBox.of.Code as code
 
 module _ (E : Bx) (dx : Dict) where
   abbrev with_types : Args
@@ -60,7 +60,7 @@ module _ (E : Bx) (dx : Dict) where
   stays = (stay_dropped (plain (λ _. B E)) no, tt)
 
   abbrev parts_type : RattleType
-  parts_type = Parts.the_row (R E) (P E) E.al.g
+  parts_type = RawBox.the_row (R E) (P E) E.al.g
 
   module _ {M : Type 1} {𝓤 : Ura M} (𝓛 : Logic 𝓤) (at_mem : Memory → SProp 𝓤) (run : Routine → Fun 𝓤) (𝓣 : Tables 𝓤 𝓛.H) where
     open 𝓛 use {H}
