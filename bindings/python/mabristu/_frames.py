@@ -91,8 +91,8 @@ class Frames:
         self._at, self._read = len(self._held), None
 
     def _cut(self, begin, size):
-        """The fault of the frame that the stream ends in. What there is of its message begins at this index of the bytes held, and has a fault there, or it is
-        whole records, and ends too early."""
+        """The fault of the frame that the stream ends in. What there is of its message begins this many bytes after the frame does, and has a fault
+        there, or it is whole records, and ends too early."""
         refused = fault(len(self._held) - self._at, (), TRUNCATED)
         try:
             self._type.check(self._held[self._at + begin :], max_bytes=self._limits[0], max_depth=self._limits[1])
