@@ -65,7 +65,7 @@ fn read_length(alloc: Global, input: &mut impl Read) -> Result<Option<u32>>
     Ok(Some(length as u32))
 }
 
-/// Prints where a message fails: the path is of records, each by its number and by how many of that number stand before it.
+/// Prints where a message fails: the path is of records, each by its number and by how many of that number come before it.
 fn report(rt: &impl Print, index: u64, fault: Option<DecodeError>) -> Result<()> {
     match fault {
         None => println!(rt; "{index}: an order")?,

@@ -25,7 +25,7 @@ use Rattle.pb_value.specs.Change.{push_at, push_each, with_fields}
 use Rattle.pb_value.proofs.ShapeSteps.{push_each-append}
 use Rattle.pb_building.specs.declared.tokens.step.Step.{Step}
 use Rattle.pb_building.specs.declared.tokens.step.Step.TheVariants as step
-use Rattle.pb_building.specs.Open.Parents.{Part, next_step, Parent, path_of, Held, at_top, inside, Stands, Scope}
+use Rattle.pb_building.specs.Open.Parents.{Part, next_step, Parent, path_of, Held, at_top, inside, Reached, Scope}
 use Rattle.pb_building.specs.Open.Occurrences.{CountsOf}
 use Rattle.pb_building.specs.declared.open.target.Target.{Target}
 use Rattle.pb_building.specs.Tokens.Numbers.{NumberFault, a_varint, eight_bytes, four_bytes}
@@ -34,7 +34,7 @@ use Rattle.pb_building.specs.Open.Targets.{Means, part_context}
 use Rattle.pb_building.specs.Values.PayloadValue.{IsBytesTarget}
 use Rattle.pb_building.specs.Tokens.After.{Tag, tag, awaited, HasLevelFor, end_of_part, part_scope, Elements, with_numbers, with_elements, Underway, nothing, a_tag, a_length, some_elements, After}
 use Rattle.pb_building.proofs.OpenedLemmas.{begins_at_tag}
-use Rattle.pb_building.proofs.ParentLemmas.{reported, ends_longer, ends_along, stands_longer}
+use Rattle.pb_building.proofs.ParentLemmas.{reported, ends_longer, ends_along, reached_longer}
 use Rattle.pb_building.proofs.PackedNumbers.{elements_next, elements_none, number_of, numbers_next}
 use Rattle.pb_building.proofs.ClosedLists.{declared_number, undeclared_number, with_numbers-append}
 
@@ -55,7 +55,7 @@ pub after_longer :
 after_longer {scope = scope} {u = u} more bytes a = record {
   before = a.before;
   place = longer a.place more;
-  stands = stands_longer more bytes a.stands;
+  reached = reached_longer more bytes a.reached;
   begun = underway_longer more a.begun;
   ends = ends_longer u more scope.end a.ends;
 }
@@ -63,17 +63,17 @@ after_longer {scope = scope} {u = u} more bytes a = record {
 -- A WHOLE RECORD: nothing is begun after it
 pub after_record :
     {pool : Types} {m depth levels : ℕ} {base : List Record} {p0 : Place} {parents : List Parent} {scope : Scope} {now : Part} {q : Place}
-    → Stands pool m depth levels base p0 parents now scope q → After pool m depth levels base p0 parents step.Tag now scope q
-after_record {now = now} {q = q} s = record { before = now; place = q; stands = s; begun = nothing refl refl refl; ends = s.ends }
+    → Reached pool m depth levels base p0 parents now scope q → After pool m depth levels base p0 parents step.Tag now scope q
+after_record {now = now} {q = q} s = record { before = now; place = q; reached = s; begun = nothing refl refl refl; ends = s.ends }
 
 -- and where nothing is begun the reader is after a whole record
 pub at_record :
     {pool : Types} {m depth levels : ℕ} {base : List Record} {p0 : Place} {parents : List Parent} {scope : Scope} {now : Part} {u : Place}
-    → After pool m depth levels base p0 parents step.Tag now scope u → Stands pool m depth levels base p0 parents now scope u
-at_record {pool} {m} {depth} {levels} {base} {p0} {parents} {scope} {now} {u} a = from_underway a.before a.place a.stands a.begun
+    → After pool m depth levels base p0 parents step.Tag now scope u → Reached pool m depth levels base p0 parents now scope u
+at_record {pool} {m} {depth} {levels} {base} {p0} {parents} {scope} {now} {u} a = from_underway a.before a.place a.reached a.begun
   where
-    from_underway : (v : Part) (q : Place) → Stands pool m depth levels base p0 parents v scope q → Underway pool scope.depth_left v q step.Tag now u → Stands pool m depth levels base p0 parents now scope u
-    from_underway v q s (nothing at same place) = subst (λ (z : Part). Stands pool m depth levels base p0 parents z scope u) (sym same) (subst (λ (z : Place). Stands pool m depth levels base p0 parents v scope z) (sym place) s)
+    from_underway : (v : Part) (q : Place) → Reached pool m depth levels base p0 parents v scope q → Underway pool scope.depth_left v q step.Tag now u → Reached pool m depth levels base p0 parents now scope u
+    from_underway v q s (nothing at same place) = subst (λ (z : Part). Reached pool m depth levels base p0 parents z scope u) (sym same) (subst (λ (z : Place). Reached pool m depth levels base p0 parents v scope z) (sym place) s)
     from_underway v q s (a_tag t at has means has_level same) = absurd (cc)
     from_underway v q s (a_length at has l means has_level bytes same) = absurd (cc)
     from_underway v q s (some_elements at has l means h was same) = absurd (cc)
@@ -95,12 +95,12 @@ same_scope next t scope is = ap (λ (z : Option ℕ). record scope { end = z }) 
 
 pub after_tag :
     {pool : Types} {m depth levels : ℕ} {base : List Record} {p0 : Place} {parents : List Parent} {scope : Scope} {now : Part} {q u : Place} (next : Step) (t : Tag)
-    → Stands pool m depth levels base p0 parents now scope q → awaited next ≡ Some t → HasTag q t.number t.type u → Means pool (part_context now) t.number t.type t.meant → HasLevelFor scope.depth_left t.meant
+    → Reached pool m depth levels base p0 parents now scope q → awaited next ≡ Some t → HasTag q t.number t.type u → Means pool (part_context now) t.number t.type t.meant → HasLevelFor scope.depth_left t.meant
     → After pool m depth levels base p0 parents next now scope u
 after_tag {pool} {m} {depth} {levels} {base} {p0} {parents} {scope} {now} {q} {u} next t s is has means has_level = record {
   before = now;
   place = q;
-  stands = subst (λ (z : Scope). Stands pool m depth levels base p0 parents now z q) (sym (same_scope next t scope is)) s;
+  reached = subst (λ (z : Scope). Reached pool m depth levels base p0 parents now z q) (sym (same_scope next t scope is)) s;
   begun = a_tag t is has means has_level refl;
   ends = ends_along has.tag.0 scope.end has.tag.2 s.ends;
 }
@@ -140,7 +140,7 @@ with_next_undeclared pool n k front first v all i undeclared = absurd (false≢t
 -- after the tag of a record in the part
 pub record AtTag (pool : Types) (m depth levels : ℕ) (base : List Record) (p0 : Place) (parents : List Parent) (now : Part) (scope : Scope) (t : Tag) (u : Place) : Type 0 where
   pub place : Place
-  pub stands : Stands pool m depth levels base p0 parents now scope place
+  pub reached : Reached pool m depth levels base p0 parents now scope place
   pub has : HasTag place t.number t.type u
   pub means : Means pool (part_context now) t.number t.type t.meant
   pub has_level : HasLevelFor scope.depth_left t.meant
@@ -149,9 +149,9 @@ pub at_tag :
     {pool : Types} {m depth levels : ℕ} {base : List Record} {p0 : Place} {parents : List Parent} {scope : Scope} {next : Step} {now : Part} {u : Place} (t : Tag)
     → After pool m depth levels base p0 parents next now scope u → awaited next ≡ Some t → AtTag pool m depth levels base p0 parents now scope t u
 at_tag {pool} {m} {depth} {levels} {base} {p0} {parents} {scope} {next} {now} {u} t a is =
-    from_underway a.before a.place (subst (λ (z : Scope). Stands pool m depth levels base p0 parents a.before z a.place) (same_scope next t scope is) a.stands) a.begun
+    from_underway a.before a.place (subst (λ (z : Scope). Reached pool m depth levels base p0 parents a.before z a.place) (same_scope next t scope is) a.reached) a.begun
   where
-    from_underway : (v : Part) (q : Place) → Stands pool m depth levels base p0 parents v scope q → Underway pool scope.depth_left v q next now u → AtTag pool m depth levels base p0 parents now scope t u
+    from_underway : (v : Part) (q : Place) → Reached pool m depth levels base p0 parents v scope q → Underway pool scope.depth_left v q next now u → AtTag pool m depth levels base p0 parents now scope t u
     from_underway v q s (nothing at same place) = absurd (cc)
     from_underway v q s (a_length at has l means has_level bytes same) = absurd (cc)
     from_underway v q s (some_elements at has l means h was same) = absurd (cc)
@@ -159,7 +159,7 @@ at_tag {pool} {m} {depth} {levels} {base} {p0} {parents} {scope} {next} {now} {u
         let alike : t2 ≡ t = cc in
         record {
           place = q;
-          stands = subst (λ (z : Part). Stands pool m depth levels base p0 parents z scope q) (sym same) s;
+          reached = subst (λ (z : Part). Reached pool m depth levels base p0 parents z scope q) (sym same) s;
           has = subst (λ (z : Tag). HasTag q z.number z.type u) alike has;
           means = subst (λ (z : Tag). Means pool (part_context now) z.number z.type z.meant) alike (subst (λ (z : Part). Means pool (part_context z) t2.number t2.type t2.meant) (sym same) means);
           has_level = subst (λ (z : Tag). HasLevelFor scope.depth_left z.meant) alike has_level;
@@ -169,7 +169,7 @@ at_tag {pool} {m} {depth} {levels} {base} {p0} {parents} {scope} {next} {now} {u
 pub record AtPayload (pool : Types) (m depth levels : ℕ) (base : List Record) (p0 : Place) (parents : List Parent) (now : Part) (scope : Scope) (k : ℕ) (meant : Target) (n : ℕ) (u : Place) : Type 0 where
   pub place : Place
   pub length_at : Place
-  pub stands : Stands pool m depth levels base p0 parents now scope place
+  pub reached : Reached pool m depth levels base p0 parents now scope place
   pub has : HasTag place k 2 length_at
   pub length_is : HasLength length_at n u
   pub means : Means pool (part_context now) k 2 meant
@@ -179,9 +179,9 @@ pub record AtPayload (pool : Types) (m depth levels : ℕ) (base : List Record) 
 pub at_payload :
     {pool : Types} {m depth levels : ℕ} {base : List Record} {p0 : Place} {parents : List Parent} {scope : Scope} {now : Part} {u : Place} (k : ℕ) (meant : Target) (n : ℕ)
     → After pool m depth levels base p0 parents (step.Payload k meant n) now scope u → AtPayload pool m depth levels base p0 parents now scope k meant n u
-at_payload {pool} {m} {depth} {levels} {base} {p0} {parents} {scope} {now} {u} k meant n a = from_underway a.before a.place a.stands a.begun
+at_payload {pool} {m} {depth} {levels} {base} {p0} {parents} {scope} {now} {u} k meant n a = from_underway a.before a.place a.reached a.begun
   where
-    from_underway : (v : Part) (q : Place) → Stands pool m depth levels base p0 parents v scope q → Underway pool scope.depth_left v q (step.Payload k meant n) now u → AtPayload pool m depth levels base p0 parents now scope k meant n u
+    from_underway : (v : Part) (q : Place) → Reached pool m depth levels base p0 parents v scope q → Underway pool scope.depth_left v q (step.Payload k meant n) now u → AtPayload pool m depth levels base p0 parents now scope k meant n u
     from_underway v q s (nothing at same place) = absurd (cc)
     from_underway v q s (a_tag t at has means has_level same) = absurd (cc)
     from_underway v q s (some_elements at has l means h was same) = absurd (cc)
@@ -192,7 +192,7 @@ at_payload {pool} {m} {depth} {levels} {base} {p0} {parents} {scope} {now} {u} k
         record {
           place = q;
           length_at = r;
-          stands = subst (λ (z : Part). Stands pool m depth levels base p0 parents z scope q) (sym same) s;
+          reached = subst (λ (z : Part). Reached pool m depth levels base p0 parents z scope q) (sym same) s;
           has = subst (λ (z : ℕ). HasTag q z 2 r) own has;
           length_is = subst (λ (z : ℕ). HasLength r z u) size l;
           means =
@@ -211,7 +211,7 @@ after_length {scope = scope} {now = now} k meant n a is bytes l =
     record {
       before = now;
       place = after.place;
-      stands = after.stands;
+      reached = after.reached;
       begun = a_length refl after.has l after.means after.has_level bytes refl;
       ends = ends_along l.length_is.0 scope.end l.length_is.2 a.ends;
     }
@@ -231,14 +231,14 @@ step_here k scope rs counts = ap (λ (z : ℕ). record { number = k; occurrence 
 -- A FAULT OF THE RECORD THAT COMES NEXT is the fault of the whole, below the steps of the parents
 pub reported_here :
     {pool : Types} {m depth levels : ℕ} {base : List Record} {p0 : Place} {parents : List Parent} {scope : Scope} {now : Part} {q : Place} (f : Fault)
-    → (s : Stands pool m depth levels base p0 parents now scope q) → Begins s.open_now q → RecordFault (schema_of pool) s.open_now s.records_so_far scope.depth_left q f
+    → (s : Reached pool m depth levels base p0 parents now scope q) → Begins s.open_now q → RecordFault (schema_of pool) s.open_now s.records_so_far scope.depth_left q f
     → Bad (schema_of pool) (records (in_message m)) depth p0 (below (path_of parents) f)
 reported_here {pool} {m} {depth} {p0 = p0} f s goes bad = subst (λ (z : List PathStep). Bad (schema_of pool) (records (in_message m)) depth p0 (below z f)) (path_held s.held) (reported f s goes bad)
 
 -- and one inside it is below its own step too
 pub reported_inside :
     {pool : Types} {m depth levels : ℕ} {base : List Record} {p0 : Place} {parents : List Parent} {scope : Scope} {now : Part} {q u : Place} (k w : ℕ) (g : Fault)
-    → (s : Stands pool m depth levels base p0 parents now scope q) → HasTag q k w u → RecordFault (schema_of pool) s.open_now s.records_so_far scope.depth_left q (in_record (step_into k s.records_so_far) g)
+    → (s : Reached pool m depth levels base p0 parents now scope q) → HasTag q k w u → RecordFault (schema_of pool) s.open_now s.records_so_far scope.depth_left q (in_record (step_into k s.records_so_far) g)
     → Bad (schema_of pool) (records (in_message m)) depth p0 (below (path_of parents) (in_record (next_step k scope) g))
 reported_inside {pool} {m} {depth} {p0 = p0} {parents} {scope} k w g s has bad =
     subst (λ (z : PathStep). Bad (schema_of pool) (records (in_message m)) depth p0 (below (path_of parents) (in_record z g))) (step_here k scope s.records_so_far s.counted)
@@ -256,4 +256,4 @@ pub number_reported :
     → After pool m depth levels base p0 parents next now scope u → awaited next ≡ Some t → NumberFault t.type u g → Bad (schema_of pool) (records (in_message m)) depth p0 (below (path_of parents) (in_record (next_step t.number scope) g))
 number_reported {pool} {scope = scope} t g a is bad =
     let after = at_tag t a is in
-    reported_inside t.number t.type g after.stands after.has (record_fault pool after.stands.open_now after.stands.records_so_far scope.depth_left t.number t.type g after.has bad)
+    reported_inside t.number t.type g after.reached after.has (record_fault pool after.reached.open_now after.reached.records_so_far scope.depth_left t.number t.type g after.has bad)

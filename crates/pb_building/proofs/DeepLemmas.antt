@@ -19,7 +19,7 @@ use Rattle.pb_building.specs.declared.open.part.Slot.TheVariants as slot
 use Rattle.pb_building.specs.declared.open.target.Target.{Target}
 use Rattle.pb_building.specs.declared.open.target.Target.TheVariants as target
 use Rattle.pb_building.specs.Open.Targets.{OfShape, AtField, Means, part_context}
-use Rattle.pb_building.specs.Open.Parents.{Part, message_part, entry_part, group_part, Scope, Parent, path_of, next_step, Stands}
+use Rattle.pb_building.specs.Open.Parents.{Part, message_part, entry_part, group_part, Scope, Parent, path_of, next_step, Reached}
 use Rattle.pb_building.specs.Tokens.After.{goes_down}
 use Rattle.pb_building.proofs.NumberSteps.{number_is}
 use Rattle.pb_building.proofs.KindLemmas.{never_packed}
@@ -102,7 +102,7 @@ reads_below pool (group_part us) k w meant h deep start = absurd (let no : goes_
 -- NO LEVEL IS LEFT
 pub too_deep_reported :
     {pool : Types} {m depth levels : ℕ} {base : List Record} {p0 : Place} {parents : List Parent} {scope : Scope} {now : Part} {q u : Place} (k w : ℕ) (meant : Target)
-    → Stands pool m depth levels base p0 parents now scope q → HasTag q k w u → Means pool (part_context now) k w meant → goes_down meant ≡ true → (w ≡ 3 → ⊥) → scope.depth_left ≡ 0
+    → Reached pool m depth levels base p0 parents now scope q → HasTag q k w u → Means pool (part_context now) k w meant → goes_down meant ≡ true → (w ≡ 3 → ⊥) → scope.depth_left ≡ 0
     → Bad (schema_of pool) (records (in_message m)) depth p0 (fault q.at (path_of parents ++ next_step k scope ∷ []) TooDeep)
 too_deep_reported {pool} {scope = scope} {now = now} {q = q} {u = u} k w meant s has means deep start none =
     let (two, (d, reads)) = reads_below pool now k w meant means deep start in

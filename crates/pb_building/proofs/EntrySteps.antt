@@ -25,7 +25,7 @@ use Rattle.pb_value.proofs.MessageSteps.{value_of_nothing}
 use Rattle.pb_building.specs.declared.open.part.Slot.TheVariants as slot
 use Rattle.pb_building.specs.Open.Opened as opened
 use Rattle.pb_building.specs.Open.Opened.{Begun}
-use Rattle.pb_building.specs.Open.Parents.{message_part, entry_part, group_part, Parent, Completes, inside, Stands, Scope, one_more_in}
+use Rattle.pb_building.specs.Open.Parents.{message_part, entry_part, group_part, Parent, Completes, inside, Reached, Scope, one_more_in}
 use Rattle.pb_building.proofs.OpenedLemmas.{RecordTo, so_far_nothing}
 use Rattle.pb_building.proofs.StepCounts.{counts_of_none}
 use Rattle.pb_building.proofs.WellLemmas.{kinds_in_pool, entry_value_good}
@@ -41,26 +41,26 @@ last_key : (key : Kind) (cs : List Record) (r : Record) (x : Scalar) → element
 last_key key cs r x e = ap last_of (all_elements-snoc key cs r ∙ ap (λ (y : List Scalar). all_elements key cs ++ y) e) ∙ last_of-snoc (all_elements key cs) x
 
 module _ {pool : Types} {m depth levels : ℕ} {base : List Record} {p0 : Place} {parents : List Parent} {scope : Scope} {q : Place} (key kd : Kind) (x : Option Scalar) (d : Option Datum)
-    (s : Stands pool m depth levels base p0 parents (entry_part key kd x d) scope q) where
+    (s : Reached pool m depth levels base p0 parents (entry_part key kd x d) scope q) where
   rs : List Record
   rs = s.earlier ++ s.records_so_far
 
-  pub key_stands : {u : Place} (r : Record) → RecordTo (schema_of pool) (context_of s.open_now) scope.depth_left q r u → (y : Scalar) → fits (key_field key) r ≡ true → fits (value_field kd) r ≡ false → elements key r.payload ≡ y ∷ []
-      → Stands pool m depth levels base p0 parents (entry_part key kd (Some y) d) (one_more_in r.number scope) u
-  key_stands r h y own other is = one_more s r (entry_part key kd (Some y) d) h (refl, refl) (
+  pub key_reached : {u : Place} (r : Record) → RecordTo (schema_of pool) (context_of s.open_now) scope.depth_left q r u → (y : Scalar) → fits (key_field key) r ≡ true → fits (value_field kd) r ≡ false → elements key r.payload ≡ y ∷ []
+      → Reached pool m depth levels base p0 parents (entry_part key kd (Some y) d) (one_more_in r.number scope) u
+  key_reached r h y own other is = one_more s r (entry_part key kd (Some y) d) h (refl, refl) (
     sym (ap (λ (z : List Record). last_of (all_elements key z)) (filter-passes (fits (key_field key)) (s.earlier ++ s.records_so_far) r own) ∙ last_key key (fitting (key_field key) (s.earlier ++ s.records_so_far)) r y is),
     s.worth.1 ∙ ap (one_value (value_within pool s.inner) kd) (sym (filter-fails (fits (value_field kd)) (s.earlier ++ s.records_so_far) r other)),
   )
 
-  pub value_stands : {u : Place} (r : Record) → RecordTo (schema_of pool) (context_of s.open_now) scope.depth_left q r u → (y : Scalar) → fits (key_field key) r ≡ false → fits (value_field kd) r ≡ true → message_of_kind kd ≡ None → elements kd r.payload ≡ y ∷ []
-      → Stands pool m depth levels base p0 parents (entry_part key kd x (Some (scalar y))) (one_more_in r.number scope) u
-  value_stands r h y other own none is = one_more s r (entry_part key kd x (Some (scalar y))) h (refl, refl) (
+  pub value_reached : {u : Place} (r : Record) → RecordTo (schema_of pool) (context_of s.open_now) scope.depth_left q r u → (y : Scalar) → fits (key_field key) r ≡ false → fits (value_field kd) r ≡ true → message_of_kind kd ≡ None → elements kd r.payload ≡ y ∷ []
+      → Reached pool m depth levels base p0 parents (entry_part key kd x (Some (scalar y))) (one_more_in r.number scope) u
+  value_reached r h y other own none is = one_more s r (entry_part key kd x (Some (scalar y))) h (refl, refl) (
     s.worth.0 ∙ ap (λ (z : List Record). last_of (all_elements key z)) (sym (filter-fails (fits (key_field key)) (s.earlier ++ s.records_so_far) r other)),
     sym (ap (one_value (value_within pool s.inner) kd) (filter-passes (fits (value_field kd)) (s.earlier ++ s.records_so_far) r own) ∙ one_value-one (value_within pool s.inner) kd (fitting (value_field kd) (s.earlier ++ s.records_so_far)) r y none is),
   )
 
-  pub dropped_stands : {u : Place} (r : Record) → RecordTo (schema_of pool) (context_of s.open_now) scope.depth_left q r u → fits (key_field key) r ≡ false → fits (value_field kd) r ≡ false → Stands pool m depth levels base p0 parents (entry_part key kd x d) (one_more_in r.number scope) u
-  dropped_stands r h a b = one_more s r (entry_part key kd x d) h (refl, refl) (
+  pub dropped_reached : {u : Place} (r : Record) → RecordTo (schema_of pool) (context_of s.open_now) scope.depth_left q r u → fits (key_field key) r ≡ false → fits (value_field kd) r ≡ false → Reached pool m depth levels base p0 parents (entry_part key kd x d) (one_more_in r.number scope) u
+  dropped_reached r h a b = one_more s r (entry_part key kd x d) h (refl, refl) (
     s.worth.0 ∙ ap (λ (z : List Record). last_of (all_elements key z)) (sym (filter-fails (fits (key_field key)) (s.earlier ++ s.records_so_far) r a)),
     s.worth.1 ∙ ap (one_value (value_within pool s.inner) kd) (sym (filter-fails (fits (value_field kd)) (s.earlier ++ s.records_so_far) r b)),
   )
@@ -69,7 +69,7 @@ module _ {pool : Types} {m depth levels : ℕ} {base : List Record} {p0 : Place}
   pub opens_entry_message :
       {r t : Place} (j : MessageId) (n : ℕ) (counts : ℕ → ℕ) → IsPool pool → ((i : ℕ) → counts i ≡ 0) → kd ≡ kind.Message j → HasTag q 2 2 r → HasLength r n t → (schema_of pool).reading (an_entry key kd) 2 ≡ same_level (in_message j.0)
       → ((p : Payload) → wire_type p ≡ 2 → (fits (key_field key) (record { number = 2; payload = p }) ≡ false) × (fits (value_field kd) (record { number = 2; payload = p }) ≡ true))
-      → Stands pool m depth levels base p0 (record { part = entry_part key kd x None; number = 2; slot = slot.Entry; group = false; scope = scope } ∷ parents) (message_part j.0 (entry_message d)) (payload_scope scope.depth_left t n counts) (payload_at t n)
+      → Reached pool m depth levels base p0 (record { part = entry_part key kd x None; number = 2; slot = slot.Entry; group = false; scope = scope } ∷ parents) (message_part j.0 (entry_message d)) (payload_scope scope.depth_left t n counts) (payload_at t n)
   opens_entry_message {r} {t} j n counts ok none is tag l reading fitted = record {
     open_now = records (in_message j.0);
     inner = s.inner;

@@ -16,7 +16,7 @@ use Rattle.pb_schema.specs.Types.{FieldView, Types, field_numbered}
 use Rattle.pb_schema.specs.Context.{Context, a_message as in_message, an_entry, unknown_group, message_in, read_singular, read_listed, read_shaped, read_field, fields_in, schema_of}
 use Rattle.pb_building.specs.Open.Opened.{Begun}
 use Rattle.pb_building.specs.Open.Opened as opened
-use Rattle.pb_building.specs.Open.Parents.{Part, group_part, put_child, open_type, one_more_in, Scope, Parent, path_of, Held, inside, Stands}
+use Rattle.pb_building.specs.Open.Parents.{Part, group_part, put_child, open_type, one_more_in, Scope, Parent, path_of, Held, inside, Reached}
 use Rattle.pb_building.specs.Close.Closes.{ClosesAt}
 use Rattle.pb_building.proofs.OpenedLemmas.{lift}
 use Rattle.pb_building.proofs.ParentLemmas.{held_opened, is_payload, is_group, ends_at_known_end}
@@ -56,7 +56,7 @@ field_no_group c (Some f) = shaped_no_group c f.shape f.kind
 -- what a group's records are in is the group that was begun
 pub group_is_open :
     {pool : Types} {m depth levels : ℕ} {base : List Record} {p0 : Place} {parent : Parent} {parents : List Parent} {scope : Scope} {us : List Record} {q : Place}
-    (s : Stands pool m depth levels base p0 (parent ∷ parents) (group_part us) scope q) → s.open_now ≡ in_group parent.number unknown_group
+    (s : Reached pool m depth levels base p0 (parent ∷ parents) (group_part us) scope q) → s.open_now ≡ in_group parent.number unknown_group
 group_is_open {pool} {m} {depth} {levels} {base} {p0} {parent} {parents} {us = us} s = from_held s.held s.form
   where
     from_begun : {a o : Open Context} {depth_left below : ℕ} {q u : Place} → Begun (schema_of pool) a depth_left parent.number q o below u → context_of o ≡ unknown_group → o ≡ in_group parent.number unknown_group
@@ -73,7 +73,7 @@ group_is_open {pool} {m} {depth} {levels} {base} {p0} {parent} {parents} {us = u
 -- an end tag ends a group's records
 pub records_in_group :
     {pool : Types} {m depth levels : ℕ} {base : List Record} {p0 : Place} {parent : Parent} {parents : List Parent} {scope : Scope} {us : List Record} {q : Place}
-    (s : Stands pool m depth levels base p0 (parent ∷ parents) (group_part us) scope q) → parent.group ≡ false → ⊥
+    (s : Reached pool m depth levels base p0 (parent ∷ parents) (group_part us) scope q) → parent.group ≡ false → ⊥
 records_in_group {parent = parent} s none =
     let typed : open_type s.open_now ≡ 2 = ap open_type (is_payload s none) in
     let flag : open_type s.open_now ≡ 3 = ap open_type (group_is_open s) in
@@ -82,7 +82,7 @@ records_in_group {parent = parent} s none =
 -- THE KNOWN END of what holds the group comes before its end tag
 pub past_end_reported :
     {pool : Types} {m depth levels : ℕ} {base : List Record} {p0 : Place} {parent : Parent} {parents : List Parent} {scope : Scope} {now : Part} {q : Place}
-    → Stands pool m depth levels base p0 (parent ∷ parents) now scope q → parent.group ≡ true → q.known ≡ Some 0 → Bad (schema_of pool) (records (in_message m)) depth p0 (fault q.at (path_of (parent ∷ parents)) PastEnd)
+    → Reached pool m depth levels base p0 (parent ∷ parents) now scope q → parent.group ≡ true → q.known ≡ Some 0 → Bad (schema_of pool) (records (in_message m)) depth p0 (fault q.at (path_of (parent ∷ parents)) PastEnd)
 past_end_reported {pool} {m} {depth} {p0 = p0} {parent} {parents} {scope} {q = q} s some end =
     subst (λ (z : List PathStep). Bad (schema_of pool) (records (in_message m)) depth p0 (fault q.at z PastEnd)) (append-nil s.path ∙ path_held s.held)
     (lift (fault q.at [] PastEnd) (held_opened s.held)
@@ -91,12 +91,12 @@ past_end_reported {pool} {m} {depth} {p0 = p0} {parent} {parents} {scope} {q = q
 -- A PART THAT CLOSES goes into its slot
 pub part_closes :
     {pool : Types} {m depth levels : ℕ} {base : List Record} {p0 : Place} {parent : Parent} {parents : List Parent} {scope : Scope} {now : Part} {q w : Place} (next : Part)
-    → Stands pool m depth levels base p0 (parent ∷ parents) now scope q → ClosesAt parent.group parent.number parent.scope.end q w → next ≡ put_child pool parent.slot parent.part now
-    → Stands pool m depth levels base p0 parents next (one_more_in parent.number parent.scope) w
+    → Reached pool m depth levels base p0 (parent ∷ parents) now scope q → ClosesAt parent.group parent.number parent.scope.end q w → next ≡ put_child pool parent.slot parent.part now
+    → Reached pool m depth levels base p0 parents next (one_more_in parent.number parent.scope) w
 part_closes {pool} {m} {depth} {levels} {base} {p0} {parent} {parents} {scope} {now} {q} {w} next s closes is =
-    subst (λ (z : Part). Stands pool m depth levels base p0 parents z (one_more_in parent.number parent.scope) w) (sym is) (by_group parent.group refl closes)
+    subst (λ (z : Part). Reached pool m depth levels base p0 parents z (one_more_in parent.number parent.scope) w) (sym is) (by_group parent.group refl closes)
   where
     by_group : (g : Bool) → parent.group ≡ g → ClosesAt g parent.number parent.scope.end q w
-        → Stands pool m depth levels base p0 parents (put_child pool parent.slot parent.part now) (one_more_in parent.number parent.scope) w
-    by_group false none at = subst (Stands pool m depth levels base p0 parents (put_child pool parent.slot parent.part now) (one_more_in parent.number parent.scope)) (sym at.1) (ends_at_known_end s none at.0)
+        → Reached pool m depth levels base p0 parents (put_child pool parent.slot parent.part now) (one_more_in parent.number parent.scope) w
+    by_group false none at = subst (Reached pool m depth levels base p0 parents (put_child pool parent.slot parent.part now) (one_more_in parent.number parent.scope)) (sym at.1) (ends_at_known_end s none at.0)
     by_group true some at = ends_at_tag s (is_group s some) some at

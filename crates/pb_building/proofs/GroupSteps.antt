@@ -29,7 +29,7 @@ use Rattle.pb_building.specs.declared.open.target.Target.TheVariants as target
 use Rattle.pb_building.specs.Open.Opened as opened
 use Rattle.pb_building.specs.Values.Put.{put_record}
 use Rattle.pb_building.specs.Open.Targets.{OfShape, AtField, IsNoMessage, Means, part_context}
-use Rattle.pb_building.specs.Open.Parents.{Part, message_part, entry_part, group_part, put_group, CanHold, IsWorth, Parent, Completes, inside, Scope, next_step, path_of, EndsAt, Stands, Takes}
+use Rattle.pb_building.specs.Open.Parents.{Part, message_part, entry_part, group_part, put_group, CanHold, IsWorth, Parent, Completes, inside, Scope, next_step, path_of, EndsAt, Reached, Takes}
 use Rattle.pb_building.proofs.StepCounts.{counts_of_none}
 use Rattle.pb_building.proofs.OpenedLemmas.{so_far_nothing}
 use Rattle.pb_building.proofs.ParentLemmas.{ends_along, part_of_context}
@@ -178,8 +178,8 @@ unknown_group_means pool now n meant can means never = subst (Means pool (part_c
 -- A GROUP IS OPENED
 pub group_opened :
     {pool : Types} {m depth levels : ℕ} {base : List Record} {p0 : Place} {parents : List Parent} {scope : Scope} {now : Part} {q u : Place} (k : ℕ) (inner : Scope) (content : List Record) → IsPool pool → CanHold pool now → Means pool (part_context now) k 3 target.Unknown
-    → Stands pool m depth levels base p0 parents now scope q → 0 < scope.depth_left → HasTag q k 3 u → content ≡ [] → inner.depth_left ≡ scope.depth_left - 1 → inner.end ≡ scope.end → ((i : ℕ) → inner.counts i ≡ 0)
-    → Stands pool m depth levels base p0 (record { part = now; number = k; slot = slot.Unknown k; group = true; scope = scope } ∷ parents) (group_part content) inner u
+    → Reached pool m depth levels base p0 parents now scope q → 0 < scope.depth_left → HasTag q k 3 u → content ≡ [] → inner.depth_left ≡ scope.depth_left - 1 → inner.end ≡ scope.end → ((i : ℕ) → inner.counts i ≡ 0)
+    → Reached pool m depth levels base p0 (record { part = now; number = k; slot = slot.Unknown k; group = true; scope = scope } ∷ parents) (group_part content) inner u
 group_opened {pool} {m} {depth} {levels} {base} {p0} {parents} {scope} {now} {q} {u} k inner content ok can means s some tag nothing is_depth is_end none = record {
   open_now = in_group k unknown_group;
   inner = s.inner;
@@ -214,6 +214,6 @@ group_opened {pool} {m} {depth} {levels} {base} {p0} {parents} {scope} {now} {q}
 
 -- NO LEVEL IS LEFT for a group
 pub group_too_deep :
-    {pool : Types} {m depth levels : ℕ} {base : List Record} {p0 : Place} {parents : List Parent} {scope : Scope} {now : Part} {q u : Place} (k : ℕ) → Stands pool m depth levels base p0 parents now scope q → HasTag q k 3 u → scope.depth_left ≡ 0
+    {pool : Types} {m depth levels : ℕ} {base : List Record} {p0 : Place} {parents : List Parent} {scope : Scope} {now : Part} {q u : Place} (k : ℕ) → Reached pool m depth levels base p0 parents now scope q → HasTag q k 3 u → scope.depth_left ≡ 0
     → Bad (schema_of pool) (records (in_message m)) depth p0 (fault q.at (path_of parents ++ next_step k scope ∷ []) TooDeep)
 group_too_deep {q = q} k s tag full = reported_inside k 3 (fault q.at [] TooDeep) s tag (RecordFault.group_too_deep tag full refl)

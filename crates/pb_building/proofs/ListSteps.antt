@@ -34,7 +34,7 @@ use Rattle.pb_building.specs.Tokens.Numbers.{Follows}
 use Rattle.pb_building.specs.Values.Put.{put_datum, put_record}
 use Rattle.pb_building.specs.Open.Opened.{below}
 use Rattle.pb_building.specs.Open.Targets.{OfShape, AtField, Means, part_context}
-use Rattle.pb_building.specs.Open.Parents.{Part, message_part, entry_part, group_part, CanHold, up_to, next_step, Parent, path_of, Stands, Scope, one_more_in}
+use Rattle.pb_building.specs.Open.Parents.{Part, message_part, entry_part, group_part, CanHold, up_to, next_step, Parent, path_of, Reached, Scope, one_more_in}
 use Rattle.pb_building.specs.Tokens.After.{tag, awaited, Elements, with_elements, Underway, nothing, a_tag, a_length, some_elements, After}
 use Rattle.pb_building.proofs.PackedLemmas.{elements_more, element_reported, list_ends}
 use Rattle.pb_building.proofs.PackedNumbers.{element_type, number_of, type_of_element}
@@ -107,7 +107,7 @@ list_begins {pool} {now = now} {t = t} k kd n a is l =
     record {
       before = now;
       place = after.place;
-      stands = after.stands;
+      reached = after.reached;
       begun =
           some_elements refl after.has l after.means (record { whole = no_elements; moves = moves_nothing (payload_at t n) }) at.2
           (at.2 ∙ ap (message_part at.0) (sym (with_no_elements pool k kd at.1 list.1)));
@@ -123,7 +123,7 @@ pub record AtList (pool : Types) (m depth levels : ℕ) (base : List Record) (p0
   pub payload : Place
   pub size : ℕ
   pub front : List ℕ
-  pub stands : Stands pool m depth levels base p0 parents (message_part message_type before) (record scope { end = outer }) place
+  pub reached : Reached pool m depth levels base p0 parents (message_part message_type before) (record scope { end = outer }) place
   pub has : HasTag place k 2 length_at
   pub length_is : HasLength length_at size payload
   pub means : Means pool (in_message message_type) k 2 (target.Packed kd)
@@ -133,9 +133,9 @@ pub record AtList (pool : Types) (m depth levels : ℕ) (base : List Record) (p0
 pub at_list :
     {pool : Types} {m depth levels : ℕ} {base : List Record} {p0 : Place} {parents : List Parent} {scope : Scope} {now : Part} {u : Place} (k : ℕ) (kd : Kind) (outer : Option ℕ)
     → After pool m depth levels base p0 parents (step.Elements k kd outer) now scope u → AtList pool m depth levels base p0 parents now scope k kd outer u
-at_list {pool} {m} {depth} {levels} {base} {p0} {parents} {scope} {now} {u} k kd outer a = from_underway a.before a.place a.stands a.begun
+at_list {pool} {m} {depth} {levels} {base} {p0} {parents} {scope} {now} {u} k kd outer a = from_underway a.before a.place a.reached a.begun
   where
-    from_underway : (v : Part) (q : Place) → Stands pool m depth levels base p0 parents v (record scope { end = outer }) q → Underway pool scope.depth_left v q (step.Elements k kd outer) now u → AtList pool m depth levels base p0 parents now scope k kd outer u
+    from_underway : (v : Part) (q : Place) → Reached pool m depth levels base p0 parents v (record scope { end = outer }) q → Underway pool scope.depth_left v q (step.Elements k kd outer) now u → AtList pool m depth levels base p0 parents now scope k kd outer u
     from_underway v q s (nothing at same place) = absurd (cc)
     from_underway v q s (a_tag t at has means has_level same) = absurd (cc)
     from_underway v q s (a_length at has l means has_level bytes same) = absurd (cc)
@@ -150,7 +150,7 @@ at_list {pool} {m} {depth} {levels} {base} {p0} {parents} {scope} {now} {u} k kd
           payload = t;
           size = n;
           front = front;
-          stands = subst (λ (z : Part). Stands pool m depth levels base p0 parents z (record scope { end = outer }) q) was s;
+          reached = subst (λ (z : Part). Reached pool m depth levels base p0 parents z (record scope { end = outer }) q) was s;
           has = subst (λ (z : ℕ). HasTag q z 2 r) own has;
           length_is = l;
           means =
@@ -172,7 +172,7 @@ list_goes_on {pool} {m} {depth} {levels} {base} {p0} {parents} {scope} {now} {u}
     record {
       before = message_part list.message_type list.before;
       place = list.place;
-      stands = list.stands;
+      reached = list.reached;
       begun =
           some_elements refl list.has list.length_is list.means (elements_more list.front first list.elements_are one.0 moves) refl
           (ap (λ (z : Part). put_datum pool k (target.Element kd) z (scalar x)) list.now_is
@@ -193,7 +193,7 @@ list_passes {pool} {m} {depth} {levels} {base} {p0} {parents} {scope} {now} {u} 
     record {
       before = message_part list.message_type list.before;
       place = list.place;
-      stands = list.stands;
+      reached = list.reached;
       begun =
           some_elements refl list.has list.length_is list.means (elements_more list.front first list.elements_are one.0 moves) refl
           (ap (put_record k (number_view a)) list.now_is
@@ -212,19 +212,19 @@ list_reading pool c t k kd is means =
 pub list_over :
     {pool : Types} {m depth levels : ℕ} {base : List Record} {p0 : Place} {parents : List Parent} {scope : Scope} {now : Part} {u : Place} (k : ℕ) (kd : Kind) (outer : Option ℕ) → IsPool pool → CanHold pool now
     → After pool m depth levels base p0 parents (step.Elements k kd outer) now scope u → u.known ≡ Some 0
-    → Stands pool m depth levels base p0 parents now (one_more_in k (record scope { end = outer })) (up_to outer u)
+    → Reached pool m depth levels base p0 parents now (one_more_in k (record scope { end = outer })) (up_to outer u)
 list_over {pool} {m} {depth} {levels} {base} {p0} {parents} {scope} {now} {u} k kd outer ok can begun over =
     let list = at_list k kd outer begun in
     let (f, found, e, is_kind, (p, is_shape), none, packable) = packed_field (field_numbered k (message_fields pool list.message_type)) k 2 kd list.means in
     let within : CanHold pool (message_part list.message_type (with_elements pool k kd list.front list.before)) = subst (CanHold pool) list.now_is can in
     let own : f.number ≡ k = found_number k (message_fields pool list.message_type) f found in
     let there : field_numbered f.number (message_fields pool list.message_type) ≡ Some f = ap (λ (z : ℕ). field_numbered z (message_fields pool list.message_type)) own ∙ found in
-    let ended = list_ends list.message_type list.before list.stands (pool_differ pool list.message_type ok within.0) f there p is_shape (ap message_of_kind is_kind ∙ none) (fits_is f f.number (len list.front) refl e)
+    let ended = list_ends list.message_type list.before list.reached (pool_differ pool list.message_type ok within.0) f there p is_shape (ap message_of_kind is_kind ∙ none) (fits_is f f.number (len list.front) refl e)
     (subst (λ (z : ℕ). HasTag list.place z 2 list.length_at) (sym own) list.has)
-    (ap ((schema_of pool).reading (context_of list.stands.open_now)) own ∙ list_reading pool (context_of list.stands.open_now) list.message_type k kd list.stands.form list.means) list.length_is list.elements_are over in
-    subst (λ (z : Part). Stands pool m depth levels base p0 parents z (one_more_in k (record scope { end = outer })) (up_to outer u)) (sym list.now_is)
-    (subst (λ (z : Kind). Stands pool m depth levels base p0 parents (message_part list.message_type (with_elements pool k z list.front list.before)) (one_more_in k (record scope { end = outer })) (up_to outer u)) is_kind
-    (subst (λ (z : ℕ). Stands pool m depth levels base p0 parents (message_part list.message_type (with_elements pool z f.kind list.front list.before)) (one_more_in z (record scope { end = outer })) (up_to outer u)) own ended))
+    (ap ((schema_of pool).reading (context_of list.reached.open_now)) own ∙ list_reading pool (context_of list.reached.open_now) list.message_type k kd list.reached.form list.means) list.length_is list.elements_are over in
+    subst (λ (z : Part). Reached pool m depth levels base p0 parents z (one_more_in k (record scope { end = outer })) (up_to outer u)) (sym list.now_is)
+    (subst (λ (z : Kind). Reached pool m depth levels base p0 parents (message_part list.message_type (with_elements pool k z list.front list.before)) (one_more_in k (record scope { end = outer })) (up_to outer u)) is_kind
+    (subst (λ (z : ℕ). Reached pool m depth levels base p0 parents (message_part list.message_type (with_elements pool z f.kind list.front list.before)) (one_more_in z (record scope { end = outer })) (up_to outer u)) own ended))
 
 -- THE FAULT OF AN ELEMENT is the fault of the whole
 pub list_reported :
@@ -233,7 +233,7 @@ pub list_reported :
     → Bad (schema_of pool) (records (in_message m)) depth p0 (below (path_of parents) (inside (next_step k scope) g))
 list_reported {pool} {m} {depth} {p0 = p0} k kd outer g begun open_end bad =
     let list = at_list k kd outer begun in
-    element_reported g list.stands list.has (list_reading pool (context_of list.stands.open_now) list.message_type k kd list.stands.form list.means) list.length_is list.elements_are open_end bad
+    element_reported g list.reached list.has (list_reading pool (context_of list.reached.open_now) list.message_type k kd list.reached.form list.means) list.length_is list.elements_are open_end bad
 
 -- where the part holds the element too, the reader is after it
 pub element_put :

@@ -37,11 +37,11 @@ use Rattle.pb_building.specs.Tokens.Number.{number_view}
 use Rattle.pb_building.specs.Tokens.Numbers.{Follows}
 use Rattle.pb_building.specs.Values.Put.{scalar_kind, key_in, put_datum}
 use Rattle.pb_building.specs.Open.Targets.{OfShape, AtField, Means, part_context}
-use Rattle.pb_building.specs.Open.Parents.{Part, message_part, entry_part, group_part, CanHold, Parent, Stands, Scope, one_more_in}
+use Rattle.pb_building.specs.Open.Parents.{Part, message_part, entry_part, group_part, CanHold, Parent, Reached, Scope, one_more_in}
 use Rattle.pb_building.specs.Tokens.After.{tag, awaited, After}
 use Rattle.pb_building.proofs.OpenedLemmas.{RecordTo, record_to}
-use Rattle.pb_building.proofs.StepsOfParts.{scalar_stands, elements_stand}
-use Rattle.pb_building.proofs.EntrySteps.{key_stands, value_stands}
+use Rattle.pb_building.proofs.StepsOfParts.{scalar_reached, elements_reached}
+use Rattle.pb_building.proofs.EntrySteps.{key_reached, value_reached}
 use Rattle.pb_building.proofs.AfterLemmas.{at_tag}
 
 -- THE RECORD
@@ -228,31 +228,31 @@ no_entry_value (Some f) n w kd h = no_shape f.kind f.shape n w (target.EntryValu
 
 -- THE PART WITH IT: a record of any payload that gives one value
 module _ {pool : Types} {m depth levels : ℕ} {base : List Record} {p0 : Place} {parents : List Parent} {scope : Scope} (ok : IsPool pool) (k : ℕ) (p : Payload) (x : Scalar) {q w : Place} where
-  one_stands : (t : ℕ) (v : Message) (kd : Kind) (s : Shape) → t < length pool.messages → (st : Stands pool m depth levels base p0 parents (message_part t v) scope q)
+  one_reached : (t : ℕ) (v : Message) (kd : Kind) (s : Shape) → t < length pool.messages → (st : Reached pool m depth levels base p0 parents (message_part t v) scope q)
       → RecordTo (schema_of pool) (context_of st.open_now) scope.depth_left q (record { number = k; payload = p }) w → Means pool (part_context (message_part t v)) k (wire_type p) (target.One kd s)
-      → elements kd p ≡ x ∷ [] → wire_type p ≡ wire_type_of kd → is_undeclared pool (closed_enum kd) p ≡ false → Stands pool m depth levels base p0 parents (put_datum pool k (target.One kd s) (message_part t v) (scalar x)) (one_more_in k scope) w
-  one_stands t v kd s within st to means is type declared = at_field (single_field (field_numbered k (message_fields pool t)) k (wire_type p) kd s means)
+      → elements kd p ≡ x ∷ [] → wire_type p ≡ wire_type_of kd → is_undeclared pool (closed_enum kd) p ≡ false → Reached pool m depth levels base p0 parents (put_datum pool k (target.One kd s) (message_part t v) (scalar x)) (one_more_in k scope) w
+  one_reached t v kd s within st to means is type declared = at_field (single_field (field_numbered k (message_fields pool t)) k (wire_type p) kd s means)
     where
       at_field : (f : FieldView) × (field_numbered k (message_fields pool t) ≡ Some f) × (fits_type f (wire_type p) ≡ true) × (f.kind ≡ kd) × (f.shape ≡ s) × IsSingle s × (message_of_kind kd ≡ None)
-          → Stands pool m depth levels base p0 parents (message_part t (with_fields v (stored_at (message_fields pool t) s k (one (scalar x)) (fields_of v)))) (one_more_in k scope) w
+          → Reached pool m depth levels base p0 parents (message_part t (with_fields v (stored_at (message_fields pool t) s k (one (scalar x)) (fields_of v)))) (one_more_in k scope) w
       at_field (f, found, e, is_kind, is_shape, single, none) =
           let own : f.number ≡ k = found_number k (message_fields pool t) f found in
           let there : field_numbered f.number (message_fields pool t) ≡ Some f = ap (λ (z : ℕ). field_numbered z (message_fields pool t)) own ∙ found in
           let counting = subst (λ (z : ℕ). IsKnown pool (message_fields pool t) (record { number = z; payload = p })) own
           (declared_known pool (message_fields pool t) f p there (ap (λ (z : Kind). wire_type p == wire_type_of z) is_kind ∙ ap (λ (z : ℕ). z == wire_type_of kd) type ∙ self_equal (wire_type_of kd))
           (ap (λ (z : Kind). is_undeclared pool (closed_enum z) p) is_kind ∙ declared) (fits_is f f.number p refl e)) in
-          let stood = scalar_stands t v st (pool_differ pool t ok within) (record { number = k; payload = p }) to f there (fits_is f k p own e) counting x
+          let stood = scalar_reached t v st (pool_differ pool t ok within) (record { number = k; payload = p }) to f there (fits_is f k p own e) counting x
           (subst IsSingle (sym is_shape) single) (ap message_of_kind is_kind ∙ none) (ap (λ (z : Kind). elements z p) is_kind ∙ is) in
-          subst (λ (z : ℕ). Stands pool m depth levels base p0 parents (message_part t (with_fields v (stored_at (message_fields pool t) s z (one (scalar x)) (fields_of v)))) (one_more_in k scope) w) own
-          (subst (λ (z : Shape). Stands pool m depth levels base p0 parents (message_part t (with_fields v (stored_at (message_fields pool t) z f.number (one (scalar x)) (fields_of v)))) (one_more_in k scope) w) is_shape stood)
+          subst (λ (z : ℕ). Reached pool m depth levels base p0 parents (message_part t (with_fields v (stored_at (message_fields pool t) s z (one (scalar x)) (fields_of v)))) (one_more_in k scope) w) own
+          (subst (λ (z : Shape). Reached pool m depth levels base p0 parents (message_part t (with_fields v (stored_at (message_fields pool t) z f.number (one (scalar x)) (fields_of v)))) (one_more_in k scope) w) is_shape stood)
 
-  element_stands : (t : ℕ) (v : Message) (kd : Kind) → t < length pool.messages → (st : Stands pool m depth levels base p0 parents (message_part t v) scope q)
+  element_reached : (t : ℕ) (v : Message) (kd : Kind) → t < length pool.messages → (st : Reached pool m depth levels base p0 parents (message_part t v) scope q)
       → RecordTo (schema_of pool) (context_of st.open_now) scope.depth_left q (record { number = k; payload = p }) w → Means pool (part_context (message_part t v)) k (wire_type p) (target.Element kd)
-      → elements kd p ≡ x ∷ [] → wire_type p ≡ wire_type_of kd → is_undeclared pool (closed_enum kd) p ≡ false → Stands pool m depth levels base p0 parents (put_datum pool k (target.Element kd) (message_part t v) (scalar x)) (one_more_in k scope) w
-  element_stands t v kd within st to means is type declared = at_field (listed_field (field_numbered k (message_fields pool t)) k (wire_type p) kd means)
+      → elements kd p ≡ x ∷ [] → wire_type p ≡ wire_type_of kd → is_undeclared pool (closed_enum kd) p ≡ false → Reached pool m depth levels base p0 parents (put_datum pool k (target.Element kd) (message_part t v) (scalar x)) (one_more_in k scope) w
+  element_reached t v kd within st to means is type declared = at_field (listed_field (field_numbered k (message_fields pool t)) k (wire_type p) kd means)
     where
       at_field : (f : FieldView) × (field_numbered k (message_fields pool t) ≡ Some f) × (fits_type f (wire_type p) ≡ true) × (f.kind ≡ kd) × ((b : Bool) × (f.shape ≡ shape.List b)) × (message_of_kind kd ≡ None)
-          → Stands pool m depth levels base p0 parents (message_part t (with_fields v (push_at k (scalar x) (fields_of v)))) (one_more_in k scope) w
+          → Reached pool m depth levels base p0 parents (message_part t (with_fields v (push_at k (scalar x) (fields_of v)))) (one_more_in k scope) w
       at_field (f, found, e, is_kind, (b, is_shape), none) =
           let own : f.number ≡ k = found_number k (message_fields pool t) f found in
           let there : field_numbered f.number (message_fields pool t) ≡ Some f = ap (λ (z : ℕ). field_numbered z (message_fields pool t)) own ∙ found in
@@ -260,52 +260,52 @@ module _ {pool : Types} {m depth levels : ℕ} {base : List Record} {p0 : Place}
           (declared_known pool (message_fields pool t) f p there (ap (λ (z : Kind). wire_type p == wire_type_of z) is_kind ∙ ap (λ (z : ℕ). z == wire_type_of kd) type ∙ self_equal (wire_type_of kd))
           (ap (λ (z : Kind). is_undeclared pool (closed_enum z) p) is_kind ∙ declared) (fits_is f f.number p refl e)) in
           let given : elements f.kind p ≡ x ∷ [] = ap (λ (z : Kind). elements z p) is_kind ∙ is in
-          let stood = elements_stand t v st (pool_differ pool t ok within) (record { number = k; payload = p }) to f there (fits_is f k p own e) counting b is_shape
+          let stood = elements_reached t v st (pool_differ pool t ok within) (record { number = k; payload = p }) to f there (fits_is f k p own e) counting b is_shape
           (ap message_of_kind is_kind ∙ none) in
-          subst (λ (z : ℕ). Stands pool m depth levels base p0 parents (message_part t (with_fields v (push_at z (scalar x) (fields_of v)))) (one_more_in k scope) w) own
-          (subst (λ (z : List Scalar). Stands pool m depth levels base p0 parents (message_part t (with_fields v (push_each f.number (map scalar z) (fields_of v)))) (one_more_in k scope) w) given stood)
+          subst (λ (z : ℕ). Reached pool m depth levels base p0 parents (message_part t (with_fields v (push_at z (scalar x) (fields_of v)))) (one_more_in k scope) w) own
+          (subst (λ (z : List Scalar). Reached pool m depth levels base p0 parents (message_part t (with_fields v (push_each f.number (map scalar z) (fields_of v)))) (one_more_in k scope) w) given stood)
 
-  key_part_stands : (key kd : Kind) (y : Option Scalar) (d : Option Datum) (k2 : Kind) → (st : Stands pool m depth levels base p0 parents (entry_part key kd y d) scope q)
+  key_part_reached : (key kd : Kind) (y : Option Scalar) (d : Option Datum) (k2 : Kind) → (st : Reached pool m depth levels base p0 parents (entry_part key kd y d) scope q)
       → RecordTo (schema_of pool) (context_of st.open_now) scope.depth_left q (record { number = k; payload = p }) w → Means pool (part_context (entry_part key kd y d)) k (wire_type p) (target.Key k2)
-      → elements k2 p ≡ x ∷ [] → key_in (scalar x) ≡ Some x → Stands pool m depth levels base p0 parents (put_datum pool k (target.Key k2) (entry_part key kd y d) (scalar x)) (one_more_in k scope) w
-  key_part_stands key kd y d k2 st to (is_key, first, type) is keyed =
-      let stood = key_stands key kd y d st (record { number = k; payload = p }) to x (fits_is (key_field key) k p (sym first) (ap (λ (z : ℕ). z == wire_type_of key) type ∙ self_equal (wire_type_of key)))
+      → elements k2 p ≡ x ∷ [] → key_in (scalar x) ≡ Some x → Reached pool m depth levels base p0 parents (put_datum pool k (target.Key k2) (entry_part key kd y d) (scalar x)) (one_more_in k scope) w
+  key_part_reached key kd y d k2 st to (is_key, first, type) is keyed =
+      let stood = key_reached key kd y d st (record { number = k; payload = p }) to x (fits_is (key_field key) k p (sym first) (ap (λ (z : ℕ). z == wire_type_of key) type ∙ self_equal (wire_type_of key)))
       (ap (λ (z : ℕ). (z == 2) && fits_type (value_field kd) (wire_type p)) first) (ap (λ (z : Kind). elements z p) (sym is_key) ∙ is) in
-      subst (λ (z : Option Scalar). Stands pool m depth levels base p0 parents (entry_part key kd z d) (one_more_in k scope) w) (sym keyed) stood
+      subst (λ (z : Option Scalar). Reached pool m depth levels base p0 parents (entry_part key kd z d) (one_more_in k scope) w) (sym keyed) stood
 
-  value_part_stands : (key kd : Kind) (y : Option Scalar) (d : Option Datum) (k2 : Kind) → (st : Stands pool m depth levels base p0 parents (entry_part key kd y d) scope q)
+  value_part_reached : (key kd : Kind) (y : Option Scalar) (d : Option Datum) (k2 : Kind) → (st : Reached pool m depth levels base p0 parents (entry_part key kd y d) scope q)
       → RecordTo (schema_of pool) (context_of st.open_now) scope.depth_left q (record { number = k; payload = p }) w → Means pool (part_context (entry_part key kd y d)) k (wire_type p) (target.EntryValue k2)
-      → elements k2 p ≡ x ∷ [] → Stands pool m depth levels base p0 parents (put_datum pool k (target.EntryValue k2) (entry_part key kd y d) (scalar x)) (one_more_in k scope) w
-  value_part_stands key kd y d k2 st to (is_value, second, type, none) is =
-      value_stands key kd y d st (record { number = k; payload = p }) to x (ap (λ (z : ℕ). (z == 1) && fits_type (key_field key) (wire_type p)) second)
+      → elements k2 p ≡ x ∷ [] → Reached pool m depth levels base p0 parents (put_datum pool k (target.EntryValue k2) (entry_part key kd y d) (scalar x)) (one_more_in k scope) w
+  value_part_reached key kd y d k2 st to (is_value, second, type, none) is =
+      value_reached key kd y d st (record { number = k; payload = p }) to x (ap (λ (z : ℕ). (z == 1) && fits_type (key_field key) (wire_type p)) second)
       (fits_is (value_field kd) k p (sym second) (ap (λ (z : ℕ). z == wire_type_of kd) type ∙ self_equal (wire_type_of kd))) none (ap (λ (z : Kind). elements z p) (sym is_value) ∙ is)
 
   -- A VALUE IN A PART: the reader is after its record, and the part holds it
-  pub scalar_record_stands : (now : Part) (meant : Target) (kd : Kind) → CanHold pool now → (st : Stands pool m depth levels base p0 parents now scope q)
+  pub scalar_record_reached : (now : Part) (meant : Target) (kd : Kind) → CanHold pool now → (st : Reached pool m depth levels base p0 parents now scope q)
       → RecordTo (schema_of pool) (context_of st.open_now) scope.depth_left q (record { number = k; payload = p }) w → Means pool (part_context now) k (wire_type p) meant → scalar_kind meant ≡ Some kd
-      → elements kd p ≡ x ∷ [] → (IsTrue (is_key_kind kd) → key_in (scalar x) ≡ Some x) → wire_type p ≡ wire_type_of kd → is_undeclared pool (closed_enum kd) p ≡ false → Stands pool m depth levels base p0 parents (put_datum pool k meant now (scalar x)) (one_more_in k scope) w
-  scalar_record_stands (message_part t v) (target.One k2 s) kd can st to means of is keyed type declared =
+      → elements kd p ≡ x ∷ [] → (IsTrue (is_key_kind kd) → key_in (scalar x) ≡ Some x) → wire_type p ≡ wire_type_of kd → is_undeclared pool (closed_enum kd) p ≡ false → Reached pool m depth levels base p0 parents (put_datum pool k meant now (scalar x)) (one_more_in k scope) w
+  scalar_record_reached (message_part t v) (target.One k2 s) kd can st to means of is keyed type declared =
       let same : k2 ≡ kd = cc in
-      one_stands t v k2 s can.0 st to means (ap (λ (z : Kind). elements z p) same ∙ is) (type ∙ ap wire_type_of (sym same)) (ap (λ (z : Kind). is_undeclared pool (closed_enum z) p) same ∙ declared)
-  scalar_record_stands (message_part t v) (target.Element k2) kd can st to means of is keyed type declared =
+      one_reached t v k2 s can.0 st to means (ap (λ (z : Kind). elements z p) same ∙ is) (type ∙ ap wire_type_of (sym same)) (ap (λ (z : Kind). is_undeclared pool (closed_enum z) p) same ∙ declared)
+  scalar_record_reached (message_part t v) (target.Element k2) kd can st to means of is keyed type declared =
       let same : k2 ≡ kd = cc in
-      element_stands t v k2 can.0 st to means (ap (λ (z : Kind). elements z p) same ∙ is) (type ∙ ap wire_type_of (sym same)) (ap (λ (z : Kind). is_undeclared pool (closed_enum z) p) same ∙ declared)
-  scalar_record_stands (message_part t v) (target.Key k2) kd can st to means of is keyed type declared = absurd (no_key (field_numbered k (message_fields pool t)) k (wire_type p) k2 means)
-  scalar_record_stands (message_part t v) (target.EntryValue k2) kd can st to means of is keyed type declared = absurd (no_entry_value (field_numbered k (message_fields pool t)) k (wire_type p) k2 means)
-  scalar_record_stands (entry_part key k3 y d) (target.Key k2) kd can st to means of is keyed type declared =
+      element_reached t v k2 can.0 st to means (ap (λ (z : Kind). elements z p) same ∙ is) (type ∙ ap wire_type_of (sym same)) (ap (λ (z : Kind). is_undeclared pool (closed_enum z) p) same ∙ declared)
+  scalar_record_reached (message_part t v) (target.Key k2) kd can st to means of is keyed type declared = absurd (no_key (field_numbered k (message_fields pool t)) k (wire_type p) k2 means)
+  scalar_record_reached (message_part t v) (target.EntryValue k2) kd can st to means of is keyed type declared = absurd (no_entry_value (field_numbered k (message_fields pool t)) k (wire_type p) k2 means)
+  scalar_record_reached (entry_part key k3 y d) (target.Key k2) kd can st to means of is keyed type declared =
       let same : k2 ≡ kd = cc in
-      key_part_stands key k3 y d k2 st to means (ap (λ (z : Kind). elements z p) same ∙ is) (keyed (subst (λ (z : Kind). IsTrue (is_key_kind z)) (sym means.0 ∙ same) can))
-  scalar_record_stands (entry_part key k3 y d) (target.EntryValue k2) kd can st to means of is keyed type declared = value_part_stands key k3 y d k2 st to means (let same : k2 ≡ kd = cc in ap (λ (z : Kind). elements z p) same ∙ is)
-  scalar_record_stands (entry_part key k3 y d) (target.One k2 s) kd can st to means of is keyed type declared = absurd means
-  scalar_record_stands (entry_part key k3 y d) (target.Element k2) kd can st to means of is keyed type declared = absurd means
-  scalar_record_stands (group_part us) (target.One k2 s) kd can st to means of is keyed type declared = absurd (cc)
-  scalar_record_stands (group_part us) (target.Element k2) kd can st to means of is keyed type declared = absurd (cc)
-  scalar_record_stands (group_part us) (target.Key k2) kd can st to means of is keyed type declared = absurd (cc)
-  scalar_record_stands (group_part us) (target.EntryValue k2) kd can st to means of is keyed type declared = absurd (cc)
-  scalar_record_stands now (target.Packed k2) kd can st to means of is keyed type declared = absurd (cc)
-  scalar_record_stands now (target.Message j s) kd can st to means of is keyed type declared = absurd (cc)
-  scalar_record_stands now (target.Entry k2 k3) kd can st to means of is keyed type declared = absurd (cc)
-  scalar_record_stands now target.Unknown kd can st to means of is keyed type declared = absurd (cc)
+      key_part_reached key k3 y d k2 st to means (ap (λ (z : Kind). elements z p) same ∙ is) (keyed (subst (λ (z : Kind). IsTrue (is_key_kind z)) (sym means.0 ∙ same) can))
+  scalar_record_reached (entry_part key k3 y d) (target.EntryValue k2) kd can st to means of is keyed type declared = value_part_reached key k3 y d k2 st to means (let same : k2 ≡ kd = cc in ap (λ (z : Kind). elements z p) same ∙ is)
+  scalar_record_reached (entry_part key k3 y d) (target.One k2 s) kd can st to means of is keyed type declared = absurd means
+  scalar_record_reached (entry_part key k3 y d) (target.Element k2) kd can st to means of is keyed type declared = absurd means
+  scalar_record_reached (group_part us) (target.One k2 s) kd can st to means of is keyed type declared = absurd (cc)
+  scalar_record_reached (group_part us) (target.Element k2) kd can st to means of is keyed type declared = absurd (cc)
+  scalar_record_reached (group_part us) (target.Key k2) kd can st to means of is keyed type declared = absurd (cc)
+  scalar_record_reached (group_part us) (target.EntryValue k2) kd can st to means of is keyed type declared = absurd (cc)
+  scalar_record_reached now (target.Packed k2) kd can st to means of is keyed type declared = absurd (cc)
+  scalar_record_reached now (target.Message j s) kd can st to means of is keyed type declared = absurd (cc)
+  scalar_record_reached now (target.Entry k2 k3) kd can st to means of is keyed type declared = absurd (cc)
+  scalar_record_reached now target.Unknown kd can st to means of is keyed type declared = absurd (cc)
 
 -- THE VALUE IS THERE: a number of the wire type that its record's target wants has one
 pub number_is : (a b : ℕ) → (a == b) ≡ true → a ≡ b
@@ -359,9 +359,9 @@ module _ {pool : Types} {m depth levels : ℕ} {base : List Record} {p0 u : Plac
 
   -- THE STEP: where the part holds what the number means, the reader is after it
   pub number_put : {w : Place} (x : Scalar) (put : Part) → IsPool pool → CanHold pool now → read kd (number_view a) ≡ Some x → is_undeclared pool (closed_enum kd) (number_view a) ≡ false → Follows u (number_view a) w → put ≡ put_datum pool k meant now (scalar x)
-      → Stands pool m depth levels base p0 parents put (one_more_in k scope) w
+      → Reached pool m depth levels base p0 parents put (one_more_in k scope) w
   number_put {w} x put ok can value declared follows made =
       let after = at_tag (tag k (wire_type (number_view a)) meant) begun is in
-      subst (λ (z : Part). Stands pool m depth levels base p0 parents z (one_more_in k scope) w) (sym made)
-      (scalar_record_stands ok k (number_view a) x now meant kd can after.stands (number_record (context_of after.stands.open_now) scope.depth_left k a after.has follows) after.means of (number_elements kd a x value)
+      subst (λ (z : Part). Reached pool m depth levels base p0 parents z (one_more_in k scope) w) (sym made)
+      (scalar_record_reached ok k (number_view a) x now meant kd can after.reached (number_record (context_of after.reached.open_now) scope.depth_left k a after.has follows) after.means of (number_elements kd a x value)
       (λ keyed. key_read kd a x keyed value) (meant_type pool now k (wire_type (number_view a)) meant kd after.means of) declared)

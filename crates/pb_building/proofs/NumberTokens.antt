@@ -1,5 +1,5 @@
 -- What pb_wire says of a number.
-use Rattle.std.proofs.Common.{ℕ, ◌<◌, ◌^◌, ◌-◌, ◌++◌, refl, sym, ◌∙◌, arith, ◌≡◌, ◌≤◌, List, length, take, drop, ap, subst, append_assoc, Option, Some, None, IfSome}
+use Rattle.std.proofs.Common.{ℕ, ◌<◌, ◌-◌, ◌++◌, sym, ◌∙◌, arith, ◌≡◌, ◌≤◌, List, length, take, drop, ap, append_assoc, Some, None}
 use Rattle.std.proofs.lemmas.List.{take-append-drop, drop-append-le, length-take}
 use Rattle.pb_wire.specs.Record.{Payload}
 use Rattle.pb_wire.specs.Fault.{Place, Reads as ReadsNumber}
@@ -17,13 +17,6 @@ pub told_number : (w : ℕ) (p : Place) (s : Scanned Number) → Tells w p s →
 told_number w p (scanned.Whole a size) h = (h.1.0, h.0, h.1.1)
 told_number w p scanned.Short h = h
 told_number w p (scanned.Fault c) h = h
-
--- WHAT IS REPORTED of the number at the start of some bytes
-pub front_there :
-    (at : ℕ) (left : Option ℕ) (rest : List ℕ) (o : Option (ℕ × ℕ)) (n size : ℕ) → o ≡ Some (n, size)
-    → IfSome o (λ t. (t.1 ≤ length rest) × ReadsNumber (given_at at left rest) t.0 (passed (given_at at left rest) t.1)) → (size ≤ length rest) × ReadsNumber (given_at at left rest) n (passed (given_at at left rest) size)
-front_there at left rest o n size is h =
-    subst (λ (z : Option (ℕ × ℕ)). IfSome z (λ t. (t.1 ≤ length rest) × ReadsNumber (given_at at left rest) t.0 (passed (given_at at left rest) t.1))) is h
 
 -- a number takes a byte at least
 pub number_size : {p : Place} {n size : ℕ} → ReadsNumber p n (passed p size) → 0 < size

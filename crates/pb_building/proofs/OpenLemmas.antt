@@ -32,7 +32,7 @@ use Rattle.pb_value.proofs.MessageSteps.{earlier, message_within, message_before
 use Rattle.pb_building.specs.declared.open.part.Slot.TheVariants as slot
 use Rattle.pb_building.specs.Open.Opened.{Begun}
 use Rattle.pb_building.specs.Open.Opened as opened
-use Rattle.pb_building.specs.Open.Parents.{message_part, entry_part, group_part, opening_type, open_type, Parent, EndsAt, Completes, Held, inside, Stands, Scope}
+use Rattle.pb_building.specs.Open.Parents.{message_part, entry_part, group_part, opening_type, open_type, Parent, EndsAt, Completes, Held, inside, Reached, Scope}
 use Rattle.pb_schema.specs.Kinds.{message_of_kind}
 use Rattle.pb_value.proofs.KnownLemmas.{IsKnown}
 use Rattle.pb_building.proofs.KindLemmas.{message_open, open_known}
@@ -142,10 +142,10 @@ group_opens pool {a = a} {k = k} inner context tag level ends none = record {
 
 -- THE MESSAGE OF A FIELD OF ONE VALUE IS OPENED: what the field held is taken out, and goes on
 pub opens_message :
-    {pool : Types} {m depth levels : ℕ} {base : List Record} {p0 : Place} {parents : List Parent} {scope : Scope} {q : Place} (k : ℕ) (v : Message) (s : Stands pool m depth levels base p0 parents (message_part k v) scope q)
+    {pool : Types} {m depth levels : ℕ} {base : List Record} {p0 : Place} {parents : List Parent} {scope : Scope} {q : Place} (k : ℕ) (v : Message) (s : Reached pool m depth levels base p0 parents (message_part k v) scope q)
     → IsPool pool → (f : FieldView) (j : MessageId) (group : Bool) → field_numbered f.number (message_fields pool k) ≡ Some f → message_of_kind f.kind ≡ Some j.0 → IsSingle f.shape → fits_type f (opening_type group) ≡ true
     → (inner : Scope) (u : Place) → Opens pool s.open_now scope.depth_left f.number q j.0 group inner u
-    → Stands pool m depth levels base p0 (record { part = message_part k (with_fields v (drop_field f.number (fields_of v))); number = f.number; slot = slot.One f.shape f.number; group = group; scope = scope } ∷ parents)
+    → Reached pool m depth levels base p0 (record { part = message_part k (with_fields v (drop_field f.number (fields_of v))); number = f.number; slot = slot.One f.shape f.number; group = group; scope = scope } ∷ parents)
     (message_part j.0 (held_message (get_field f.number (fields_of v)))) inner u
 opens_message {pool} {m} {depth} {levels} {base} {p0} {parents} {scope} {q} k v s ok f j group found is single fitted inner u opens = by_level s.inner s.deep s.held s.worth (message_good ok k v s)
   where
@@ -169,7 +169,7 @@ opens_message {pool} {m} {depth} {levels} {base} {p0} {parents} {scope} {q} k v 
 
     by_level : (inside_levels : ℕ) → scope.depth_left < inside_levels → Held pool m depth levels base p0 parents (message_part k v) s.open_now scope.depth_left inside_levels s.path s.begin s.earlier → v ≡ value_within pool inside_levels k (s.earlier ++ s.records_so_far)
         → IsBody pool k v × (message_depth v < inside_levels)
-        → Stands pool m depth levels base p0 (parent ∷ parents) (message_part j.0 (held_message (get_field f.number (fields_of v)))) inner u
+        → Reached pool m depth levels base p0 (parent ∷ parents) (message_part j.0 (held_message (get_field f.number (fields_of v)))) inner u
     by_level zero h held w good = absurd (omega (arith, h))
     by_level (suc i) h held w good = record {
       open_now = opens.what;

@@ -28,7 +28,7 @@ use Rattle.pb_value.proofs.MessageSteps.{message_listed, message_entry, value_of
 use Rattle.pb_building.specs.declared.open.part.Slot.TheVariants as slot
 use Rattle.pb_building.specs.Open.Opened.{Begun}
 use Rattle.pb_building.specs.Open.Opened as opened
-use Rattle.pb_building.specs.Open.Parents.{message_part, entry_part, group_part, opening_type, Parent, Completes, Held, inside, Stands, Scope}
+use Rattle.pb_building.specs.Open.Parents.{message_part, entry_part, group_part, opening_type, Parent, Completes, Held, inside, Reached, Scope}
 use Rattle.pb_building.proofs.KindLemmas.{message_open, map_open, open_known}
 use Rattle.pb_building.proofs.StepCounts.{counts_of_none}
 use Rattle.pb_building.proofs.WellLemmas.{type_in_pool, message_good, keys_good}
@@ -47,7 +47,7 @@ one_missing a b (kind.Message j) = refl
 one_missing a b (kind.Group j) = refl
 one_missing a b k = refl
 
-module _ {pool : Types} {m depth levels : ℕ} {base : List Record} {p0 : Place} {parents : List Parent} {scope : Scope} {q : Place} (k : ℕ) (v : Message) (s : Stands pool m depth levels base p0 parents (message_part k v) scope q) (ok : IsPool pool) where
+module _ {pool : Types} {m depth levels : ℕ} {base : List Record} {p0 : Place} {parents : List Parent} {scope : Scope} {q : Place} (k : ℕ) (v : Message) (s : Reached pool m depth levels base p0 parents (message_part k v) scope q) (ok : IsPool pool) where
   in_pool : k < length pool.messages
   in_pool = type_in_pool k v s
 
@@ -58,7 +58,7 @@ module _ {pool : Types} {m depth levels : ℕ} {base : List Record} {p0 : Place}
   pub opens_listed :
       (f : FieldView) (j : MessageId) (p : Bool) (group : Bool) → field_numbered f.number (message_fields pool k) ≡ Some f → message_of_kind f.kind ≡ Some j.0 → f.shape ≡ shape.List p → fits_type f (opening_type group) ≡ true
       → (inner : Scope) (u : Place) → Opens pool s.open_now scope.depth_left f.number q j.0 group inner u
-      → Stands pool m depth levels base p0 (record { part = message_part k v; number = f.number; slot = slot.List f.number; group = group; scope = scope } ∷ parents) (message_part j.0 empty) inner u
+      → Reached pool m depth levels base p0 (record { part = message_part k v; number = f.number; slot = slot.List f.number; group = group; scope = scope } ∷ parents) (message_part j.0 empty) inner u
   opens_listed f j p group found is at fitted inner u opens = by_level s.inner s.deep s.held s.worth
     where
       parent : Parent
@@ -68,7 +68,7 @@ module _ {pool : Types} {m depth levels : ℕ} {base : List Record} {p0 : Place}
       level = opens.level
 
       by_level : (inside_levels : ℕ) → scope.depth_left < inside_levels → Held pool m depth levels base p0 parents (message_part k v) s.open_now scope.depth_left inside_levels s.path s.begin s.earlier → v ≡ value_within pool inside_levels k (s.earlier ++ s.records_so_far)
-          → Stands pool m depth levels base p0 (parent ∷ parents) (message_part j.0 empty) inner u
+          → Reached pool m depth levels base p0 (parent ∷ parents) (message_part j.0 empty) inner u
       by_level zero h held w = absurd (omega (arith, h))
       by_level (suc i) h held w = record {
         open_now = opens.what;
@@ -109,7 +109,7 @@ module _ {pool : Types} {m depth levels : ℕ} {base : List Record} {p0 : Place}
       (r t : Place) (below n : ℕ) (counts : ℕ → ℕ) → scope.depth_left ≡ suc below → ((i : ℕ) → counts i ≡ 0)
       → (f : FieldView) (key : Kind) → field_numbered f.number (message_fields pool k) ≡ Some f → f.shape ≡ shape.Map key → fits_type f 2 ≡ true
       → (schema_of pool).reading (in_message k) f.number ≡ message_reading (an_entry key f.kind) → HasTag q f.number 2 r → HasLength r n t
-      → Stands pool m depth levels base p0 (record { part = message_part k v; number = f.number; slot = slot.Map f.number; group = false; scope = scope } ∷ parents) (entry_part key f.kind None None) (payload_scope below t n counts) (payload_at t n)
+      → Reached pool m depth levels base p0 (record { part = message_part k v; number = f.number; slot = slot.Map f.number; group = false; scope = scope } ∷ parents) (entry_part key f.kind None None) (payload_scope below t n counts) (payload_at t n)
   opens_entry r t below n counts depth_left none f key found at two reading tag l = by_level s.inner s.deep s.held s.worth (message_good ok k v s)
     where
       parent : Parent
@@ -119,7 +119,7 @@ module _ {pool : Types} {m depth levels : ℕ} {base : List Record} {p0 : Place}
       begun = opened.a_message depth_left tag (subst (λ (c : Context). (schema_of pool).reading c f.number ≡ message_reading (an_entry key f.kind)) (sym s.form) reading) l refl refl
 
       by_level : (inner : ℕ) → scope.depth_left < inner → Held pool m depth levels base p0 parents (message_part k v) s.open_now scope.depth_left inner s.path s.begin s.earlier → v ≡ value_within pool inner k (s.earlier ++ s.records_so_far)
-          → IsBody pool k v × (message_depth v < inner) → Stands pool m depth levels base p0 (parent ∷ parents) (entry_part key f.kind None None) (payload_scope below t n counts) (payload_at t n)
+          → IsBody pool k v × (message_depth v < inner) → Reached pool m depth levels base p0 (parent ∷ parents) (entry_part key f.kind None None) (payload_scope below t n counts) (payload_at t n)
       by_level zero h held w good = absurd (omega (arith, h))
       by_level (suc i) h held w good = record {
         open_now = records (an_entry key f.kind);

@@ -26,7 +26,7 @@ use Rattle.pb_building.specs.declared.open.part.Slot.{Slot}
 use Rattle.pb_building.specs.declared.open.part.Slot.TheVariants as slot
 use Rattle.pb_building.specs.declared.open.target.Target.TheVariants as target
 use Rattle.pb_building.specs.declared.tokens.step.Step.{Step}
-use Rattle.pb_building.specs.Open.Parents.{Part, message_part, entry_part, group_part, opening_type, CanHold, Parent, Scope, EndsAt, Stands}
+use Rattle.pb_building.specs.Open.Parents.{Part, message_part, entry_part, group_part, opening_type, CanHold, Parent, Scope, EndsAt, Reached}
 use Rattle.pb_building.specs.Open.Targets.{OfShape, AtField, Means, part_context}
 use Rattle.pb_building.specs.Tokens.After.{tag, awaited, HasLevelFor, After}
 use Rattle.pb_building.specs.Open.Openings.{message_given, message_held, taken_message, without_message, depth_left_in}
@@ -216,41 +216,41 @@ means_group pool c k j (slot.Unknown n) means = absurd (field_slot (field_number
 -- what holds once the message is open that goes into a slot
 abbrev IsOpen : Types → ℕ → ℕ → ℕ → List Record → Place → List Parent → Scope → ℕ → MessageId → Bool → Scope → Place → Part → Part → Slot → Type 0
 IsOpen pool m depth levels base p0 parents scope k j group inner u now left s =
-    Stands pool m depth levels base p0 (record { part = left; number = k; slot = s; group = group; scope = scope } ∷ parents) (message_part j.0 (taken_message s now)) inner u
+    Reached pool m depth levels base p0 (record { part = left; number = k; slot = s; group = group; scope = scope } ∷ parents) (message_part j.0 (taken_message s now)) inner u
 
 module _ {pool : Types} {m depth levels : ℕ} {base : List Record} {p0 : Place} {parents : List Parent} {scope : Scope} {q : Place} (ok : IsPool pool) (k : ℕ) (j : MessageId) (group : Bool) (inner : Scope) (u : Place) where
   into_field :
-      (c : ℕ) (v : Message) (s : Shape) (number : ℕ) (st : Stands pool m depth levels base p0 parents (message_part c v) scope q) → Opens pool st.open_now scope.depth_left k q j.0 group inner u
+      (c : ℕ) (v : Message) (s : Shape) (number : ℕ) (st : Reached pool m depth levels base p0 parents (message_part c v) scope q) → Opens pool st.open_now scope.depth_left k q j.0 group inner u
       → OneMessage pool c k (opening_type group) j s number → IsOpen pool m depth levels base p0 parents scope k j group inner u (message_part c v) (without_message (slot.One s number) (message_part c v)) (slot.One s number)
   into_field c v s number st opens at =
       let opened = opens_message c v st ok at.field j group at.found at.kind_is at.single at.fitted inner u (subst (λ (z : ℕ). Opens pool st.open_now scope.depth_left z q j.0 group inner u) (sym at.own) opens) in
       let named = subst (λ (z : ℕ).
-      Stands pool m depth levels base p0 (record { part = message_part c (with_fields v (drop_field z (fields_of v))); number = z; slot = slot.One at.field.shape z; group = group; scope = scope } ∷ parents)
+      Reached pool m depth levels base p0 (record { part = message_part c (with_fields v (drop_field z (fields_of v))); number = z; slot = slot.One at.field.shape z; group = group; scope = scope } ∷ parents)
       (message_part j.0 (held_message (get_field z (fields_of v)))) inner u) at.own opened in
       let placed = subst (λ (z : ℕ).
-      Stands pool m depth levels base p0 (record { part = message_part c (with_fields v (drop_field z (fields_of v))); number = k; slot = slot.One at.field.shape z; group = group; scope = scope } ∷ parents)
+      Reached pool m depth levels base p0 (record { part = message_part c (with_fields v (drop_field z (fields_of v))); number = k; slot = slot.One at.field.shape z; group = group; scope = scope } ∷ parents)
       (message_part j.0 (held_message (get_field z (fields_of v)))) inner u) (sym at.slot_number) named in
       let shaped = subst (λ (z : Shape).
-      Stands pool m depth levels base p0 (record { part = message_part c (with_fields v (drop_field number (fields_of v))); number = k; slot = slot.One z number; group = group; scope = scope } ∷ parents)
+      Reached pool m depth levels base p0 (record { part = message_part c (with_fields v (drop_field number (fields_of v))); number = k; slot = slot.One z number; group = group; scope = scope } ∷ parents)
       (message_part j.0 (held_message (get_field number (fields_of v)))) inner u) (sym at.shape_is) placed in
       subst (λ (z : Message).
-      Stands pool m depth levels base p0 (record { part = message_part c (with_fields v (drop_field number (fields_of v))); number = k; slot = slot.One s number; group = group; scope = scope } ∷ parents)
+      Reached pool m depth levels base p0 (record { part = message_part c (with_fields v (drop_field number (fields_of v))); number = k; slot = slot.One s number; group = group; scope = scope } ∷ parents)
       (message_part j.0 z) inner u) (held_same (get_field number (fields_of v))) shaped
 
   into_list :
-      (c : ℕ) (v : Message) (number : ℕ) (st : Stands pool m depth levels base p0 parents (message_part c v) scope q) → Opens pool st.open_now scope.depth_left k q j.0 group inner u
+      (c : ℕ) (v : Message) (number : ℕ) (st : Reached pool m depth levels base p0 parents (message_part c v) scope q) → Opens pool st.open_now scope.depth_left k q j.0 group inner u
       → ListMessage pool c k (opening_type group) j number → IsOpen pool m depth levels base p0 parents scope k j group inner u (message_part c v) (message_part c v) (slot.List number)
   into_list c v number st opens at =
       let opened = opens_listed c v st ok at.field j at.packed group at.found at.kind_is at.shape_is at.fitted inner u (subst (λ (z : ℕ). Opens pool st.open_now scope.depth_left z q j.0 group inner u) (sym at.own) opens) in
       let named = subst (λ (z : ℕ).
-      Stands pool m depth levels base p0 (record { part = message_part c v; number = z; slot = slot.List z; group = group; scope = scope } ∷ parents)
+      Reached pool m depth levels base p0 (record { part = message_part c v; number = z; slot = slot.List z; group = group; scope = scope } ∷ parents)
       (message_part j.0 empty) inner u) at.own opened in
       subst (λ (z : ℕ).
-      Stands pool m depth levels base p0 (record { part = message_part c v; number = k; slot = slot.List z; group = group; scope = scope } ∷ parents)
+      Reached pool m depth levels base p0 (record { part = message_part c v; number = k; slot = slot.List z; group = group; scope = scope } ∷ parents)
       (message_part j.0 empty) inner u) (sym at.slot_number) named
 
   into_message :
-      (c : ℕ) (v : Message) (s : Slot) (st : Stands pool m depth levels base p0 parents (message_part c v) scope q) → Opens pool st.open_now scope.depth_left k q j.0 group inner u
+      (c : ℕ) (v : Message) (s : Slot) (st : Reached pool m depth levels base p0 parents (message_part c v) scope q) → Opens pool st.open_now scope.depth_left k q j.0 group inner u
       → AtField (field_numbered k (message_fields pool c)) k (opening_type group) (target.Message j s) → IsOpen pool m depth levels base p0 parents scope k j group inner u (message_part c v) (without_message s (message_part c v)) s
   into_message c v (slot.One s number) st opens means = into_field c v s number st opens (one_message pool c k (opening_type group) j s number means)
   into_message c v (slot.List number) st opens means = into_list c v number st opens (list_message pool c k (opening_type group) j number means)
@@ -261,16 +261,16 @@ module _ {pool : Types} {m depth levels : ℕ} {base : List Record} {p0 : Place}
 -- the message of an entry's value, after its length
 into_entry :
     {pool : Types} {m depth levels : ℕ} {base : List Record} {p0 : Place} {parents : List Parent} {scope : Scope} {q r t : Place} (ok : IsPool pool) (k : ℕ) (j : MessageId) (n : ℕ) (counts : ℕ → ℕ) → ((i : ℕ) → counts i ≡ 0)
-    → (key kd : Kind) (x : Option Scalar) (d : Option Datum) → Stands pool m depth levels base p0 parents (entry_part key kd x d) scope q → HasTag q k 2 r → HasLength r n t
+    → (key kd : Kind) (x : Option Scalar) (d : Option Datum) → Reached pool m depth levels base p0 parents (entry_part key kd x d) scope q → HasTag q k 2 r → HasLength r n t
     → kd ≡ kind.Message j → k ≡ 2 → IsOpen pool m depth levels base p0 parents scope k j false (payload_scope scope.depth_left t n counts) (payload_at t n) (entry_part key kd x d) (entry_part key kd x None) slot.Entry
 into_entry {pool} {m} {depth} {levels} {base} {p0} {parents} {scope} {q} {r} {t} ok k j n counts none key kd x d st has l is two =
     let opened = opens_entry_message key kd x d st j n counts ok none is (subst (λ (z : ℕ). HasTag q z 2 r) two has) l (ap (read_shaped (an_entry key kd) shape.Explicit) is)
     (λ p type. (refl, ap (λ (z : ℕ). z == wire_type_of kd) type ∙ ap (λ (z : Kind). 2 == wire_type_of z) is)) in
     let named = subst (λ (z : ℕ).
-    Stands pool m depth levels base p0 (record { part = entry_part key kd x None; number = z; slot = slot.Entry; group = false; scope = scope } ∷ parents)
+    Reached pool m depth levels base p0 (record { part = entry_part key kd x None; number = z; slot = slot.Entry; group = false; scope = scope } ∷ parents)
     (message_part j.0 (entry_message d)) (payload_scope scope.depth_left t n counts) (payload_at t n)) (sym two) opened in
     subst (λ (z : Message).
-    Stands pool m depth levels base p0 (record { part = entry_part key kd x None; number = k; slot = slot.Entry; group = false; scope = scope } ∷ parents)
+    Reached pool m depth levels base p0 (record { part = entry_part key kd x None; number = k; slot = slot.Entry; group = false; scope = scope } ∷ parents)
     (message_part j.0 z) (payload_scope scope.depth_left t n counts) (payload_at t n)) (given_same d) named
 
 -- a field's message is a level below
@@ -293,14 +293,14 @@ pub message_opened :
     {pool : Types} {m depth levels : ℕ} {base : List Record} {p0 : Place} {parents : List Parent} {scope : Scope} {next : Step} {now : Part} {u t : Place} (k : ℕ) (j : MessageId) (s : Slot) (n : ℕ) (inner : Scope) (left : Part) (w : Message) → IsPool pool → CanHold pool now
     → After pool m depth levels base p0 parents next now scope u → awaited next ≡ Some (tag k 2 (target.Message j s)) → HasLength u n t → left ≡ without_message s now → w ≡ taken_message s now
     → inner.depth_left ≡ depth_left_in s scope.depth_left → inner.end ≡ Some (t.at + n) → ((i : ℕ) → inner.counts i ≡ 0)
-    → Stands pool m depth levels base p0 (record { part = left; number = k; slot = s; group = false; scope = scope } ∷ parents) (message_part j.0 w) inner (payload_at t n)
+    → Reached pool m depth levels base p0 (record { part = left; number = k; slot = s; group = false; scope = scope } ∷ parents) (message_part j.0 w) inner (payload_at t n)
 message_opened {pool} {m} {depth} {levels} {base} {p0} {parents} {scope} {next} {now} {u} {t} k j s n inner left w ok can a is l is_left is_taken is_depth is_end none =
     let after = at_tag (tag k 2 (target.Message j s)) a is in
-    subst (λ (z : Part). Stands pool m depth levels base p0 (record { part = z; number = k; slot = s; group = false; scope = scope } ∷ parents) (message_part j.0 w) inner (payload_at t n)) (sym is_left)
-    (subst (λ (z : Message). Stands pool m depth levels base p0 (record { part = without_message s now; number = k; slot = s; group = false; scope = scope } ∷ parents) (message_part j.0 z) inner (payload_at t n)) (sym is_taken)
-    (from_part s now after.stands after.has after.means after.has_level is_depth))
+    subst (λ (z : Part). Reached pool m depth levels base p0 (record { part = z; number = k; slot = s; group = false; scope = scope } ∷ parents) (message_part j.0 w) inner (payload_at t n)) (sym is_left)
+    (subst (λ (z : Message). Reached pool m depth levels base p0 (record { part = without_message s now; number = k; slot = s; group = false; scope = scope } ∷ parents) (message_part j.0 z) inner (payload_at t n)) (sym is_taken)
+    (from_part s now after.reached after.has after.means after.has_level is_depth))
   where
-    from_part : {q : Place} (s : Slot) (now : Part) → Stands pool m depth levels base p0 parents now scope q → HasTag q k 2 u → Means pool (part_context now) k 2 (target.Message j s) → HasLevelFor scope.depth_left (target.Message j s)
+    from_part : {q : Place} (s : Slot) (now : Part) → Reached pool m depth levels base p0 parents now scope q → HasTag q k 2 u → Means pool (part_context now) k 2 (target.Message j s) → HasLevelFor scope.depth_left (target.Message j s)
         → inner.depth_left ≡ depth_left_in s scope.depth_left → IsOpen pool m depth levels base p0 parents scope k j false inner (payload_at t n) now (without_message s now) s
     from_part s (message_part c v) st has means some depth_left =
         let plain = field_slot (field_numbered k (message_fields pool c)) k 2 j s means in
@@ -327,15 +327,15 @@ no_group_value kd j is type none = cc
 
 pub message_group_opened :
     {pool : Types} {m depth levels : ℕ} {base : List Record} {p0 : Place} {parents : List Parent} {scope : Scope} {now : Part} {q u : Place} (k : ℕ) (j : MessageId) (s : Slot) (inner : Scope) (left : Part) (w : Message) → IsPool pool → CanHold pool now
-    → Means pool (part_context now) k 3 (target.Message j s) → Stands pool m depth levels base p0 parents now scope q → 0 < scope.depth_left → HasTag q k 3 u → left ≡ without_message s now → w ≡ taken_message s now
+    → Means pool (part_context now) k 3 (target.Message j s) → Reached pool m depth levels base p0 parents now scope q → 0 < scope.depth_left → HasTag q k 3 u → left ≡ without_message s now → w ≡ taken_message s now
     → inner.depth_left ≡ scope.depth_left - 1 → inner.end ≡ scope.end → ((i : ℕ) → inner.counts i ≡ 0)
-    → Stands pool m depth levels base p0 (record { part = left; number = k; slot = s; group = true; scope = scope } ∷ parents) (message_part j.0 w) inner u
+    → Reached pool m depth levels base p0 (record { part = left; number = k; slot = s; group = true; scope = scope } ∷ parents) (message_part j.0 w) inner u
 message_group_opened {pool} {m} {depth} {levels} {base} {p0} {parents} {scope} {now} {q} {u} k j s inner left w ok can means st some has is_left is_taken is_depth is_end none =
-    subst (λ (z : Part). Stands pool m depth levels base p0 (record { part = z; number = k; slot = s; group = true; scope = scope } ∷ parents) (message_part j.0 w) inner u) (sym is_left)
-    (subst (λ (z : Message). Stands pool m depth levels base p0 (record { part = without_message s now; number = k; slot = s; group = true; scope = scope } ∷ parents) (message_part j.0 z) inner u) (sym is_taken)
+    subst (λ (z : Part). Reached pool m depth levels base p0 (record { part = z; number = k; slot = s; group = true; scope = scope } ∷ parents) (message_part j.0 w) inner u) (sym is_left)
+    (subst (λ (z : Message). Reached pool m depth levels base p0 (record { part = without_message s now; number = k; slot = s; group = true; scope = scope } ∷ parents) (message_part j.0 z) inner u) (sym is_taken)
     (from_part s now st means))
   where
-    from_part : (s : Slot) (now : Part) → Stands pool m depth levels base p0 parents now scope q → Means pool (part_context now) k 3 (target.Message j s) → IsOpen pool m depth levels base p0 parents scope k j true inner u now (without_message s now) s
+    from_part : (s : Slot) (now : Part) → Reached pool m depth levels base p0 parents now scope q → Means pool (part_context now) k 3 (target.Message j s) → IsOpen pool m depth levels base p0 parents scope k j true inner u now (without_message s now) s
     from_part s (message_part c v) st means =
         let level : scope.depth_left ≡ suc inner.depth_left = level_below scope.depth_left some ∙ ap (λ (z : ℕ). suc z) (sym is_depth) in
         into_message ok k j true inner u c v s st
@@ -354,29 +354,29 @@ pub entry_opened :
     {pool : Types} {m depth levels : ℕ} {base : List Record} {p0 : Place} {parents : List Parent} {scope : Scope} {next : Step} {now : Part} {u t : Place} (k : ℕ) (key kd : Kind) (n : ℕ) (inner : Scope) → IsPool pool → CanHold pool now
     → After pool m depth levels base p0 parents next now scope u → awaited next ≡ Some (tag k 2 (target.Entry key kd)) → HasLength u n t
     → inner.depth_left ≡ scope.depth_left - 1 → inner.end ≡ Some (t.at + n) → ((i : ℕ) → inner.counts i ≡ 0)
-    → Stands pool m depth levels base p0 (record { part = now; number = k; slot = slot.Map k; group = false; scope = scope } ∷ parents) (entry_part key kd None None) inner (payload_at t n)
+    → Reached pool m depth levels base p0 (record { part = now; number = k; slot = slot.Map k; group = false; scope = scope } ∷ parents) (entry_part key kd None None) inner (payload_at t n)
 entry_opened {pool} {m} {depth} {levels} {base} {p0} {parents} {scope} {next} {now} {u} {t} k key kd n inner ok can a is l is_depth is_end none =
     let after = at_tag (tag k 2 (target.Entry key kd)) a is in
-    from_part now can after.stands after.has after.means (after.has_level refl)
+    from_part now can after.reached after.has after.means (after.has_level refl)
   where
-    from_part : {q : Place} (now : Part) → CanHold pool now → Stands pool m depth levels base p0 parents now scope q → HasTag q k 2 u → Means pool (part_context now) k 2 (target.Entry key kd) → 0 < scope.depth_left
-        → Stands pool m depth levels base p0 (record { part = now; number = k; slot = slot.Map k; group = false; scope = scope } ∷ parents) (entry_part key kd None None) inner (payload_at t n)
+    from_part : {q : Place} (now : Part) → CanHold pool now → Reached pool m depth levels base p0 parents now scope q → HasTag q k 2 u → Means pool (part_context now) k 2 (target.Entry key kd) → 0 < scope.depth_left
+        → Reached pool m depth levels base p0 (record { part = now; number = k; slot = slot.Map k; group = false; scope = scope } ∷ parents) (entry_part key kd None None) inner (payload_at t n)
     from_part {q} (message_part c v) can st has means some =
         let at = map_entry pool c k key kd means in
         let reading : (schema_of pool).reading (in_message c) at.field.number ≡ message_reading (an_entry key at.field.kind) =
         ap (read_field (in_message c)) at.found ∙ ap (λ (z : Shape). read_shaped (in_message c) z at.field.kind) at.shape_is in
         let opened = opens_entry c v st ok u t (scope.depth_left - 1) n inner.counts (level_below scope.depth_left some) none at.field key at.found at.shape_is at.fits_length reading (subst (λ (z : ℕ). HasTag q z 2 u) (sym at.own) has) l in
         let named = subst (λ (z : ℕ).
-        Stands pool m depth levels base p0 (record { part = message_part c v; number = z; slot = slot.Map z; group = false; scope = scope } ∷ parents)
+        Reached pool m depth levels base p0 (record { part = message_part c v; number = z; slot = slot.Map z; group = false; scope = scope } ∷ parents)
         (entry_part key at.field.kind None None) (payload_scope (scope.depth_left - 1) t n inner.counts) (payload_at t n)) at.own opened in
         let kinds = subst (λ (z : Kind).
-        Stands pool m depth levels base p0 (record { part = message_part c v; number = k; slot = slot.Map k; group = false; scope = scope } ∷ parents)
+        Reached pool m depth levels base p0 (record { part = message_part c v; number = k; slot = slot.Map k; group = false; scope = scope } ∷ parents)
         (entry_part key z None None) (payload_scope (scope.depth_left - 1) t n inner.counts) (payload_at t n)) (sym at.kind_is) named in
         let at_depth = subst (λ (z : ℕ).
-        Stands pool m depth levels base p0 (record { part = message_part c v; number = k; slot = slot.Map k; group = false; scope = scope } ∷ parents)
+        Reached pool m depth levels base p0 (record { part = message_part c v; number = k; slot = slot.Map k; group = false; scope = scope } ∷ parents)
         (entry_part key kd None None) (payload_scope z t n inner.counts) (payload_at t n)) (sym is_depth) kinds in
         subst (λ (z : Option ℕ).
-        Stands pool m depth levels base p0 (record { part = message_part c v; number = k; slot = slot.Map k; group = false; scope = scope } ∷ parents)
+        Reached pool m depth levels base p0 (record { part = message_part c v; number = k; slot = slot.Map k; group = false; scope = scope } ∷ parents)
         (entry_part key kd None None) (record inner { end = z }) (payload_at t n)) (sym is_end) at_depth
     from_part (entry_part key2 k2 x d) can st has means some = absurd means
     from_part (group_part us) can st has means some = absurd (cc)

@@ -19,7 +19,7 @@ use Rattle.pb_value.specs.Value.{value_within}
 use Rattle.pb_building.specs.Open.Opened.{below, outside}
 use Rattle.pb_building.specs.Tokens.After.{Elements, with_elements}
 use Rattle.pb_building.proofs.ClosedLists.{list_value}
-use Rattle.pb_building.specs.Open.Parents.{Part, message_part, up_to, next_step, path_of, Parent, Stands, Scope, one_more_in}
+use Rattle.pb_building.specs.Open.Parents.{Part, message_part, up_to, next_step, path_of, Parent, Reached, Scope, one_more_in}
 use Rattle.pb_building.proofs.OpenedLemmas.{len_record, payload_bytes}
 use Rattle.pb_building.proofs.ParentLemmas.{place_up_to, one_more}
 use Rattle.pb_building.proofs.AfterLemmas.{reported_inside}
@@ -36,7 +36,7 @@ elements_more front first h i m = record { whole = push_element front first h.wh
 -- the fault of an element is the fault of the whole
 pub element_reported :
     {pool : Types} {m depth levels : ℕ} {base : List Record} {p0 : Place} {parents : List Parent} {scope : Scope} {now : Part} {q r t u : Place} {k n : ℕ} {e : Element} {front : List ℕ} (g : Fault)
-    → (s : Stands pool m depth levels base p0 parents now scope q) → HasTag q k 2 r → (schema_of pool).reading (context_of s.open_now) k ≡ packed e → HasLength r n t
+    → (s : Reached pool m depth levels base p0 parents now scope q) → HasTag q k 2 r → (schema_of pool).reading (context_of s.open_now) k ≡ packed e → HasLength r n t
     → Elements e (payload_at t n) u front → u.known ≢ Some 0 → ElementFault e u g
     → Bad (schema_of pool) (records (in_message m)) depth p0 (below (path_of parents) (inside (next_step k scope) g))
 element_reported {u = u} {k = k} {front = front} g s tag re l h open_end bad =
@@ -45,16 +45,16 @@ element_reported {u = u} {k = k} {front = front} g s tag re l h open_end bad =
 -- a packed list that ends is one more record, whose elements are where they belong
 pub list_ends :
     {pool : Types} {m depth levels : ℕ} {base : List Record} {p0 : Place} {parents : List Parent} {scope : Scope} {q r t u : Place} {n : ℕ} {e : Element} {front : List ℕ} (k : ℕ) (v : Message)
-    → (s : Stands pool m depth levels base p0 parents (message_part k v) scope q) → AllDiffer (map (λ (f : FieldView). f.number) (message_fields pool k))
+    → (s : Reached pool m depth levels base p0 parents (message_part k v) scope q) → AllDiffer (map (λ (f : FieldView). f.number) (message_fields pool k))
     → (f : FieldView) → field_numbered f.number (message_fields pool k) ≡ Some f → (p : Bool) → f.shape ≡ shape.List p → message_of_kind f.kind ≡ None
     → fits f (record { number = f.number; payload = len front }) ≡ true → HasTag q f.number 2 r → (schema_of pool).reading (context_of s.open_now) f.number ≡ packed e → HasLength r n t
     → Elements e (payload_at t n) u front → u.known ≡ Some 0
-    → Stands pool m depth levels base p0 parents (message_part k (with_elements pool f.number f.kind front v)) (one_more_in f.number scope) (up_to scope.end u)
+    → Reached pool m depth levels base p0 parents (message_part k (with_elements pool f.number f.kind front v)) (one_more_in f.number scope) (up_to scope.end u)
 list_ends {pool} {m} {depth} {levels} {base} {p0} {parents} {scope} {t = t} {u = u} {n = n} {front = front} k v s differ f found p at none fit tag re l h end =
     let parts = payload_bytes front l h.moves end in
     let stood = one_more s (record { number = f.number; payload = len front }) (message_part k (with_elements pool f.number f.kind front v))
     (len_record (context_of s.open_now) scope.depth_left f.number n front tag l parts.0 parts.1 (Sound.a_list re h.whole)) refl (by_level s.inner s.deep s.worth) in
-    subst (λ (z : Place). Stands pool m depth levels base p0 parents (message_part k (with_elements pool f.number f.kind front v)) (one_more_in f.number scope) z)
+    subst (λ (z : Place). Reached pool m depth levels base p0 parents (message_part k (with_elements pool f.number f.kind front v)) (one_more_in f.number scope) z)
     (place_up_to (outside t n u) scope.end stood.ends) stood
   where
     by_level : (i : ℕ) → scope.depth_left < i → v ≡ value_within pool i k (s.earlier ++ s.records_so_far)

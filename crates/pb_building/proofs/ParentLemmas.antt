@@ -30,7 +30,7 @@ use Rattle.pb_building.specs.declared.open.part.Slot.TheVariants as slot
 use Rattle.pb_building.specs.Open.Occurrences.{CountsOf}
 use Rattle.pb_building.specs.Open.Opened.{SoFar, Begun, Opened, below, outside}
 use Rattle.pb_building.specs.Open.Opened as opened
-use Rattle.pb_building.specs.Open.Parents.{Part, message_part, entry_part, group_part, put_message, put_group, put_entry, put_child, IsWorth, IsSameForm, IsPartOf, opening_type, open_type, Scope, one_more_in, Parent, EndsAt, up_to, GoesOnFrom, Takes, Held, at_top, inside, Stands}
+use Rattle.pb_building.specs.Open.Parents.{Part, message_part, entry_part, group_part, put_message, put_group, put_entry, put_child, IsWorth, IsSameForm, IsPartOf, opening_type, open_type, Scope, one_more_in, Parent, EndsAt, up_to, GoesOnFrom, Takes, Held, at_top, inside, Reached}
 use Rattle.pb_building.specs.Open.Targets.{part_context}
 use Rattle.pb_building.proofs.StepCounts.{counts_of_none, counts_of_push}
 use Rattle.pb_building.proofs.OpenedLemmas.{RecordTo, lift, bad_after, so_far_more, so_far_nothing, so_far_longer, begun_longer, begun_ends, begun_short}
@@ -47,7 +47,7 @@ held_opened (inside up h begun form can deep completes is_path counts ends goes_
 -- THE FAULT REPORTED: a record that has a fault at the reader's position gives the fault of the whole, below the numbers of the open records
 pub reported :
     {pool : Types} {m depth levels : ℕ} {base : List Record} {p0 : Place} {parents : List Parent} {scope : Scope} {now : Part} {q : Place} (f : Fault)
-    → (s : Stands pool m depth levels base p0 parents now scope q) → Begins s.open_now q → RecordFault (schema_of pool) s.open_now s.records_so_far scope.depth_left q f
+    → (s : Reached pool m depth levels base p0 parents now scope q) → Begins s.open_now q → RecordFault (schema_of pool) s.open_now s.records_so_far scope.depth_left q f
     → Bad (schema_of pool) (records (in_message m)) depth p0 (below s.path f)
 reported f s goes bad = lift f (held_opened s.held) (bad_after s.so_far goes bad)
 
@@ -83,10 +83,10 @@ pub held_longer :
 held_longer more (at_top v form is_open is_depth is_inner is_path is_place is_base goes_on) = at_top v form is_open is_depth is_inner is_path (ap (λ (z : Place). longer z more) is_place) is_base goes_on
 held_longer more (inside {parent = parent} {q = q} up h begun form can deep completes is_path counts ends goes_on takes) = inside (held_longer more up) (so_far_longer more h) (begun_longer more begun) form can deep completes is_path counts (ends_longer q more parent.scope.end ends) goes_on takes
 
-pub stands_longer :
+pub reached_longer :
     {pool : Types} {m depth levels : ℕ} {base : List Record} {p0 : Place} {parents : List Parent} {scope : Scope} {now : Part} {q : Place} (more : List ℕ) → AreBytes more
-    → Stands pool m depth levels base p0 parents now scope q → Stands pool m depth levels base (longer p0 more) parents now scope (longer q more)
-stands_longer {p0 = p0} {scope = scope} {q = q} more more_bytes s = record {
+    → Reached pool m depth levels base p0 parents now scope q → Reached pool m depth levels base (longer p0 more) parents now scope (longer q more)
+reached_longer {p0 = p0} {scope = scope} {q = q} more more_bytes s = record {
   open_now = s.open_now;
   inner = s.inner;
   path = s.path;
@@ -104,10 +104,10 @@ stands_longer {p0 = p0} {scope = scope} {q = q} more more_bytes s = record {
 }
 
 -- THE START
-pub stands_at_start :
+pub reached_at_start :
     (pool : Types) (m depth levels : ℕ) (base : List Record) (p0 : Place) (scope : Scope) (v : Message) → depth < levels → v ≡ value_within pool levels m base → m < length pool.messages → IsBody pool m v → message_depth v < levels → AreBytes p0.rest
-    → scope.depth_left ≡ depth → ((k : ℕ) → scope.counts k ≡ 0) → EndsAt p0 scope.end → Stands pool m depth levels base p0 [] (message_part m v) scope p0
-stands_at_start pool m depth levels base p0 scope v deep is within good low bytes depth_left none ends = record {
+    → scope.depth_left ≡ depth → ((k : ℕ) → scope.counts k ≡ 0) → EndsAt p0 scope.end → Reached pool m depth levels base p0 [] (message_part m v) scope p0
+reached_at_start pool m depth levels base p0 scope v deep is within good low bytes depth_left none ends = record {
   open_now = records (in_message m);
   inner = levels;
   path = [];
@@ -280,8 +280,8 @@ held_as_well {pool} {now = now} {inner = inner} {earlier = earlier} other same (
 
 -- ONE MORE RECORD: a whole sound record after which the part is worth the records with it
 pub one_more :
-    {pool : Types} {m depth levels : ℕ} {base : List Record} {p0 : Place} {parents : List Parent} {scope : Scope} {now : Part} {q u : Place} (s : Stands pool m depth levels base p0 parents now scope q) (r : Record) (next : Part)
-    → RecordTo (schema_of pool) (context_of s.open_now) scope.depth_left q r u → IsSameForm now next → IsWorth pool s.inner next ((s.earlier ++ s.records_so_far) ++ r ∷ []) → Stands pool m depth levels base p0 parents next (one_more_in r.number scope) u
+    {pool : Types} {m depth levels : ℕ} {base : List Record} {p0 : Place} {parents : List Parent} {scope : Scope} {now : Part} {q u : Place} (s : Reached pool m depth levels base p0 parents now scope q) (r : Record) (next : Part)
+    → RecordTo (schema_of pool) (context_of s.open_now) scope.depth_left q r u → IsSameForm now next → IsWorth pool s.inner next ((s.earlier ++ s.records_so_far) ++ r ∷ []) → Reached pool m depth levels base p0 parents next (one_more_in r.number scope) u
 one_more {pool} {scope = scope} {now = now} s r next h same worth = record {
   open_now = s.open_now;
   inner = s.inner;
@@ -300,13 +300,13 @@ one_more {pool} {scope = scope} {now = now} s r next h same worth = record {
 }
 
 -- AN OPEN PART IS COMPLETE: with it the outer part is worth one record more, and the reader is in the outer part, after it
-pub closed_stands :
+pub closed_reached :
     {pool : Types} {m depth levels : ℕ} {base : List Record} {p0 : Place} {parents : List Parent} {a : Open Context} {outer : ℕ} {steps : List PathStep} {p q w : Place} {rs before : List Record} (parent : Parent)
     → Held pool m depth levels base p0 parents parent.part a parent.scope.depth_left outer steps p before → SoFar (schema_of pool) a parent.scope.depth_left p rs q → IsPartOf parent.part (context_of a) → parent.scope.depth_left < outer
     → CountsOf parent.scope.counts rs → EndsAt q parent.scope.end → AreBytes p0.rest → (pl : Payload) → RecordTo (schema_of pool) (context_of a) parent.scope.depth_left q (record { number = parent.number; payload = pl }) w
     → (next : Part) → IsSameForm parent.part next → IsWorth pool outer next ((before ++ rs) ++ record { number = parent.number; payload = pl } ∷ [])
-    → Stands pool m depth levels base p0 parents next (one_more_in parent.number parent.scope) w
-closed_stands {pool} {a = a} {outer = outer} {steps = steps} {p = p} {rs = rs} {before = before} parent up h form deep counts ends bytes pl to next same worth = record {
+    → Reached pool m depth levels base p0 parents next (one_more_in parent.number parent.scope) w
+closed_reached {pool} {a = a} {outer = outer} {steps = steps} {p = p} {rs = rs} {before = before} parent up h form deep counts ends bytes pl to next same worth = record {
   open_now = a;
   inner = outer;
   path = steps;
@@ -334,7 +334,7 @@ payload_open (records c) e = refl
 payload_open (in_group k c) e = absurd (omega (arith, e))
 
 pub is_payload :
-    {pool : Types} {m depth levels : ℕ} {base : List Record} {p0 : Place} {parent : Parent} {parents : List Parent} {scope : Scope} {now : Part} {q : Place} (s : Stands pool m depth levels base p0 (parent ∷ parents) now scope q)
+    {pool : Types} {m depth levels : ℕ} {base : List Record} {p0 : Place} {parent : Parent} {parents : List Parent} {scope : Scope} {now : Part} {q : Place} (s : Reached pool m depth levels base p0 (parent ∷ parents) now scope q)
     → parent.group ≡ false → s.open_now ≡ records (context_of s.open_now)
 is_payload s none = payload_open s.open_now (sym (flag_held s.held) ∙ ap opening_type none)
 
@@ -350,15 +350,15 @@ group_held :
 group_held {pool} (inside up h begun form can deep completes is_path counts ends goes_on takes) some = begun_group pool begun (sym takes.1 ∙ ap opening_type some)
 
 pub is_group :
-    {pool : Types} {m depth levels : ℕ} {base : List Record} {p0 : Place} {parent : Parent} {parents : List Parent} {scope : Scope} {now : Part} {q : Place} (s : Stands pool m depth levels base p0 (parent ∷ parents) now scope q)
+    {pool : Types} {m depth levels : ℕ} {base : List Record} {p0 : Place} {parent : Parent} {parents : List Parent} {scope : Scope} {now : Part} {q : Place} (s : Reached pool m depth levels base p0 (parent ∷ parents) now scope q)
     → parent.group ≡ true → s.open_now ≡ in_group parent.number (context_of s.open_now)
 is_group s some = group_held s.held some
 
 -- A MESSAGE OR ENTRY THAT ENDS AT ITS KNOWN END: it goes into its slot, and the reader is in its parent
 pub ends_at_known_end :
-    {pool : Types} {m depth levels : ℕ} {base : List Record} {p0 : Place} {parent : Parent} {parents : List Parent} {scope : Scope} {now : Part} {v : Place} (s : Stands pool m depth levels base p0 (parent ∷ parents) now scope v)
+    {pool : Types} {m depth levels : ℕ} {base : List Record} {p0 : Place} {parent : Parent} {parents : List Parent} {scope : Scope} {now : Part} {v : Place} (s : Reached pool m depth levels base p0 (parent ∷ parents) now scope v)
     → parent.group ≡ false → v.known ≡ Some 0
-    → Stands pool m depth levels base p0 parents (put_child pool parent.slot parent.part now) (one_more_in parent.number parent.scope) (up_to parent.scope.end v)
+    → Reached pool m depth levels base p0 parents (put_child pool parent.slot parent.part now) (one_more_in parent.number parent.scope) (up_to parent.scope.end v)
 ends_at_known_end {pool} {m} {depth} {levels} {base} {p0} {parent} {parents} {scope} {now} {v} s none end = from_held s.held s.so_far s.worth (is_payload s none)
   where
     there : Part
@@ -366,20 +366,20 @@ ends_at_known_end {pool} {m} {depth} {levels} {base} {p0} {parent} {parents} {sc
 
     from_held :
         {o : Open Context} {below inner : ℕ} {path : List PathStep} {u : Place} {earlier ss : List Record} → Held pool m depth levels base p0 (parent ∷ parents) now o below inner path u earlier → SoFar (schema_of pool) o below u ss v
-        → IsWorth pool inner now (earlier ++ ss) → o ≡ records (context_of o) → Stands pool m depth levels base p0 parents there (one_more_in parent.number parent.scope) (up_to parent.scope.end v)
+        → IsWorth pool inner now (earlier ++ ss) → o ≡ records (context_of o) → Reached pool m depth levels base p0 parents there (one_more_in parent.number parent.scope) (up_to parent.scope.end v)
     from_held {inner = inner} {earlier = earlier} {ss = ss} (inside {o = o} {a = a} {below = below} up h begun form can deep completes is_path counts ends goes_on takes) b worth is =
         let closed = begun_ends a o parent.scope.depth_left below parent.number begun is b end in
         let read : records_spelled b.front ≡ ss = records_spelled-AreRecords ss b.front b.spelled (begun_short begun is b) in
         let inside_worth : IsWorth pool inner now (earlier ++ records_inside (len b.front)) = subst (λ (z : List Record). IsWorth pool inner now (earlier ++ z)) (sym read) worth in
         let to = closed.2 in
         let same_place : outside closed.0 closed.1 v ≡ up_to parent.scope.end v = place_up_to (outside closed.0 closed.1 v) parent.scope.end (ends_along to.first parent.scope.end to.moves ends) in
-        subst (λ (z : Place). Stands pool m depth levels base p0 parents there (one_more_in parent.number parent.scope) z) same_place
-        (closed_stands parent up h form deep counts ends s.bytes (len b.front) to there (put_child-form pool parent.slot parent.part now) (completes (len b.front) now (sym (ap opening_type none)) (same_self now) inside_worth))
+        subst (λ (z : Place). Reached pool m depth levels base p0 parents there (one_more_in parent.number parent.scope) z) same_place
+        (closed_reached parent up h form deep counts ends s.bytes (len b.front) to there (put_child-form pool parent.slot parent.part now) (completes (len b.front) now (sym (ap opening_type none)) (same_self now) inside_worth))
 
 -- AN ENTRY is open in a payload, whatever its parent says
 pub entry_is_payload :
     {pool : Types} {m depth levels : ℕ} {base : List Record} {p0 : Place} {parents : List Parent} {scope : Scope} {key kd : Kind} {x : Option Scalar} {d : Option Datum} {q : Place}
-    (s : Stands pool m depth levels base p0 parents (entry_part key kd x d) scope q) → s.open_now ≡ records (context_of s.open_now)
+    (s : Reached pool m depth levels base p0 parents (entry_part key kd x d) scope q) → s.open_now ≡ records (context_of s.open_now)
 entry_is_payload {pool} {key = key} {kd = kd} {x = x} {d = d} s = from_held s.held s.form
   where
     no_entry_kind : (k : Kind) → group_of_kind k ≡ an_entry key kd → ⊥
@@ -419,7 +419,7 @@ entry_is_payload {pool} {key = key} {kd = kd} {x = x} {d = d} s = from_held s.he
 -- no end tag ends an entry
 pub entry_no_group :
     {pool : Types} {m depth levels : ℕ} {base : List Record} {p0 : Place} {parent : Parent} {parents : List Parent} {scope : Scope} {key kd : Kind} {x : Option Scalar} {d : Option Datum} {q : Place}
-    → Stands pool m depth levels base p0 (parent ∷ parents) (entry_part key kd x d) scope q → parent.group ≡ true → ⊥
+    → Reached pool m depth levels base p0 (parent ∷ parents) (entry_part key kd x d) scope q → parent.group ≡ true → ⊥
 entry_no_group {parent = parent} s some =
     let typed : open_type s.open_now ≡ 2 = ap open_type (entry_is_payload s) in
     let flag : 3 ≡ open_type s.open_now = sym (ap opening_type some) ∙ flag_held s.held in

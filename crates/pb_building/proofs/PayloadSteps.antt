@@ -35,14 +35,14 @@ use Rattle.pb_building.specs.declared.values.payload_value.PayloadError.{Payload
 use Rattle.pb_building.specs.declared.values.payload_value.PayloadError.TheVariants as error
 use Rattle.pb_building.specs.Values.PayloadValue.{IsPayloadError, IfBadText, IsBytesTarget}
 use Rattle.pb_building.specs.Open.Targets.{AtField, Means, part_context}
-use Rattle.pb_building.specs.Open.Parents.{Part, message_part, entry_part, group_part, CanHold, Parent, path_of, next_step, Stands, Scope, one_more_in}
+use Rattle.pb_building.specs.Open.Parents.{Part, message_part, entry_part, group_part, CanHold, Parent, path_of, next_step, Reached, Scope, one_more_in}
 use Rattle.pb_building.specs.Tokens.After.{After}
 use Rattle.pb_building.proofs.OpenedLemmas.{len_record}
 use Rattle.pb_building.proofs.ParentLemmas.{part_of_context}
 use Rattle.pb_building.proofs.AfterLemmas.{AtPayload, at_payload, reported_inside}
 use Rattle.pb_building.proofs.KindLemmas.{undeclared_len}
-use Rattle.pb_building.proofs.NumberSteps.{number_is, single_field, listed_field, no_key, no_entry_value, meant_type, scalar_record_stands}
-use Rattle.pb_building.proofs.UnknownSteps.{unknown_part_stands}
+use Rattle.pb_building.proofs.NumberSteps.{number_is, single_field, listed_field, no_key, no_entry_value, meant_type, scalar_record_reached}
+use Rattle.pb_building.proofs.UnknownSteps.{unknown_part_reached}
 
 -- HOW THE RECORD OF A VALUE IS READ
 
@@ -199,14 +199,14 @@ bad_text_within kd s e h = if_bad_text kd s e (λ valid. valid ≤ length s) h (
 module _ {pool : Types} {m depth levels : ℕ} {base : List Record} {p0 u : Place} {parents : List Parent} {scope : Scope} {now : Part} (k : ℕ) (meant : Target) (n : ℕ) (begun : After pool m depth levels base p0 parents (step.Payload k meant n) now scope u)
     (can : CanHold pool now) where
   -- how the record is read where it has a value
-  reads_here : (kd : Kind) (s : AtPayload pool m depth levels base p0 parents now scope k meant n u) → scalar_kind meant ≡ Some kd → ReadsBytes ((schema_of pool).reading (context_of s.stands.open_now) k) kd
+  reads_here : (kd : Kind) (s : AtPayload pool m depth levels base p0 parents now scope k meant n u) → scalar_kind meant ≡ Some kd → ReadsBytes ((schema_of pool).reading (context_of s.reached.open_now) k) kd
   reads_here kd at of =
-      subst (λ (c : Context). ReadsBytes ((schema_of pool).reading c k) kd) (sym (part_of_context now (context_of at.stands.open_now) at.stands.form)) (bytes_reading pool now k meant kd can at.means of)
+      subst (λ (c : Context). ReadsBytes ((schema_of pool).reading c k) kd) (sym (part_of_context now (context_of at.reached.open_now) at.reached.form)) (bytes_reading pool now k meant kd can at.means of)
 
   -- and where it is unknown
-  unread_here : (s : AtPayload pool m depth levels base p0 parents now scope k meant n u) → meant ≡ target.Unknown → (schema_of pool).reading (context_of s.stands.open_now) k ≡ unread
+  unread_here : (s : AtPayload pool m depth levels base p0 parents now scope k meant n u) → meant ≡ target.Unknown → (schema_of pool).reading (context_of s.reached.open_now) k ≡ unread
   unread_here at unknown =
-      ap (λ (c : Context). (schema_of pool).reading c k) (part_of_context now (context_of at.stands.open_now) at.stands.form)
+      ap (λ (c : Context). (schema_of pool).reading c k) (part_of_context now (context_of at.reached.open_now) at.reached.form)
       ∙ unknown_reading pool now k (subst (λ (z : Target). Means pool (part_context now) k 2 z) unknown at.means)
 
   payload_sound : (kd : Kind) (s : List ℕ) (c : Context) → ReadsBytes ((schema_of pool).reading c k) kd → (kd ≡ kind.Text → IsUtf8 s) → Sound (schema_of pool) c scope.depth_left k (len s)
@@ -215,25 +215,25 @@ module _ {pool : Types} {m depth levels : ℕ} {base : List Record} {p0 u : Plac
 
   -- where the part holds its value, the reader is after it
   pub payload_put : {w : Place} (kd : Kind) (s : List ℕ) (put : Part) → scalar_kind meant ≡ Some kd → IsPool pool → (kd ≡ kind.Text → IsUtf8 s) → length s ≡ n → Moves u s w
-      → ((x : Scalar) → read kd (len s) ≡ Some x → put ≡ put_datum pool k meant now (scalar x)) → Stands pool m depth levels base p0 parents put (one_more_in k scope) w
+      → ((x : Scalar) → read kd (len s) ≡ Some x → put ≡ put_datum pool k meant now (scalar x)) → Reached pool m depth levels base p0 parents put (one_more_in k scope) w
   payload_put {w} kd s put of ok utf size moves made =
       let at = at_payload k meant n begun in
       let re = reads_here kd at of in
       let v = given kd s re in
-      subst (λ (z : Part). Stands pool m depth levels base p0 parents z (one_more_in k scope) w) (sym (made v.value v.reads))
-      (scalar_record_stands ok k (len s) v.value now meant kd can at.stands
-      (len_record (context_of at.stands.open_now) scope.depth_left k n s at.has at.length_is size moves (payload_sound kd s (context_of at.stands.open_now) re utf)) at.means of v.alone v.keyed
+      subst (λ (z : Part). Reached pool m depth levels base p0 parents z (one_more_in k scope) w) (sym (made v.value v.reads))
+      (scalar_record_reached ok k (len s) v.value now meant kd can at.reached
+      (len_record (context_of at.reached.open_now) scope.depth_left k n s at.has at.length_is size moves (payload_sound kd s (context_of at.reached.open_now) re utf)) at.means of v.alone v.keyed
       (meant_type pool now k 2 meant kd at.means of) (undeclared_len pool (closed_enum kd) s))
 
   -- where the part holds it as an unknown record, likewise
   pub unknown_payload_put : {w : Place} (s : List ℕ) (put : Part) → IsBytesTarget meant → scalar_kind meant ≡ None → IsPool pool → length s ≡ n → Moves u s w → put ≡ put_record k (len s) now
-      → Stands pool m depth levels base p0 parents put (one_more_in k scope) w
+      → Reached pool m depth levels base p0 parents put (one_more_in k scope) w
   unknown_payload_put {w} s put is of ok size moves made =
       let at = at_payload k meant n begun in
       let unknown = only_unknown meant is of in
-      subst (λ (z : Part). Stands pool m depth levels base p0 parents z (one_more_in k scope) w) (sym made)
-      (unknown_part_stands ok k (len s) now can at.stands
-      (len_record (context_of at.stands.open_now) scope.depth_left k n s at.has at.length_is size moves (Sound.some_bytes (unread_here at unknown)))
+      subst (λ (z : Part). Reached pool m depth levels base p0 parents z (one_more_in k scope) w) (sym made)
+      (unknown_part_reached ok k (len s) now can at.reached
+      (len_record (context_of at.reached.open_now) scope.depth_left k n s at.has at.length_is size moves (Sound.some_bytes (unread_here at unknown)))
       (subst (λ (z : Target). Means pool (part_context now) k 2 z) unknown at.means))
 
   -- a string that is not UTF-8 is the fault of the whole, at its first wrong byte
@@ -243,9 +243,9 @@ module _ {pool : Types} {m depth levels : ℕ} {base : List Record} {p0 u : Plac
       let at = at_payload k meant n begun in
       let whole : take n u.rest ≡ s = ap (take n) moves.given ∙ ap (λ (z : ℕ). take z (s ++ w.rest)) (sym size) ∙ take-append_seam s w.rest in
       let given_size : length u.rest ≡ length s + length w.rest = ap length moves.given ∙ length-append s w.rest in
-      reported_inside k 2 (fault (u.at + valid) [] BadText) at.stands at.has
+      reported_inside k 2 (fault (u.at + valid) [] BadText) at.reached at.has
       (RecordFault.bad_text at.has (as_text kd (reads_here kd at of) is) at.length_is (omega (arith, size, given_size)) (λ utf. wrong (subst IsUtf8 whole utf))
-      (ap (λ (z : ℕ). fault (u.at + z) (step_into k at.stands.records_so_far ∷ []) BadText) (len_is ∙ ap utf8_valid_len (sym whole))))
+      (ap (λ (z : ℕ). fault (u.at + z) (step_into k at.reached.records_so_far ∷ []) BadText) (len_is ∙ ap utf8_valid_len (sym whole))))
     where
       as_text : {r : Reading Context} (kd : Kind) → ReadsBytes r kd → kd ≡ kind.Text → r ≡ text_reading
       as_text kd (a_text same re) is = re
@@ -253,14 +253,14 @@ module _ {pool : Types} {m depth levels : ℕ} {base : List Record} {p0 u : Plac
 
   -- HOW IT IS READ: its bytes are not looked into, or are a string
   pub payload_reading : IsBytesTarget meant → (at : AtPayload pool m depth levels base p0 parents now scope k meant n u)
-      → ((schema_of pool).reading (context_of at.stands.open_now) k ≡ unread) ⊎ ((schema_of pool).reading (context_of at.stands.open_now) k ≡ text_reading)
+      → ((schema_of pool).reading (context_of at.reached.open_now) k ≡ unread) ⊎ ((schema_of pool).reading (context_of at.reached.open_now) k ≡ text_reading)
   payload_reading is at = by_kind (scalar_kind meant) refl
     where
       unread_or_text : {r : Reading Context} (kd : Kind) → ReadsBytes r kd → (r ≡ unread) ⊎ (r ≡ text_reading)
       unread_or_text kd (a_text same re) = inr re
       unread_or_text kd (some_bytes same re) = inl re
 
-      by_kind : (o : Option Kind) → scalar_kind meant ≡ o → ((schema_of pool).reading (context_of at.stands.open_now) k ≡ unread) ⊎ ((schema_of pool).reading (context_of at.stands.open_now) k ≡ text_reading)
+      by_kind : (o : Option Kind) → scalar_kind meant ≡ o → ((schema_of pool).reading (context_of at.reached.open_now) k ≡ unread) ⊎ ((schema_of pool).reading (context_of at.reached.open_now) k ≡ text_reading)
       by_kind (Some kd) of = unread_or_text kd (reads_here kd at of)
       by_kind None of = inl (unread_here at (only_unknown meant is of))
 
@@ -268,5 +268,5 @@ module _ {pool : Types} {m depth levels : ℕ} {base : List Record} {p0 u : Plac
   pub payload_cut : IsBytesTarget meant → length u.rest < n → Bad (schema_of pool) (records (in_message m)) depth p0 (below (path_of parents) (fault (input_end u) (next_step k scope ∷ []) Truncated))
   payload_cut is short =
       let at = at_payload k meant n begun in
-      reported_inside k 2 (fault (input_end u) [] Truncated) at.stands at.has
+      reported_inside k 2 (fault (input_end u) [] Truncated) at.reached at.has
       (RecordFault.cut_payload at.has (payload_reading is at) (record { size = n; payload = u; length_is = at.length_is; cut = short; fault_is = refl }) refl)

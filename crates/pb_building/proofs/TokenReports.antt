@@ -1,13 +1,12 @@
 -- A tag, the end of a group, or a length that is refused is the fault of the whole.
-use Rattle.std.proofs.Common.{◌≡◌, ◌≢◌, ℕ, ◌-◌, ◌<◌, ◌≤◌, ◌^◌, List, [], length, refl, sym, ap, ◌∙◌, subst, arith, Option, Some, None}
-use Rattle.std.specs.Prelude.{Bool, true, false, ◌==◌, MatchOption, if◌then◌else◌}
+use Rattle.std.proofs.Common.{◌≡◌, ◌≢◌, ℕ, ◌-◌, ◌<◌, List, [], length, refl, sym, ap, ◌∙◌, subst, arith, Option, Some, None}
+use Rattle.std.specs.Prelude.{Bool, true, false, ◌==◌, if◌then◌else◌}
 use Rattle.std.proofs.lemmas.Bool.{false≢true}
 use Rattle.std.proofs.lemmas.List.{append-nil}
 use Rattle.pb_wire.specs.Record.{Record}
 use Rattle.pb_wire.specs.declared.fault.PathStep.{PathStep}
 use Rattle.pb_wire.specs.declared.fault.Cause.{Cause}
-use Rattle.pb_wire.specs.declared.fault.Cause.TheVariants.{StrayEnd, WrongEnd, PastEnd}
-use Rattle.pb_wire.specs.Fault.{Fault, fault, inside as in_record, Place, Reads, HasTag, TagFault, LengthFault, VarintFault}
+use Rattle.pb_wire.specs.Fault.{Fault, fault, inside as in_record, Place, Reads, HasTag, TagFault, LengthFault}
 use Rattle.pb_wire.specs.Schema.{Reading, unread, text, packed, same_level, message as message_reading, Open, records, in_group, context_of, open_group}
 use Rattle.pb_wire.specs.Grammar.{Bad, RecordFault, Begins, IsAllowed}
 use Rattle.pb_wire.proofs.Places.{none_before, fewer}
@@ -27,16 +26,16 @@ use Rattle.pb_building.specs.declared.tokens.step.Step.{Step}
 use Rattle.pb_building.specs.Open.Opened.{Begun, below}
 use Rattle.pb_building.specs.Open.Opened as opened
 use Rattle.pb_building.specs.Open.Targets.{OfShape, AtField, Means, part_context}
-use Rattle.pb_building.specs.Open.Parents.{Part, message_part, entry_part, group_part, opening_type, open_type, Scope, Parent, EndsAt, next_step, path_of, Held, at_top, inside, Stands}
+use Rattle.pb_building.specs.Open.Parents.{Part, message_part, entry_part, group_part, opening_type, open_type, Scope, Parent, next_step, path_of, Held, at_top, inside, Reached}
 use Rattle.pb_building.specs.Tokens.After.{tag, awaited, HasLevelFor, After}
 use Rattle.pb_building.specs.Open.Openings.{innermost_group}
-use Rattle.pb_building.proofs.ParentLemmas.{part_of_context, ends_along}
+use Rattle.pb_building.proofs.ParentLemmas.{part_of_context}
 use Rattle.pb_building.proofs.AfterLemmas.{at_tag, reported_here, reported_inside}
 
 -- TAGS
 
 -- where there is a whole number a record begins
-pub begins_at_number : {C : Type 0} (o : Open C) {q u : Place} {n : ℕ} → Reads q n u → Begins o q
+begins_at_number : {C : Type 0} (o : Open C) {q u : Place} {n : ℕ} → Reads q n u → Begins o q
 begins_at_number {C} o {q} {u} {n} h = by_open o
   where
     not_at_end : q.known ≡ Some 0 → ⊥
@@ -50,20 +49,20 @@ begins_at_number {C} o {q} {u} {n} h = by_open o
     by_open (in_group k c) = not_at_end
 
 -- a tag that is refused, with no step of its own
-pub tag_refused :
+tag_refused :
     {pool : Types} {m depth levels : ℕ} {base : List Record} {p0 : Place} {parents : List Parent} {scope : Scope} {now : Part} {q u : Place} {n : ℕ} (c : Cause)
-    → (s : Stands pool m depth levels base p0 parents now scope q) → Reads q n u → TagFault (open_group s.open_now) q (fault q.at [] c) → Bad (schema_of pool) (records (in_message m)) depth p0 (fault q.at (path_of parents) c)
+    → (s : Reached pool m depth levels base p0 parents now scope q) → Reads q n u → TagFault (open_group s.open_now) q (fault q.at [] c) → Bad (schema_of pool) (records (in_message m)) depth p0 (fault q.at (path_of parents) c)
 tag_refused {pool} {m} {depth} {p0 = p0} {parents} {q = q} c s h bad =
     subst (λ (z : List PathStep). Bad (schema_of pool) (records (in_message m)) depth p0 (fault q.at z c)) (append-nil (path_of parents))
     (reported_here (fault q.at [] c) s (begins_at_number s.open_now h) (RecordFault.tag bad))
 
--- a tag whose number is refused
-pub tag_number_reported :
+-- whatever group is open
+pub tag_reported :
     {pool : Types} {m depth levels : ℕ} {base : List Record} {p0 : Place} {parents : List Parent} {scope : Scope} {now : Part} {q : Place} (c : Cause)
-    → Stands pool m depth levels base p0 parents now scope q → q.known ≢ Some 0 → q.rest ≢ [] → VarintFault q (fault q.at [] c) → Bad (schema_of pool) (records (in_message m)) depth p0 (fault q.at (path_of parents) c)
-tag_number_reported {pool} {m} {depth} {p0 = p0} {parents} {q = q} c s open_here some bad =
+    → Reached pool m depth levels base p0 parents now scope q → q.known ≢ Some 0 → q.rest ≢ [] → ((innermost : Option ℕ) → TagFault innermost q (fault q.at [] c)) → Bad (schema_of pool) (records (in_message m)) depth p0 (fault q.at (path_of parents) c)
+tag_reported {pool} {m} {depth} {p0 = p0} {parents} {q = q} c s open_here some bad =
     subst (λ (z : List PathStep). Bad (schema_of pool) (records (in_message m)) depth p0 (fault q.at z c)) (append-nil (path_of parents))
-    (reported_here (fault q.at [] c) s (goes s.open_now) (RecordFault.tag (TagFault.token bad)))
+    (reported_here (fault q.at [] c) s (goes s.open_now) (RecordFault.tag (bad (open_group s.open_now))))
   where
     goes : (o : Open Context) → Begins o q
     goes (records d) = (open_here, λ known. some)
@@ -80,21 +79,17 @@ begun_open pool false (opened.a_value levels has re l is_open is_place) type = a
 begun_open pool true (opened.a_group levels has is_open is_place) type = ap open_group is_open
 begun_open pool false (opened.a_group levels has is_open is_place) type = absurd (let three : 2 ≡ 3 = type ∙ ap open_type is_open in omega (arith, three))
 
-pub held_open :
+held_open :
     {pool : Types} {m depth levels : ℕ} {base : List Record} {p0 : Place} {parents : List Parent} {now : Part} {o : Open Context} {depth_left inner : ℕ} {path : List PathStep} {p : Place} {earlier : List Record}
     → Held pool m depth levels base p0 parents now o depth_left inner path p earlier → open_group o ≡ innermost_group parents
 held_open (at_top v form is_open is_depth is_inner is_path is_place is_base goes_on) = ap open_group is_open
 held_open {pool} (inside {parent = parent} up h begun form can deep completes is_path counts ends goes_on takes) = begun_open pool parent.group begun takes.1
 
-pub wrong_end_reported :
-    {pool : Types} {m depth levels : ℕ} {base : List Record} {p0 : Place} {parents : List Parent} {scope : Scope} {now : Part} {q u : Place} (k j : ℕ) → Stands pool m depth levels base p0 parents now scope q → HasTag q k 4 u → innermost_group parents ≡ Some j → j ≢ k
-    → Bad (schema_of pool) (records (in_message m)) depth p0 (fault q.at (path_of parents) WrongEnd)
-wrong_end_reported k j s has inner other = tag_refused WrongEnd s has.tag (TagFault.wrong_end has (held_open s.held ∙ inner) other refl)
-
-pub stray_end_reported :
-    {pool : Types} {m depth levels : ℕ} {base : List Record} {p0 : Place} {parents : List Parent} {scope : Scope} {now : Part} {q u : Place} (k : ℕ) → Stands pool m depth levels base p0 parents now scope q → HasTag q k 4 u → innermost_group parents ≡ None
-    → Bad (schema_of pool) (records (in_message m)) depth p0 (fault q.at (path_of parents) StrayEnd)
-stray_end_reported k s has inner = tag_refused StrayEnd s has.tag (TagFault.stray_end has (held_open s.held ∙ inner) refl)
+-- the last tag of a group that is refused
+pub end_reported :
+    {pool : Types} {m depth levels : ℕ} {base : List Record} {p0 : Place} {parents : List Parent} {scope : Scope} {now : Part} {q u : Place} (c : Cause) (k : ℕ) (innermost : Option ℕ) → Reached pool m depth levels base p0 parents now scope q → HasTag q k 4 u
+    → innermost ≡ innermost_group parents → TagFault innermost q (fault q.at [] c) → Bad (schema_of pool) (records (in_message m)) depth p0 (fault q.at (path_of parents) c)
+end_reported {q = q} c k innermost s has is bad = tag_refused c s has.tag (subst (λ (z : Option ℕ). TagFault z q (fault q.at [] c)) (is ∙ sym (held_open s.held)) bad)
 
 -- LENGTHS
 
@@ -200,12 +195,6 @@ pub length_refused :
     → After pool m depth levels base p0 parents next now scope u → awaited next ≡ Some (tag k 2 meant) → LengthFault u g → Bad (schema_of pool) (records (in_message m)) depth p0 (below (path_of parents) (in_record (next_step k scope) g))
 length_refused {pool} {scope = scope} {now = now} k meant g a is bad =
     let after = at_tag (tag k 2 meant) a is in
-    reported_inside k 2 g after.stands after.has
+    reported_inside k 2 g after.reached after.has
     (RecordFault.length_of after.has
-    (subst (λ (c : Context). IsAllowed scope.depth_left ((schema_of pool).reading c k)) (sym (part_of_context now (context_of after.stands.open_now) after.stands.form)) (reads_allowed pool now k scope.depth_left meant after.means after.has_level)) bad refl)
-
--- a payload that passes the known end
-pub passes_end : {u t : Place} {n : ℕ} (begin e : ℕ) → Reads u n t → n < 2 ^ 31 → t.at ≡ begin → EndsAt u (Some e) → e - begin < n → LengthFault u (fault u.at [] PastEnd)
-passes_end {u = u} {t = t} {n = n} begin e h small at ends past =
-    let (left, is, there) = ends_along h.0 (Some e) h.2 ends in
-    LengthFault.past_end h small (λ within. (let enough : n ≤ left = subst (λ (z : Option ℕ). MatchOption z (Unit {0}) (λ (e : ℕ). n ≤ e)) is within in absurd (omega (arith, enough, there, at, past)))) refl
+    (subst (λ (c : Context). IsAllowed scope.depth_left ((schema_of pool).reading c k)) (sym (part_of_context now (context_of after.reached.open_now) after.reached.form)) (reads_allowed pool now k scope.depth_left meant after.means after.has_level)) bad refl)

@@ -27,12 +27,12 @@ use Rattle.pb_building.specs.Tokens.Number.{number_view}
 use Rattle.pb_building.specs.Tokens.Numbers.{Follows}
 use Rattle.pb_building.specs.Values.Put.{scalar_kind, put_record}
 use Rattle.pb_building.specs.Open.Targets.{OfShape, AtField, Means, part_context}
-use Rattle.pb_building.specs.Open.Parents.{Part, message_part, entry_part, group_part, CanHold, Parent, Stands, Scope, one_more_in}
+use Rattle.pb_building.specs.Open.Parents.{Part, message_part, entry_part, group_part, CanHold, Parent, Reached, Scope, one_more_in}
 use Rattle.pb_building.specs.Tokens.After.{tag, awaited, After}
 use Rattle.pb_building.proofs.OpenedLemmas.{RecordTo}
 use Rattle.pb_building.proofs.ParentLemmas.{one_more}
-use Rattle.pb_building.proofs.StepsOfParts.{unknown_stands}
-use Rattle.pb_building.proofs.EntrySteps.{dropped_stands}
+use Rattle.pb_building.proofs.StepsOfParts.{unknown_reached}
+use Rattle.pb_building.proofs.EntrySteps.{dropped_reached}
 use Rattle.pb_building.proofs.AfterLemmas.{at_tag}
 use Rattle.pb_building.proofs.NumberSteps.{number_is, number_record}
 use Rattle.pb_building.proofs.KindLemmas.{is_deep, by_two, deep_kind, deep_list, unfit_whole}
@@ -151,22 +151,22 @@ unfit_unknown pool t k p ok h = (
 )
 
 -- an unknown record of any payload, in any part
-pub unknown_part_stands :
-    {pool : Types} {m depth levels : ℕ} {base : List Record} {p0 : Place} {parents : List Parent} {scope : Scope} {q w : Place} (ok : IsPool pool) (k : ℕ) (p : Payload) (now : Part) → CanHold pool now → (s : Stands pool m depth levels base p0 parents now scope q)
-    → RecordTo (schema_of pool) (context_of s.open_now) scope.depth_left q (record { number = k; payload = p }) w → Means pool (part_context now) k (wire_type p) target.Unknown → Stands pool m depth levels base p0 parents (put_record k p now) (one_more_in k scope) w
-unknown_part_stands {pool} ok k p (message_part t v) can s h means = unknown_stands t v s (pool_differ pool t ok can.0) (record { number = k; payload = p }) h (unfit_unknown pool t k p ok means).0 (unfit_unknown pool t k p ok means).1
-unknown_part_stands ok k p (entry_part key kd x d) can s h means =
-    dropped_stands key kd x d s (record { number = k; payload = p }) h (not_both k 1 (wire_type p) (wire_type_of key) means.0) (not_both k 2 (wire_type p) (wire_type_of kd) means.1)
-unknown_part_stands ok k p (group_part us) can s h means =
+pub unknown_part_reached :
+    {pool : Types} {m depth levels : ℕ} {base : List Record} {p0 : Place} {parents : List Parent} {scope : Scope} {q w : Place} (ok : IsPool pool) (k : ℕ) (p : Payload) (now : Part) → CanHold pool now → (s : Reached pool m depth levels base p0 parents now scope q)
+    → RecordTo (schema_of pool) (context_of s.open_now) scope.depth_left q (record { number = k; payload = p }) w → Means pool (part_context now) k (wire_type p) target.Unknown → Reached pool m depth levels base p0 parents (put_record k p now) (one_more_in k scope) w
+unknown_part_reached {pool} ok k p (message_part t v) can s h means = unknown_reached t v s (pool_differ pool t ok can.0) (record { number = k; payload = p }) h (unfit_unknown pool t k p ok means).0 (unfit_unknown pool t k p ok means).1
+unknown_part_reached ok k p (entry_part key kd x d) can s h means =
+    dropped_reached key kd x d s (record { number = k; payload = p }) h (not_both k 1 (wire_type p) (wire_type_of key) means.0) (not_both k 2 (wire_type p) (wire_type_of kd) means.1)
+unknown_part_reached ok k p (group_part us) can s h means =
     one_more s (record { number = k; payload = p }) (group_part (us ++ record { number = k; payload = p } ∷ [])) h tt (ap (λ (z : List Record). z ++ record { number = k; payload = p } ∷ []) s.worth)
 
 -- THE STEP: where the part holds the unknown number, the reader is after it
 pub unknown_put :
     {pool : Types} {m depth levels : ℕ} {base : List Record} {p0 u w : Place} {parents : List Parent} {scope : Scope} {next : Step} {now : Part} (k : ℕ) (a : Number) (meant : Target) (put : Part) → After pool m depth levels base p0 parents next now scope u
-    → awaited next ≡ Some (tag k (wire_type (number_view a)) meant) → scalar_kind meant ≡ None → IsPool pool → CanHold pool now → Follows u (number_view a) w → put ≡ put_record k (number_view a) now → Stands pool m depth levels base p0 parents put (one_more_in k scope) w
+    → awaited next ≡ Some (tag k (wire_type (number_view a)) meant) → scalar_kind meant ≡ None → IsPool pool → CanHold pool now → Follows u (number_view a) w → put ≡ put_record k (number_view a) now → Reached pool m depth levels base p0 parents put (one_more_in k scope) w
 unknown_put {pool} {m} {depth} {levels} {base} {p0} {u} {w} {parents} {scope} {next} {now} k a meant put begun is of ok can follows made =
     let after = at_tag (tag k (wire_type (number_view a)) meant) begun is in
     let unknown : meant ≡ target.Unknown = only_unknown pool now k a meant after.means of in
-    subst (λ (z : Part). Stands pool m depth levels base p0 parents z (one_more_in k scope) w) (sym made)
-    (unknown_part_stands ok k (number_view a) now can after.stands (number_record (context_of after.stands.open_now) scope.depth_left k a after.has follows)
+    subst (λ (z : Part). Reached pool m depth levels base p0 parents z (one_more_in k scope) w) (sym made)
+    (unknown_part_reached ok k (number_view a) now can after.reached (number_record (context_of after.reached.open_now) scope.depth_left k a after.has follows)
     (subst (λ (z : Target). Means pool (part_context now) k (wire_type (number_view a)) z) unknown after.means))

@@ -35,7 +35,7 @@ use Rattle.pb_building.specs.declared.open.part.Slot.{Slot}
 use Rattle.pb_building.specs.declared.open.part.Slot.TheVariants as slot
 use Rattle.pb_building.specs.Open.Opened.{Begun}
 use Rattle.pb_building.specs.Open.Opened as opened
-use Rattle.pb_building.specs.Open.Parents.{Part, message_part, entry_part, group_part, CanHold, Scope, Parent, GoesOnFrom, Takes, Held, at_top, inside, Stands}
+use Rattle.pb_building.specs.Open.Parents.{Part, message_part, entry_part, group_part, CanHold, Scope, Parent, GoesOnFrom, Takes, Held, at_top, inside, Reached}
 
 -- THE BYTES
 
@@ -68,7 +68,7 @@ goes_on_held (inside up b begun form can deep completes is_path counts ends goes
 
 -- the records so far are in range, can be written, and are sound
 records_good :
-    {pool : Types} {m depth levels : ℕ} {base : List Record} {p0 : Place} {parents : List Parent} {scope : Scope} {now : Part} {q : Place} (s : Stands pool m depth levels base p0 parents now scope q)
+    {pool : Types} {m depth levels : ℕ} {base : List Record} {p0 : Place} {parents : List Parent} {scope : Scope} {now : Part} {q : Place} (s : Reached pool m depth levels base p0 parents now scope q)
     → AllGood pool (context_of s.open_now) scope.depth_left s.records_so_far
 records_good {pool} {scope = scope} s =
     all_good pool (context_of s.open_now) scope.depth_left s.records_so_far
@@ -78,7 +78,7 @@ records_good {pool} {scope = scope} s =
 -- A MESSAGE is well formed, and less deep than it may be
 pub message_good :
     {pool : Types} {m depth levels : ℕ} {base : List Record} {p0 : Place} {parents : List Parent} {scope : Scope} {q : Place} (ok : IsPool pool) (k : ℕ) (v : Message)
-    → (s : Stands pool m depth levels base p0 parents (message_part k v) scope q) → IsBody pool k v × (message_depth v < s.inner)
+    → (s : Reached pool m depth levels base p0 parents (message_part k v) scope q) → IsBody pool k v × (message_depth v < s.inner)
 message_good {pool} {scope = scope} ok k v s = by_level s.inner s.deep (goes_on_held s.held) s.worth
   where
     good : AllGood pool (in_message k) scope.depth_left s.records_so_far
@@ -126,24 +126,24 @@ keys_good pool k l v f key found is good low = by_holding (get_field f.number (f
 -- its type is one of the pool
 pub type_in_pool :
     {pool : Types} {m depth levels : ℕ} {base : List Record} {p0 : Place} {parents : List Parent} {scope : Scope} {q : Place} (k : ℕ) (v : Message)
-    → Stands pool m depth levels base p0 parents (message_part k v) scope q → k < length pool.messages
+    → Reached pool m depth levels base p0 parents (message_part k v) scope q → k < length pool.messages
 type_in_pool k v s = (goes_on_held s.held).0
 
 -- as are those of an entry
 pub kinds_in_pool :
     {pool : Types} {m depth levels : ℕ} {base : List Record} {p0 : Place} {parents : List Parent} {scope : Scope} {q : Place} (key kd : Kind) (x : Option Scalar) (d : Option Datum)
-    → Stands pool m depth levels base p0 parents (entry_part key kd x d) scope q → IsTrue (is_key_kind key) × NamesType (length pool.messages) (length pool.enums) kd
+    → Reached pool m depth levels base p0 parents (entry_part key kd x d) scope q → IsTrue (is_key_kind key) × NamesType (length pool.messages) (length pool.enums) kd
 kinds_in_pool key kd x d s = let from = goes_on_held s.held in (from.1, from.2)
 
 pub value_no_proto2 :
     {pool : Types} {m depth levels : ℕ} {base : List Record} {p0 : Place} {parents : List Parent} {scope : Scope} {q : Place} (key kd : Kind) (x : Option Scalar) (d : Option Datum)
-    → Stands pool m depth levels base p0 parents (entry_part key kd x d) scope q → is_of_proto2 kd ≡ false
+    → Reached pool m depth levels base p0 parents (entry_part key kd x d) scope q → is_of_proto2 kd ≡ false
 value_no_proto2 key kd x d s = (goes_on_held s.held).3
 
 -- A PART MAY BE CHANGED wherever the reader is
 pub can_hold :
     {pool : Types} {m depth levels : ℕ} {base : List Record} {p0 : Place} {parents : List Parent} {scope : Scope} {q : Place} (ok : IsPool pool) (now : Part)
-    → Stands pool m depth levels base p0 parents now scope q → CanHold pool now
+    → Reached pool m depth levels base p0 parents now scope q → CanHold pool now
 can_hold {pool} ok (message_part k v) s = (type_in_pool k v s, one_each v (message_good ok k v s).0)
   where
     one_each : (v : Message) → IsBody pool k v → HasOneMemberEach (message_fields pool k) (fields_of v)
@@ -154,7 +154,7 @@ can_hold ok (group_part us) s = tt
 -- AN ENTRY
 
 module _ {pool : Types} {m depth levels : ℕ} {base : List Record} {p0 : Place} {parents : List Parent} {scope : Scope} {q : Place} (ok : IsPool pool) (key kd : Kind) (x : Option Scalar) (d : Option Datum)
-    (s : Stands pool m depth levels base p0 parents (entry_part key kd x d) scope q) where
+    (s : Reached pool m depth levels base p0 parents (entry_part key kd x d) scope q) where
   entry_records : AllGood pool (an_entry key kd) scope.depth_left (s.earlier ++ s.records_so_far)
   entry_records =
       let none : s.earlier ≡ [] = (goes_on_held s.held).0 in
@@ -188,7 +188,7 @@ module _ {pool : Types} {m depth levels : ℕ} {base : List Record} {p0 : Place}
 -- AN ENTRY THAT GOES INTO A MAP: its key is of the kind of those that are there
 pub fits_keys :
     {pool : Types} {m depth levels : ℕ} {base : List Record} {p0 : Place} {parent : Parent} {parents : List Parent} {scope : Scope} {q : Place} (ok : IsPool pool) (key kd : Kind) (x : Option Scalar) (d : Option Datum) (k n : ℕ) (v : Message)
-    → Stands pool m depth levels base p0 (parent ∷ parents) (entry_part key kd x d) scope q → parent.part ≡ message_part k v → parent.slot ≡ slot.Map n
+    → Reached pool m depth levels base p0 (parent ∷ parents) (entry_part key kd x d) scope q → parent.part ≡ message_part k v → parent.slot ≡ slot.Map n
     → FitsKeys (unwrap_or x (default_of key)) (entries_of (get_field n (fields_of v)))
 fits_keys {pool} {m} {depth} {levels} {base} {p0} {parent} {parents} {scope} {q} ok key kd x d k n v s is_part is_slot =
     (key, key_good ok key kd x d s, subst (λ (z : Slot). Takes z (message_part k v) (entry_part key kd x d)) is_slot (subst (λ (z : Part). Takes parent.slot z (entry_part key kd x d)) is_part (keys_held s.held)))

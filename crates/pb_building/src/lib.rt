@@ -4,7 +4,7 @@
 //! nothing. `tokens` says what is at the start of bytes, `open` what a record is for in a part and what it opens, `values` puts
 //! what it gives there, and `close` puts a part that ends into the one around it.
 //!
-//! An inner crate: `pb_decode` is built on it, and moves along the bytes.
+//! An inner crate: `pb_whole` and `pb_decode` use it, and move along the bytes.
 #![tactic(auto)]
 
 mod close;
@@ -21,11 +21,8 @@ pub use open::opening::{
 };
 pub use open::part::{Entry, Parent, Part, Scope, Slot};
 pub use open::target::{Target, target_of};
-pub use pb_wire::{Number, Scanned as NumberToken, left_after};
 pub use tokens::number::{number_at, number_value};
-pub use tokens::record_tag::{
-    RecordTag, group_end, group_refusal, payload_size, prefix_number, record_tag, tag_parts,
-};
+pub use tokens::record_tag::{RecordTag, group_refusal, record_tag};
 pub use tokens::step::{Step, begin_list, begin_payload, has_level, tag_step};
 pub use values::payload_value::{PayloadError, put_payload};
 pub use values::put::{is_undeclared, put_element, put_number, put_scalar};

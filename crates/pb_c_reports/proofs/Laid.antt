@@ -12,29 +12,29 @@ pub laid : {X Y : Type 0} (f : X → Y) (xs : List X) (old new : List Y) (n : �
     → new ≡ laid_over (map f xs) old
 laid f xs old new n e long front rest = grind (arith, common_steps, take-append-drop, take-map)
 
-module _ {A : Type 0} (xs ys room : List A) where
+module _ {A : Type 0} (xs ys buffer : List A) where
   -- where the first list ends in the buffer
-  inside : length xs ≤ length room → take (length xs) (laid_over xs room) ++ laid_over ys (drop (length xs) (laid_over xs room)) ≡ laid_over (xs ++ ys) room
+  inside : length xs ≤ length buffer → take (length xs) (laid_over xs buffer) ++ laid_over ys (drop (length xs) (laid_over xs buffer)) ≡ laid_over (xs ++ ys) buffer
   inside fits =
-      let k : ℕ = length room - length xs in
-      let sum : length room ≡ length xs + k = omega (arith, fits) in
-      let whole : take (length room) (xs ++ ys) ≡ xs ++ take k ys = ap (λ n. take n (xs ++ ys)) sum ∙ take-append-add xs ys k in
+      let k : ℕ = length buffer - length xs in
+      let sum : length buffer ≡ length xs + k = omega (arith, fits) in
+      let whole : take (length buffer) (xs ++ ys) ≡ xs ++ take k ys = ap (λ n. take n (xs ++ ys)) sum ∙ take-append-add xs ys k in
       grind (arith, common_steps, whole)
 
   -- where the first list fills the buffer
-  filled : length room < length xs → take (length room) (laid_over xs room) ++ laid_over ys (drop (length room) (laid_over xs room)) ≡ laid_over (xs ++ ys) room
+  filled : length buffer < length xs → take (length buffer) (laid_over xs buffer) ++ laid_over ys (drop (length buffer) (laid_over xs buffer)) ≡ laid_over (xs ++ ys) buffer
   filled long = grind (arith, common_steps)
 
-  pub laid_both : (n : ℕ) → n ≡ min (length xs) (length room) → take n (laid_over xs room) ++ laid_over ys (drop n (laid_over xs room)) ≡ laid_over (xs ++ ys) room
-  laid_both n is = by_length (cases_lt (length room) (length xs))
+  pub laid_both : (n : ℕ) → n ≡ min (length xs) (length buffer) → take n (laid_over xs buffer) ++ laid_over ys (drop n (laid_over xs buffer)) ≡ laid_over (xs ++ ys) buffer
+  laid_both n is = by_length (cases_lt (length buffer) (length xs))
     where
-      by_length : (length room < length xs) ⊎ (length xs ≤ length room) → take n (laid_over xs room) ++ laid_over ys (drop n (laid_over xs room)) ≡ laid_over (xs ++ ys) room
-      by_length (inl long) = let full : n ≡ length room = omega (arith, is, long) in rw full (filled long)
+      by_length : (length buffer < length xs) ⊎ (length xs ≤ length buffer) → take n (laid_over xs buffer) ++ laid_over ys (drop n (laid_over xs buffer)) ≡ laid_over (xs ++ ys) buffer
+      by_length (inl long) = let full : n ≡ length buffer = omega (arith, is, long) in rw full (filled long)
       by_length (inr fits) = let whole : n ≡ length xs = omega (arith, is, fits) in rw whole (inside fits)
 
   -- the second list is laid over all that is after the first
-  pub laid_behind : (n : ℕ) (mid behind : List A) → n ≡ min (length xs) (length room) → mid ≡ laid_over xs room → behind ≡ laid_over ys (take (length mid - n) (drop n mid))
-      → take n mid ++ (behind ++ drop (length mid - n) (drop n mid)) ≡ laid_over (xs ++ ys) room
+  pub laid_behind : (n : ℕ) (mid behind : List A) → n ≡ min (length xs) (length buffer) → mid ≡ laid_over xs buffer → behind ≡ laid_over ys (take (length mid - n) (drop n mid))
+      → take n mid ++ (behind ++ drop (length mid - n) (drop n mid)) ≡ laid_over (xs ++ ys) buffer
   laid_behind n mid behind is is_mid is_behind =
       let all : take (length mid - n) (drop n mid) ≡ drop n mid = grind (arith, common_steps) in
       let none : drop (length mid - n) (drop n mid) ≡ [] = grind (arith, common_steps) in

@@ -16,7 +16,7 @@ AreLimits bytes depth = (bytes < 2 ^ 31) × (depth ≤ 100)
 
 -- a list laid over the front of a buffer, as much of it as that holds
 abbrev pub laid_over : {A : Type 0} → List A → List A → List A
-laid_over xs room = take (length room) xs ++ drop (length xs) room
+laid_over xs buffer = take (length buffer) xs ++ drop (length xs) buffer
 
 -- The list is written to the start of the buffer, as far as it fits, and its whole length is reported.
 pub record IsLaid {A : Type 0} (xs old new : List A) (size : ℕ) : Type 0 where

@@ -1,4 +1,4 @@
-//! What a call tells its caller.
+//! What a call reports to its caller.
 
 ghost use Rattle.std.specs.Prelude.{◌≡◌, map};
 ghost use Rattle.pb_wire.specs.Fault.{fault};
@@ -70,20 +70,20 @@ pub struct Step {
 }
 
 /// Lays bytes over the front of a buffer, as many as it holds.
-pub fn lay_over(bytes: &[u8], room: &mut [u8])
-    ensures { room.new ≡ laid_over bytes.now room.old }
+pub fn lay_over(bytes: &[u8], buffer: &mut [u8])
+    ensures { buffer.new ≡ laid_over bytes.now buffer.old }
 {
-    let size = bytes.len().min(room.len());
-    room[..size].copy_from_slice(&bytes[..size]);
+    let size = bytes.len().min(buffer.len());
+    buffer[..size].copy_from_slice(&bytes[..size]);
 }
 
 /// Lays the steps of a path over the front of a buffer, as many as it holds.
-fn lay_path(path: &[PathStep], room: &mut [Step])
-    ensures { room.new ≡ laid_over (map told_step path.now) room.old }
+fn lay_path(path: &[PathStep], buffer: &mut [Step])
+    ensures { buffer.new ≡ laid_over (map told_step path.now) buffer.old }
 {
-    let size = path.len().min(room.len());
+    let size = path.len().min(buffer.len());
     for i in 0..size {
-        room[i] = Step {
+        buffer[i] = Step {
             number: path[i].number,
             before: path[i].occurrence,
         };
@@ -96,16 +96,16 @@ pub fn tell_fault(
     path: &[PathStep],
     cause: Cause,
     report: &mut FaultReport,
-    room: &mut [Step],
+    buffer: &mut [Step],
 ) -> u32
     ensures answer { result ≡ FAULT }
-    ensures told { Tells (fault byte path.now cause) report.new room.old room.new }
+    ensures told { Tells (fault byte path.now cause) report.new buffer.old buffer.new }
 {
     *report = FaultReport {
         byte,
         steps: path.len(),
         cause: u32::from(cause.number()),
     };
-    lay_path(path, room);
+    lay_path(path, buffer);
     FAULT
 }

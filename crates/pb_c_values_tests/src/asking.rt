@@ -146,10 +146,10 @@ fn are_written(
     alloc: Global,
     message: &DynamicMessage<'_>,
     place: &[PlainValue],
-    room: usize,
+    capacity: usize,
     said: &str,
 ) -> Result<bool, Fail> {
-    let mut buffer = vec![in alloc; 0u32; room]?;
+    let mut buffer = vec![in alloc; 0u32; capacity]?;
     match fields_at(alloc, message.view(), place, KEYS, &mut buffer) {
         Ok(count) => {
             let (word, numbers) = said.split_once(' ').unwrap_or((said, ""));

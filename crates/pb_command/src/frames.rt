@@ -257,7 +257,7 @@ fn put_listed<O: Output>(
 fn put_frame_line<O: Output>(sink: &mut Sink, out: &mut O, index: u64, offset: u64, size: u64)
     ensures { Puts O.written O.failures out.old out.new sink.old sink.new (frame_line index offset size) }
 {
-    sink.make_room(out, 128);
+    sink.reserve(out, 128);
     sink.held.push(b"frame ");
     sink.held.push_decimal(index);
     sink.held.push(b" at ");

@@ -16,6 +16,13 @@ use pb_schema::{MessageId, Pool};
 use pb_wire::Output;
 use std::alloc::Global;
 
+/// A pool and a type of it.
+#[derive(Clone, Copy)]
+struct Typed<'p> {
+    pool: &'p Pool,
+    message_type: MessageId,
+}
+
 /// Makes it of the message of a file: nothing is printed before the message is accepted.
 pub fn message<'a, F: Files, O: Output>(
     alloc: Global,
@@ -32,7 +39,11 @@ pub fn message<'a, F: Files, O: Output>(
     ensures unfailing { F.is_steady files.old ≡ true → F.takes_writes files.old ≡ true → F.failures files.new ≡ F.failures files.old }
 {
     let (pool, kind) = find_type(alloc, source.reading, source.set, source.type_name, files)?;
-    let answer = message_at(alloc, cleanup, form, &pool, kind, source.file, files, out);
+    let of = Typed {
+        pool: &pool,
+        message_type: kind,
+    };
+    let answer = message_at(alloc, cleanup, form, of, source.file, files, out);
     clean_up(pool, cleanup);
     answer
 }
@@ -53,16 +64,12 @@ pub fn json<'a, F: Files, O: Output>(
     ensures unfailing { F.is_steady files.old ≡ true → F.takes_writes files.old ≡ true → F.failures files.new ≡ F.failures files.old }
 {
     let named = find_named_type(alloc, source.reading, source.set, source.type_name, files)?;
-    let answer = message_at(
-        alloc,
-        cleanup,
-        Form::Json(layout, &named.names),
-        &named.pool,
-        named.message_type,
-        source.file,
-        files,
-        out,
-    );
+    let form = Form::Json(layout, &named.names);
+    let of = Typed {
+        pool: &named.pool,
+        message_type: named.message_type,
+    };
+    let answer = message_at(alloc, cleanup, form, of, source.file, files, out);
     clean_up(named, cleanup);
     answer
 }
@@ -72,20 +79,19 @@ fn message_at<'a, F: Files, O: Output>(
     alloc: Global,
     cleanup: Cleanup,
     form: Form<'a, '_>,
-    pool: &Pool,
-    message_type: MessageId,
+    of: Typed<'_>,
     path: &'a str,
     files: &mut F,
     out: &mut O,
 ) -> Result<(), Refusal<'a>>
-    requires { message_type.0 < length pool.now.messages }
+    requires { of.message_type.0 < length of.pool.now.messages }
     ensures comes { Comes (Sent O.written O.failures out.old out.new) (Cut O.written O.failures out.old out.new)
         (IsSaved F.contents files.old files.new) (IsUnsaved F.contents F.failures files.old files.new)
-        (MessageAt F.contents F.is_steady files.old form.entry pool.now message_type.0 path.entry.now) IsNothing result }
+        (MessageAt F.contents F.is_steady files.old form.entry of.entry.pool.now of.entry.message_type.0 path.entry.now) IsNothing result }
     ensures kept { KeepsFailures F.failures files.old files.new result }
     ensures unfailing { F.is_steady files.old ≡ true → F.takes_writes files.old ≡ true → F.failures files.new ≡ F.failures files.old }
 {
-    let message = read_message(alloc, pool, message_type, path, files)?;
+    let message = read_message(alloc, of.pool, of.message_type, path, files)?;
     let answer = make(form, &message, files, out);
     clean_up(message, cleanup);
     answer

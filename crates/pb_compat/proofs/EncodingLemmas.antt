@@ -46,7 +46,7 @@ use Rattle.pb_compat.proofs.HoldingLemmas.{key_scalar}
 
 -- LISTS OF RECORDS
 
-all_sound-append : {S : Schema} {c : S.Context} {room : ℕ} {rs ss : List Record} → AllSound S c room rs → AllSound S c room ss → AllSound S c room (rs ++ ss)
+all_sound-append : {S : Schema} {c : S.Context} {depth_left : ℕ} {rs ss : List Record} → AllSound S c depth_left rs → AllSound S c depth_left ss → AllSound S c depth_left (rs ++ ss)
 all_sound-append AllSound.none h = h
 all_sound-append (AllSound.one x xs) h = AllSound.one x (all_sound-append xs h)
 
@@ -143,27 +143,27 @@ module _ (pool : Types) where
 -- GROUPS THAT NO SCHEMA KNOWS
 
 mutual
-  sound_in_group : (pool : Types) (room n : ℕ) (p : Payload) → depth p ≤ room → Sound (schema_of pool) unknown_group room n p
-  sound_in_group pool room n (varint i) l = Sound.is_varint
-  sound_in_group pool room n (fixed64 i) l = Sound.is_fixed64
-  sound_in_group pool room n (len s) l = Sound.some_bytes refl
+  sound_in_group : (pool : Types) (depth_left n : ℕ) (p : Payload) → depth p ≤ depth_left → Sound (schema_of pool) unknown_group depth_left n p
+  sound_in_group pool depth_left n (varint i) l = Sound.is_varint
+  sound_in_group pool depth_left n (fixed64 i) l = Sound.is_fixed64
+  sound_in_group pool depth_left n (len s) l = Sound.some_bytes refl
   sound_in_group pool zero n (group g) l = absurd (omega (arith, l))
-  sound_in_group pool (suc room) n (group g) l = Sound.a_group (group_of-records_in g) (sound_group pool room g (omega (arith, l)))
-  sound_in_group pool room n (fixed32 i) l = Sound.is_fixed32
+  sound_in_group pool (suc depth_left) n (group g) l = Sound.a_group (group_of-records_in g) (sound_group pool depth_left g (omega (arith, l)))
+  sound_in_group pool depth_left n (fixed32 i) l = Sound.is_fixed32
 
-  sound_group : (pool : Types) (room : ℕ) (g : Group) → group_depth g ≤ room → AllSound (schema_of pool) unknown_group room (records_in g)
-  sound_group pool room no_more l = AllSound.none
-  sound_group pool room (more k p g) l = AllSound.one (sound_in_group pool room k p (omega (arith, l))) (sound_group pool room g (omega (arith, l)))
+  sound_group : (pool : Types) (depth_left : ℕ) (g : Group) → group_depth g ≤ depth_left → AllSound (schema_of pool) unknown_group depth_left (records_in g)
+  sound_group pool depth_left no_more l = AllSound.none
+  sound_group pool depth_left (more k p g) l = AllSound.one (sound_in_group pool depth_left k p (omega (arith, l))) (sound_group pool depth_left g (omega (arith, l)))
 
 -- a record of a number that the type does not declare is not looked into
-sound_lost : (pool : Types) (t room k : ℕ) (p : Payload) → field_numbered k (message_fields pool t) ≡ None → depth p ≤ room → Sound (schema_of pool) (a_message t) room k p
-sound_lost pool t room k (varint i) e l = Sound.is_varint
-sound_lost pool t room k (fixed64 i) e l = Sound.is_fixed64
-sound_lost pool t room k (len s) e l = Sound.some_bytes (ap (read_field (a_message t)) e)
+sound_lost : (pool : Types) (t depth_left k : ℕ) (p : Payload) → field_numbered k (message_fields pool t) ≡ None → depth p ≤ depth_left → Sound (schema_of pool) (a_message t) depth_left k p
+sound_lost pool t depth_left k (varint i) e l = Sound.is_varint
+sound_lost pool t depth_left k (fixed64 i) e l = Sound.is_fixed64
+sound_lost pool t depth_left k (len s) e l = Sound.some_bytes (ap (read_field (a_message t)) e)
 sound_lost pool t zero k (group g) e l = absurd (omega (arith, l))
-sound_lost pool t (suc room) k (group g) e l =
-    Sound.a_group (group_of-records_in g) (subst (λ (d : Context). AllSound (schema_of pool) d room (records_in g)) (sym (ap group_of_field e)) (sound_group pool room g (omega (arith, l))))
-sound_lost pool t room k (fixed32 i) e l = Sound.is_fixed32
+sound_lost pool t (suc depth_left) k (group g) e l =
+    Sound.a_group (group_of-records_in g) (subst (λ (d : Context). AllSound (schema_of pool) d depth_left (records_in g)) (sym (ap group_of_field e)) (sound_group pool depth_left g (omega (arith, l))))
+sound_lost pool t depth_left k (fixed32 i) e l = Sound.is_fixed32
 
 -- HOW FIELDS ARE READ
 
@@ -205,29 +205,29 @@ no_key (shape.List p) e = refl
 -- SCALARS
 
 sound_scalar :
-    (old new : Types) (c : Context) (room n : ℕ) (t : Shape) (a b : Kind) (x : Scalar) → key_of t ≡ None → read_field c (field_numbered n (fields_in new c)) ≡ read_shaped c t b → keeps_scalars old new a b ≡ true → IsOfKind a x
-    → Sound (schema_of new) c room n (written a x)
-sound_scalar old new c room n t kind.Int32 b (int32 z) none reading keeps h = Sound.is_varint
-sound_scalar old new c room n t kind.Int64 b (int64 z) none reading keeps h = Sound.is_varint
-sound_scalar old new c room n t kind.Uint32 b (uint32 i) none reading keeps h = Sound.is_varint
-sound_scalar old new c room n t kind.Uint64 b (uint64 i) none reading keeps h = Sound.is_varint
-sound_scalar old new c room n t kind.Sint32 b (int32 z) none reading keeps h = Sound.is_varint
-sound_scalar old new c room n t kind.Sint64 b (int64 z) none reading keeps h = Sound.is_varint
-sound_scalar old new c room n t kind.Bool b (boolean x) none reading keeps h = Sound.is_varint
-sound_scalar old new c room n t (kind.Enum e) b (enum z) none reading keeps h = Sound.is_varint
-sound_scalar old new c room n t (kind.ClosedEnum e) b (enum z) none reading keeps h = Sound.is_varint
-sound_scalar old new c room n t kind.Fixed64 b (uint64 i) none reading keeps h = Sound.is_fixed64
-sound_scalar old new c room n t kind.Sfixed64 b (int64 z) none reading keeps h = Sound.is_fixed64
-sound_scalar old new c room n t kind.Double b (double i) none reading keeps h = Sound.is_fixed64
-sound_scalar old new c room n t kind.Fixed32 b (uint32 i) none reading keeps h = Sound.is_fixed32
-sound_scalar old new c room n t kind.Sfixed32 b (int32 z) none reading keeps h = Sound.is_fixed32
-sound_scalar old new c room n t kind.Float b (float i) none reading keeps h = Sound.is_fixed32
-sound_scalar old new c room n t kind.Text kind.Text (text s) none reading keeps h = Sound.a_text (reading ∙ reads_text c t none) h
-sound_scalar old new c room n t kind.Text kind.Bytes (text s) none reading keeps h = Sound.some_bytes (reading ∙ reads_bytes c t none)
-sound_scalar old new c room n t kind.Text b (text s) none reading keeps h = absurd (cc)
-sound_scalar old new c room n t kind.Bytes kind.Bytes (bytes s) none reading keeps h = Sound.some_bytes (reading ∙ reads_bytes c t none)
-sound_scalar old new c room n t kind.Bytes b (bytes s) none reading keeps h = absurd (cc)
-sound_scalar old new c room n t a b x none reading keeps h = absurd h
+    (old new : Types) (c : Context) (depth_left n : ℕ) (t : Shape) (a b : Kind) (x : Scalar) → key_of t ≡ None → read_field c (field_numbered n (fields_in new c)) ≡ read_shaped c t b → keeps_scalars old new a b ≡ true → IsOfKind a x
+    → Sound (schema_of new) c depth_left n (written a x)
+sound_scalar old new c depth_left n t kind.Int32 b (int32 z) none reading keeps h = Sound.is_varint
+sound_scalar old new c depth_left n t kind.Int64 b (int64 z) none reading keeps h = Sound.is_varint
+sound_scalar old new c depth_left n t kind.Uint32 b (uint32 i) none reading keeps h = Sound.is_varint
+sound_scalar old new c depth_left n t kind.Uint64 b (uint64 i) none reading keeps h = Sound.is_varint
+sound_scalar old new c depth_left n t kind.Sint32 b (int32 z) none reading keeps h = Sound.is_varint
+sound_scalar old new c depth_left n t kind.Sint64 b (int64 z) none reading keeps h = Sound.is_varint
+sound_scalar old new c depth_left n t kind.Bool b (boolean x) none reading keeps h = Sound.is_varint
+sound_scalar old new c depth_left n t (kind.Enum e) b (enum z) none reading keeps h = Sound.is_varint
+sound_scalar old new c depth_left n t (kind.ClosedEnum e) b (enum z) none reading keeps h = Sound.is_varint
+sound_scalar old new c depth_left n t kind.Fixed64 b (uint64 i) none reading keeps h = Sound.is_fixed64
+sound_scalar old new c depth_left n t kind.Sfixed64 b (int64 z) none reading keeps h = Sound.is_fixed64
+sound_scalar old new c depth_left n t kind.Double b (double i) none reading keeps h = Sound.is_fixed64
+sound_scalar old new c depth_left n t kind.Fixed32 b (uint32 i) none reading keeps h = Sound.is_fixed32
+sound_scalar old new c depth_left n t kind.Sfixed32 b (int32 z) none reading keeps h = Sound.is_fixed32
+sound_scalar old new c depth_left n t kind.Float b (float i) none reading keeps h = Sound.is_fixed32
+sound_scalar old new c depth_left n t kind.Text kind.Text (text s) none reading keeps h = Sound.a_text (reading ∙ reads_text c t none) h
+sound_scalar old new c depth_left n t kind.Text kind.Bytes (text s) none reading keeps h = Sound.some_bytes (reading ∙ reads_bytes c t none)
+sound_scalar old new c depth_left n t kind.Text b (text s) none reading keeps h = absurd (cc)
+sound_scalar old new c depth_left n t kind.Bytes kind.Bytes (bytes s) none reading keeps h = Sound.some_bytes (reading ∙ reads_bytes c t none)
+sound_scalar old new c depth_left n t kind.Bytes b (bytes s) none reading keeps h = absurd (cc)
+sound_scalar old new c depth_left n t a b x none reading keeps h = absurd h
 
 -- PACKED LISTS
 
@@ -256,14 +256,14 @@ elements_sound pool k (datum (message m) ds) can h = absurd (no_message_of pool 
 
 -- MESSAGES ONE LEVEL DOWN
 
-some_below : (room n : ℕ) → suc n ≤ room → (below : ℕ) × (room ≡ suc below)
+some_below : (depth_left n : ℕ) → suc n ≤ depth_left → (below : ℕ) × (depth_left ≡ suc below)
 some_below zero n l = absurd (omega (arith, l))
 some_below (suc below) n l = (below, refl)
 
 -- the canonical records of a message one level down are sound
 abbrev pub SoundBelow : Types → Types → (ℕ → ℕ → Type 0) → ℕ → Type 0
-SoundBelow old new Pair room =
-    (m n : ℕ) (v : Message) → Pair m n → IsBody old m v → HasNoUnknown v → suc (message_depth v) ≤ room → AreWritable (canon old m v) → (below : ℕ) × (room ≡ suc below) × AllSound (schema_of new) (a_message n) below (canon old m v)
+SoundBelow old new Pair depth_left =
+    (m n : ℕ) (v : Message) → Pair m n → IsBody old m v → HasNoUnknown v → suc (message_depth v) ≤ depth_left → AreWritable (canon old m v) → (below : ℕ) × (depth_left ≡ suc below) × AllSound (schema_of new) (a_message n) below (canon old m v)
 
 scalar_alone : (k : Kind) (x : Scalar) → IsOfKind k x → message_of_kind k ≡ None
 scalar_alone (kind.Message i) y h = absurd h
@@ -274,7 +274,7 @@ scalar_alone k y h = refl
 abbrev Leads : (ℕ → ℕ → Type 0) → Kind → Kind → Type 0
 Leads Pair a b = (i j : ℕ) → message_of_kind a ≡ Some i → message_of_kind b ≡ Some j → Pair i j
 
-module _ (old new : Types) (Pair : ℕ → ℕ → Type 0) (room : ℕ) (inside : SoundBelow old new Pair room) (good : (m : ℕ) (v : Message) → IsBody old m v → AreGood (canon old m v)) where
+module _ (old new : Types) (Pair : ℕ → ℕ → Type 0) (depth_left : ℕ) (inside : SoundBelow old new Pair depth_left) (good : (m : ℕ) (v : Message) → IsBody old m v → AreGood (canon old m v)) where
   -- the bytes of a message spell its records
   spells : (m : ℕ) (v : Message) → IsBody old m v → IsWritable (sealed (canon old m v)) → AreRecords (canon old m v) (shortest_records (canon old m v)) × AreWritable (canon old m v)
   spells m v w short =
@@ -283,8 +283,8 @@ module _ (old new : Types) (Pair : ℕ → ℕ → Type 0) (room : ℕ) (inside 
 
   -- a message in a field
   sound_message : (u n : ℕ) (t : Shape) (a b : Kind) (v : Message) → key_of t ≡ None → read_field (a_message u) (field_numbered n (message_fields new u)) ≡ read_shaped (a_message u) t b → group_of_field (field_numbered n (message_fields new u)) ≡ group_shaped t b
-      → (keeps : keeps_kind old new a b ≡ true) → (pair : Leads Pair a b) → IsDatum old a (message v) → HasNoUnknown v → suc (message_depth v) ≤ room → IsWritable (payload_of old a (message v))
-      → Sound (schema_of new) (a_message u) room n (payload_of old a (message v))
+      → (keeps : keeps_kind old new a b ≡ true) → (pair : Leads Pair a b) → IsDatum old a (message v) → HasNoUnknown v → suc (message_depth v) ≤ depth_left → IsWritable (payload_of old a (message v))
+      → Sound (schema_of new) (a_message u) depth_left n (payload_of old a (message v))
   sound_message u n t (kind.Message i) (kind.Message j) v none reading grouping keeps pair w known l short =
       let fine = spells i.0 v w short in
       let below = inside i.0 j.0 v (pair i.0 j.0 refl refl) w known l fine.1 in
@@ -299,8 +299,8 @@ module _ (old new : Types) (Pair : ℕ → ℕ → Type 0) (room : ℕ) (inside 
   sound_message u n t a b v none reading grouping keeps pair w known l short = absurd w
 
   -- a message that is the value of an entry, at the level of the entry
-  sound_entry_message : (l a b : Kind) (below : ℕ) (v : Message) → is_group a ≡ false → room ≡ suc below
-      → (keeps : keeps_kind old new a b ≡ true) → (pair : Leads Pair a b) → IsDatum old a (message v) → HasNoUnknown v → suc (message_depth v) ≤ room → IsWritable (payload_of old a (message v))
+  sound_entry_message : (l a b : Kind) (below : ℕ) (v : Message) → is_group a ≡ false → depth_left ≡ suc below
+      → (keeps : keeps_kind old new a b ≡ true) → (pair : Leads Pair a b) → IsDatum old a (message v) → HasNoUnknown v → suc (message_depth v) ≤ depth_left → IsWritable (payload_of old a (message v))
       → Sound (schema_of new) (an_entry l b) below 2 (payload_of old a (message v))
   sound_entry_message l (kind.Message i) (kind.Message j) below v single level keeps pair w known deep short =
       let fine = spells i.0 v w short in
@@ -314,18 +314,18 @@ module _ (old new : Types) (Pair : ℕ → ℕ → Type 0) (room : ℕ) (inside 
 
   module _ (u : ℕ) (a b : Kind) (keeps : keeps_kind old new a b ≡ true) (pair : Leads Pair a b) (name : List ℕ) (n : ℕ) where
     sound_datum : (t : Shape) (d : Datum) → key_of t ≡ None → read_field (a_message u) (field_numbered n (message_fields new u)) ≡ read_shaped (a_message u) t b → group_of_field (field_numbered n (message_fields new u)) ≡ group_shaped t b
-        → IsDatum old a d → ValueHasNoUnknown d → levels_of d ≤ room → IsWritable (payload_of old a d) → Sound (schema_of new) (a_message u) room n (payload_of old a d)
-    sound_datum t (scalar x) none reading grouping w known l short = sound_scalar old new (a_message u) room n t a b x none reading (kept_scalars old new a b (scalar_alone a x w) keeps) w
+        → IsDatum old a d → ValueHasNoUnknown d → levels_of d ≤ depth_left → IsWritable (payload_of old a d) → Sound (schema_of new) (a_message u) depth_left n (payload_of old a d)
+    sound_datum t (scalar x) none reading grouping w known l short = sound_scalar old new (a_message u) depth_left n t a b x none reading (kept_scalars old new a b (scalar_alone a x w) keeps) w
     sound_datum t (message v) none reading grouping w known l short = sound_message u n t a b v none reading grouping keeps pair w known l short
 
     sound_each : (s t : Shape) (ds : Datums) → key_of t ≡ None → read_field (a_message u) (field_numbered n (message_fields new u)) ≡ read_shaped (a_message u) t b → group_of_field (field_numbered n (message_fields new u)) ≡ group_shaped t b
-        → AreDatums old a ds → ValuesHaveNoUnknown ds → datums_depth ds ≤ room → AreWritable (canon_each old (field_with name n a s) ds) → AllSound (schema_of new) (a_message u) room (canon_each old (field_with name n a s) ds)
+        → AreDatums old a ds → ValuesHaveNoUnknown ds → datums_depth ds ≤ depth_left → AreWritable (canon_each old (field_with name n a s) ds) → AllSound (schema_of new) (a_message u) depth_left (canon_each old (field_with name n a s) ds)
     sound_each s t no_datums none reading grouping w known l short = AllSound.none
     sound_each s t (datum d ds) none reading grouping w known l short =
         AllSound.one (sound_datum t d none reading grouping w.0 known.0 (omega (arith, l)) short.1) (sound_each s t ds none reading grouping w.1 known.1 (omega (arith, l)) short.2)
 
     sound_packed : (p : Bool) (d : Datum) (ds : Datums) → read_field (a_message u) (field_numbered n (message_fields new u)) ≡ read_shaped (a_message u) (shape.List p) b → is_packable a ≡ true
-        → AreDatums old a (datum d ds) → datums_declared old a (datum d ds) ≡ true → Sound (schema_of new) (a_message u) room n (len (packed_bytes a (datum d ds)))
+        → AreDatums old a (datum d ds) → datums_declared old a (datum d ds) ≡ true → Sound (schema_of new) (a_message u) depth_left n (len (packed_bytes a (datum d ds)))
     sound_packed p (scalar x) ds reading can w declared =
         let scalars = kept_scalars old new a b (no_message a can) keeps in
         let first = (and_both (is_declared old a x) (datums_declared old a ds) declared).0 in
@@ -334,17 +334,17 @@ module _ (old new : Types) (Pair : ℕ → ℕ → Type 0) (room : ℕ) (inside 
         (subst (λ (e : Element). AreElements e (packed_bytes a (datum (scalar x) ds))) (ap wire_element (sym (same_wire old new a b scalars x w.0 first)) ∙ sym (element_wire b can_too)) (elements_sound old a (datum (scalar x) ds) can w))
     sound_packed p (message v) ds reading can w declared = absurd (no_message_of old a v (no_message a can) w.0)
 
-    sound_value : (l : Kind) (below : ℕ) (d : Datum) → is_group a ≡ false → room ≡ suc below → IsDatum old a d → ValueHasNoUnknown d → suc (levels_in_entry d) ≤ room → IsWritable (payload_of old a d)
+    sound_value : (l : Kind) (below : ℕ) (d : Datum) → is_group a ≡ false → depth_left ≡ suc below → IsDatum old a d → ValueHasNoUnknown d → suc (levels_in_entry d) ≤ depth_left → IsWritable (payload_of old a d)
         → Sound (schema_of new) (an_entry l b) below 2 (payload_of old a d)
     sound_value l below (scalar x) alone level w known deep short = sound_scalar old new (an_entry l b) below 2 shape.Explicit a b x refl refl (kept_scalars old new a b (scalar_alone a x w) keeps) w
     sound_value l below (message v) alone level w known deep short = sound_entry_message l a b below v alone level keeps pair w known deep short
 
     sound_entries : (key l : Kind) (es : Entries) → keeps_scalars old new key l ≡ true → read_field (a_message u) (field_numbered n (message_fields new u)) ≡ wire.message (an_entry l b) → is_group a ≡ false → AreEntries old key a es → EntriesHaveNoUnknown es
-        → entries_depth es ≤ room → AreWritable (canon_entries old (field_with name n a (shape.Map key)) es) → AllSound (schema_of new) (a_message u) room (canon_entries old (field_with name n a (shape.Map key)) es)
+        → entries_depth es ≤ depth_left → AreWritable (canon_entries old (field_with name n a (shape.Map key)) es) → AllSound (schema_of new) (a_message u) depth_left (canon_entries old (field_with name n a (shape.Map key)) es)
     sound_entries key l no_entries keys reading alone w known deep short = AllSound.none
     sound_entries key l (entry x d es) keys reading alone w known deep short =
-        let level : suc (levels_in_entry d) ≤ room = omega (arith, deep) in
-        let below = some_below room (levels_in_entry d) level in
+        let level : suc (levels_in_entry d) ≤ depth_left = omega (arith, deep) in
+        let below = some_below depth_left (levels_in_entry d) level in
         let good_pair = entry_records-good old (λ m rs. body no_fields rs) 0 (λ m v h k. absurd (omega (arith, k))) good key a x d w.0 w.1 in
         let fine = writable_records (entry_records old key a x d) good_pair.numbered short.1 in
         AllSound.one
@@ -366,8 +366,8 @@ module _ (old new : Types) (Pair : ℕ → ℕ → Type 0) (room : ℕ) (inside 
     list_plain (shape.List p) e = refl
 
     sound_holding : (s t : Shape) (h : Holding) → read_field (a_message u) (field_numbered n (message_fields new u)) ≡ read_shaped (a_message u) t b → group_of_field (field_numbered n (message_fields new u)) ≡ group_shaped t b
-        → MayBePacked s a → MayBeValue s a → HasKeyKind s → keeps_shape old new s t ≡ true → IsOfShape s h → IsHeld old s a h → holds_declared old a h ≡ true → HoldsNoUnknown h → holding_depth h ≤ room
-        → AreWritable (canon_holding old (field_with name n a s) h) → AllSound (schema_of new) (a_message u) room (canon_holding old (field_with name n a s) h)
+        → MayBePacked s a → MayBeValue s a → HasKeyKind s → keeps_shape old new s t ≡ true → IsOfShape s h → IsHeld old s a h → holds_declared old a h ≡ true → HoldsNoUnknown h → holding_depth h ≤ depth_left
+        → AreWritable (canon_holding old (field_with name n a s) h) → AllSound (schema_of new) (a_message u) depth_left (canon_holding old (field_with name n a s) h)
     sound_holding shape.Implicit t (one d) reading grouping can may key fit shaped w declared known l short = AllSound.one (sound_datum t d (no_key t fit) reading grouping w known l short.1) AllSound.none
     sound_holding shape.Explicit t (one d) reading grouping can may key fit shaped w declared known l short = AllSound.one (sound_datum t d (no_key t fit) reading grouping w known l short.1) AllSound.none
     sound_holding (shape.OneofMember o) t (one d) reading grouping can may key fit shaped w declared known l short = AllSound.one (sound_datum t d (no_key t fit) reading grouping w known l short.1) AllSound.none
@@ -381,10 +381,10 @@ module _ (old new : Types) (Pair : ℕ → ℕ → Type 0) (room : ℕ) (inside 
 
   -- values of a field of implicit presence, of which the new kind keeps all but the default
   sound_others : (u n : ℕ) (a b : Kind) (h : Holding) (s : Shape) → is_implicit s ≡ true → keeps_others new a b ≡ true → IsOfShape s h → IsHeld old s a h → (name : List ℕ)
-      → AllSound (schema_of new) (a_message u) room (canon_holding old (field_with name n a s) h)
+      → AllSound (schema_of new) (a_message u) depth_left (canon_holding old (field_with name n a s) h)
   sound_others u n a b (one (scalar x)) s i keeps shaped w name = AllSound.one (by a b x keeps w) AllSound.none
     where
-      by : (a b : Kind) (x : Scalar) → keeps_others new a b ≡ true → IsOfKind a x → Sound (schema_of new) (a_message u) room n (written a x)
+      by : (a b : Kind) (x : Scalar) → keeps_others new a b ≡ true → IsOfKind a x → Sound (schema_of new) (a_message u) depth_left n (written a x)
       by kind.Bool (kind.ClosedEnum e) (boolean x) keeps w = Sound.is_varint
       by kind.Int32 (kind.ClosedEnum e) (int32 z) keeps w = Sound.is_varint
       by (kind.Enum j) (kind.ClosedEnum e) (enum z) keeps w = Sound.is_varint
@@ -403,61 +403,61 @@ module _ (old new : Types) (Pair : ℕ → ℕ → Type 0) (room : ℕ) (inside 
   sound_others u n a b h s i keeps shaped w name = absurd (cc)
 
   -- records of a number that the new type does not declare
-  sound_lost_all : (u k : ℕ) (rs : List Record) → field_numbered k (message_fields new u) ≡ None → AllNumbered k rs → records_depth rs ≤ room → AllSound (schema_of new) (a_message u) room rs
+  sound_lost_all : (u k : ℕ) (rs : List Record) → field_numbered k (message_fields new u) ≡ None → AllNumbered k rs → records_depth rs ≤ depth_left → AllSound (schema_of new) (a_message u) depth_left rs
   unfolding AllNumbered
   sound_lost_all u k [] e h l = AllSound.none
   sound_lost_all u k (r ∷ rs) e h l =
-      AllSound.one (sound_lost new u room r.number r.payload (ap (λ (i : ℕ). field_numbered i (message_fields new u)) h.0 ∙ e) (omega (arith, l))) (sound_lost_all u k rs e h.1 (omega (arith, l)))
+      AllSound.one (sound_lost new u depth_left r.number r.payload (ap (λ (i : ℕ). field_numbered i (message_fields new u)) h.0 ∙ e) (omega (arith, l))) (sound_lost_all u k rs e h.1 (omega (arith, l)))
 
 -- ONE LEVEL
 
 module _ (old new : Types) (rules_old : IsPool old) (rules_new : IsPool new) (start : ℕ × ℕ) (unbroken : (fields : ℕ) (p : ℕ × ℕ) → fields ≤ 100 → ReachedIn old new start fields p → NoneBreaks old new p.0 p.1) where
-  module _ (room fields : ℕ) (few : fields ≤ 100) (inside : SoundBelow old new (Pair old new rules_old rules_new start unbroken (suc fields)) room) (m n : ℕ) (pair : Pair old new rules_old rules_new start unbroken fields m n) where
-    sound_at : (k : ℕ) (f : FieldView) (h : Holding) → field_numbered k (message_fields old m) ≡ Some f → IsOfShape f.shape h → IsHeld old f.shape f.kind h → holds_declared old f.kind h ≡ true → HoldsNoUnknown h → holding_depth h ≤ room
-        → AreWritable (canon_holding old f h) → AllSound (schema_of new) (a_message n) room (canon_holding old f h)
+  module _ (depth_left fields : ℕ) (few : fields ≤ 100) (inside : SoundBelow old new (Pair old new rules_old rules_new start unbroken (suc fields)) depth_left) (m n : ℕ) (pair : Pair old new rules_old rules_new start unbroken fields m n) where
+    sound_at : (k : ℕ) (f : FieldView) (h : Holding) → field_numbered k (message_fields old m) ≡ Some f → IsOfShape f.shape h → IsHeld old f.shape f.kind h → holds_declared old f.kind h ≡ true → HoldsNoUnknown h → holding_depth h ≤ depth_left
+        → AreWritable (canon_holding old f h) → AllSound (schema_of new) (a_message n) depth_left (canon_holding old f h)
     sound_at k f h found shaped w declared known l short = by (field_numbered k (message_fields new n)) refl
       where
         by_kept : (g : FieldView) → IsKept old new m n f g → field_numbered f.number (message_fields new n) ≡ Some g → field_numbered k (message_fields new n) ≡ Some g → (b : Bool) → keeps_kind old new f.kind g.kind ≡ b
-            → AllSound (schema_of new) (a_message n) room (canon_holding old f h)
+            → AllSound (schema_of new) (a_message n) depth_left (canon_holding old f h)
         by_kept g kept there e true keeps =
-            sound_holding old new (Pair old new rules_old rules_new start unbroken (suc fields)) room inside (canon-good old rules_old) n f.kind g.kind keeps (lead old new rules_old rules_new start unbroken fields m n k f g pair found e) f.name f.number f.shape g.shape h
+            sound_holding old new (Pair old new rules_old rules_new start unbroken (suc fields)) depth_left inside (canon-good old rules_old) n f.kind g.kind keeps (lead old new rules_old rules_new start unbroken fields m n k f g pair found e) f.name f.number f.shape g.shape h
             (ap (read_field (a_message n)) there) (ap group_of_field there) (can_pack old m rules_old k f found) (may_be_value old m k f rules_old found) (key_kinds old m k f rules_old found) kept.shape shaped w declared known l short
         by_kept g kept there e false loses =
             let others = and_both (is_implicit f.shape) (keeps_others new f.kind g.kind) (ap (λ (b : Bool). b || (is_implicit f.shape && keeps_others new f.kind g.kind)) (sym loses) ∙ kept.kind) in
-            sound_others old new (Pair old new rules_old rules_new start unbroken (suc fields)) room inside (canon-good old rules_old) n f.number f.kind g.kind h f.shape others.0 others.1 shaped w f.name
+            sound_others old new (Pair old new rules_old rules_new start unbroken (suc fields)) depth_left inside (canon-good old rules_old) n f.number f.kind g.kind h f.shape others.0 others.1 shaped w f.name
 
-        by : (o : Option FieldView) → field_numbered k (message_fields new n) ≡ o → AllSound (schema_of new) (a_message n) room (canon_holding old f h)
+        by : (o : Option FieldView) → field_numbered k (message_fields new n) ≡ o → AllSound (schema_of new) (a_message n) depth_left (canon_holding old f h)
         by None e =
             let deep = depth_holding old f h in
-            sound_lost_all old new (Pair old new rules_old rules_new start unbroken (suc fields)) room inside (canon-good old rules_old) n k (canon_holding old f h) e (numbered_at old (message_fields old m) (can_pack old m rules_old) k h f found) (omega (arith, deep, l))
+            sound_lost_all old new (Pair old new rules_old rules_new start unbroken (suc fields)) depth_left inside (canon-good old rules_old) n k (canon_holding old f h) e (numbered_at old (message_fields old m) (can_pack old m rules_old) k h f found) (omega (arith, deep, l))
         by (Some g) e =
             let number : f.number ≡ k = found_number k (message_fields old m) f found in
             by_kept g (kept_unbroken old new m n k f g (unbroken fields (m, n) few pair) found e) (ap (λ (i : ℕ). field_numbered i (message_fields new n)) number ∙ e) e (keeps_kind old new f.kind g.kind) refl
 
-    sound_fields : (fs : Fields) → AreFields old (message_fields old m) fs → FieldsHaveNoUnknown fs → fields_depth fs ≤ room → AreWritable (canon_fields old (message_fields old m) fs) → AllSound (schema_of new) (a_message n) room (canon_fields old (message_fields old m) fs)
+    sound_fields : (fs : Fields) → AreFields old (message_fields old m) fs → FieldsHaveNoUnknown fs → fields_depth fs ≤ depth_left → AreWritable (canon_fields old (message_fields old m) fs) → AllSound (schema_of new) (a_message n) depth_left (canon_fields old (message_fields old m) fs)
     sound_fields no_fields w known l short = AllSound.none
     sound_fields (field k h fs) w known l short =
         let all = message_fields old m in
         let at = some_of (field_numbered k all) (λ (g : FieldView). IsOfShape g.shape h × IsHeld old g.shape g.kind h × (holds_declared old g.kind h ≡ true)) w.0 in
         let first : by_field (field_numbered k all) (λ (f : FieldView). canon_holding old f h) ≡ canon_holding old at.0 h = ap (λ (o : Option FieldView). by_field o (λ (f : FieldView). canon_holding old f h)) at.1 in
         let fine : AreWritable (canon_holding old at.0 h ++ canon_fields old all fs) = subst (λ (rs : List Record). AreWritable (rs ++ canon_fields old all fs)) first short in
-        subst (λ (rs : List Record). AllSound (schema_of new) (a_message n) room (rs ++ canon_fields old all fs)) (sym first)
+        subst (λ (rs : List Record). AllSound (schema_of new) (a_message n) depth_left (rs ++ canon_fields old all fs)) (sym first)
         (all_sound-append
         (sound_at k at.0 h at.1 at.2.0 at.2.1 at.2.2 known.0 (omega (arith, l)) (writable_first (canon_holding old at.0 h) (canon_fields old all fs) fine))
         (sound_fields fs w.1 known.1 (omega (arith, l)) (writable_rest (canon_holding old at.0 h) (canon_fields old all fs) fine)))
 
-    sound_body : (v : Message) → IsBody old m v → HasNoUnknown v → message_depth v ≤ room → AreWritable (canon old m v) → AllSound (schema_of new) (a_message n) room (canon old m v)
+    sound_body : (v : Message) → IsBody old m v → HasNoUnknown v → message_depth v ≤ depth_left → AreWritable (canon old m v) → AllSound (schema_of new) (a_message n) depth_left (canon old m v)
     sound_body (body fs us) w known l short =
         let all = message_fields old m in
         let same : canon_fields old all fs ++ us ≡ canon_fields old all fs = ap (λ (rs : List Record). canon_fields old all fs ++ rs) known.0 ∙ append-nil (canon_fields old all fs) in
-        subst (AllSound (schema_of new) (a_message n) room) (sym same) (sound_fields fs w.0 known.1 (omega (arith, l)) (writable_first (canon_fields old all fs) us short))
+        subst (AllSound (schema_of new) (a_message n) depth_left) (sym same) (sound_fields fs w.0 known.1 (omega (arith, l)) (writable_first (canon_fields old all fs) us short))
 
   -- ALL LEVELS
 
-  sound_within : (room fields m n : ℕ) (v : Message) → Pair old new rules_old rules_new start unbroken fields m n → fields + room ≤ 100 → IsBody old m v → HasNoUnknown v → message_depth v ≤ room → AreWritable (canon old m v) → AllSound (schema_of new) (a_message n) room (canon old m v)
+  sound_within : (depth_left fields m n : ℕ) (v : Message) → Pair old new rules_old rules_new start unbroken fields m n → fields + depth_left ≤ 100 → IsBody old m v → HasNoUnknown v → message_depth v ≤ depth_left → AreWritable (canon old m v) → AllSound (schema_of new) (a_message n) depth_left (canon old m v)
   sound_within zero fields m n v pair few w known l short = sound_body zero fields (omega (arith, few)) (λ i j x p b d k s. absurd (omega (arith, k))) m n pair v w known l short
-  sound_within (suc room) fields m n v pair few w known l short =
-      sound_body (suc room) fields (omega (arith, few)) (λ i j x p b d k s. (room, refl, sound_within room (suc fields) i j x p (omega (arith, few)) b d (omega (arith, k)) s)) m n pair v w known l short
+  sound_within (suc depth_left) fields m n v pair few w known l short =
+      sound_body (suc depth_left) fields (omega (arith, few)) (λ i j x p b d k s. (depth_left, refl, sound_within depth_left (suc fields) i j x p (omega (arith, few)) b d (omega (arith, k)) s)) m n pair v w known l short
 
 pub encodings_read : (old new : Types) → IsPool old → IsPool new → ReadsEncodings old new
 encodings_read old new rules_old rules_new m n unbroken v well known small =

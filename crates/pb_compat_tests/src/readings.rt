@@ -7,7 +7,7 @@ use pb_wire::Limits;
 use std::alloc::Global;
 use std::test::Fail;
 
-/// The integer that a value stands for.
+/// The integer that a value means.
 fn integer(value: &Value) -> Option<i128> {
     match value {
         Value::I32(number) | Value::Enum(number) => Some(*number as i128),

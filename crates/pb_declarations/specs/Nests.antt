@@ -2,7 +2,7 @@
 use Rattle.std.specs.Prelude.{ℕ, suc, max}
 use Rattle.pb_declarations.specs.Decls.{DeclaredMessage, message, DeclaredMessages, no_messages, more_messages}
 
--- how many messages stand in each other, the outermost among them
+-- how many messages are nested in each other, the outermost among them
 abbrev mutual
   pub nests : DeclaredMessage → ℕ
   nests (message head inner) = suc (all_nest inner)

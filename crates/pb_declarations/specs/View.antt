@@ -1,4 +1,4 @@
--- The trees that declarations stand for.
+-- The trees that declarations mean.
 use Rattle.std.specs.Prelude.{ℕ, ℤ, List, String, map, option_map, string_bytes}
 use Rattle.std.specs.declared.alloc.Global.{Global}
 use Rattle.pb_declarations.specs.Decls.{DeclaredField, DeclaredEnum, DeclaredMessage, message, messages_of, DeclaredMethod, DeclaredService, DeclaredFile}

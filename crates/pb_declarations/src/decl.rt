@@ -1,4 +1,4 @@
-//! What files declare (descriptor.proto). Numbers and indexes stand as they are written: whether they mean anything is judged where files
+//! What files declare (descriptor.proto). Numbers and indexes are kept as they are written: whether they mean anything is judged where files
 //! are linked.
 
 /// The type of a field, by its number in descriptor.proto (`FieldDescriptorProto.Type`).
@@ -100,7 +100,7 @@ pub struct FieldDecl {
     pub packed: Option<bool>,
     /// The index of its oneof in the message.
     pub oneof: Option<i32>,
-    /// Whether the field is a singular one with presence, which stands in a oneof of its own.
+    /// Whether the field is a singular one with presence, which is in a oneof of its own.
     pub proto3_optional: bool,
 }
 

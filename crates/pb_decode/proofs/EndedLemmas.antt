@@ -17,14 +17,14 @@ use Rattle.pb_building.specs.declared.open.part.Parent.{Parent as ParentKept}
 use Rattle.pb_building.specs.declared.open.part.Part.{Part as PartKept}
 use Rattle.pb_building.specs.declared.tokens.step.Step.{Step}
 use Rattle.pb_building.specs.declared.tokens.step.Step.TheVariants as step
-use Rattle.pb_building.specs.Open.Parents.{Part, Scope, Parent, parent_of, one_more_in, up_to, path_of, Stands}
+use Rattle.pb_building.specs.Open.Parents.{Part, Scope, Parent, parent_of, one_more_in, up_to, path_of, Reached}
 use Rattle.pb_building.specs.Open.PartView.{part_view, scope_view, parent_view}
 use Rattle.pb_building.specs.Open.Openings.{innermost_group}
 use Rattle.pb_building.specs.Tokens.After.{After}
 use Rattle.pb_building.specs.Close.Closes.{ClosesAt}
-use Rattle.pb_decode.specs.Reader.{State, parents_view, left_of, here, own_step, path_here, Reads, StandsAt, Reported}
+use Rattle.pb_decode.specs.Reader.{State, parents_view, left_of, here, own_step, path_here, Reads, HasReached, Reported}
 use Rattle.pb_decode.specs.Reader.Ended.{EndsWith}
-use Rattle.pb_decode.proofs.LengthSteps.{stands_here}
+use Rattle.pb_decode.proofs.LengthSteps.{reached_here}
 use Rattle.pb_building.proofs.AfterLemmas.{after_record, at_record}
 use Rattle.pb_building.proofs.GroupLemmas.{past_end_reported}
 use Rattle.pb_decode.proofs.FewRecords.{counts_fit}
@@ -40,12 +40,12 @@ pub parents_popped : (fs gs : List ParentKept) (f : ParentKept) (p : PartKept) �
 parents_popped fs gs f p is same = parents_split fs gs f is ∙ ap (λ (z : PartKept). parent_of (part_view z) f.number f.slot f.group (scope_view f.scope) ∷ parents_view gs) (sym same)
 
 -- AT A TAG the reader is after a whole record of the innermost part
-pub standing :
+pub has_reached :
     {pool : Types} {m depth levels : ℕ} {base : List Record} {p0 : Place} (s : State) (rest : List ℕ) (parents : List Parent) (now : Part) → Reads pool m depth levels base p0 s rest → s.next ≡ step.Tag → s.parents ≡ parents → s.now ≡ now
-    → Stands pool m depth levels base p0 parents now s.scope (here s rest)
-standing {pool} {m} {depth} {levels} {base} {p0} s rest parents now begun tag around is =
-    subst (λ (z : Part). Stands pool m depth levels base p0 parents z s.scope (here s rest)) is
-    (subst (λ (z : List Parent). Stands pool m depth levels base p0 z s.now s.scope (here s rest)) around
+    → Reached pool m depth levels base p0 parents now s.scope (here s rest)
+has_reached {pool} {m} {depth} {levels} {base} {p0} s rest parents now begun tag around is =
+    subst (λ (z : Part). Reached pool m depth levels base p0 parents z s.scope (here s rest)) is
+    (subst (λ (z : List Parent). Reached pool m depth levels base p0 z s.now s.scope (here s rest)) around
     (at_record (subst (λ (z : Step). After pool m depth levels base p0 s.parents z s.now s.scope (here s rest)) tag begun)))
 
 -- and where that ended, the reader is in the part that holds it
@@ -55,11 +55,11 @@ closed_here s t end rest at is =
     ∙ ap (λ (z : ℕ). record { at = z; known = option_map (λ (e : ℕ). e - z) t.scope.end; rest = rest }) (sym at)
 
 pub closed_reads :
-    {pool : Types} {m depth levels : ℕ} {base : List Record} {p0 : Place} (s t : State) (end : Option ℕ) (rest : List ℕ) → t.at ≡ s.at → t.next ≡ step.Tag → t.scope.end ≡ end → StandsAt pool m depth levels base p0 t (up_to end (here s rest))
+    {pool : Types} {m depth levels : ℕ} {base : List Record} {p0 : Place} (s t : State) (end : Option ℕ) (rest : List ℕ) → t.at ≡ s.at → t.next ≡ step.Tag → t.scope.end ≡ end → HasReached pool m depth levels base p0 t (up_to end (here s rest))
     → Reads pool m depth levels base p0 t rest
 closed_reads {pool} {m} {depth} {levels} {base} {p0} s t end rest at tag is h =
     subst (λ (z : Step). After pool m depth levels base p0 t.parents z t.now t.scope (here t rest)) (sym tag)
-    (after_record (subst (StandsAt pool m depth levels base p0 t) (closed_here s t end rest at is) h))
+    (after_record (subst (HasReached pool m depth levels base p0 t) (closed_here s t end rest at is) h))
 
 -- THE PARENT THAT IS TAKEN OUT
 
@@ -73,13 +73,13 @@ in_group_of parent parents k some = by_flag parent.group some
 -- it ends with this many bytes, and its parent is the innermost part
 pub part_closed :
     {pool : Types} {m depth levels : ℕ} {base : List Record} {p0 : Place} (s t : State) (f : Parent) (rest : List ℕ) (used : ℕ) → s.parents ≡ f ∷ t.parents → t.at ≡ s.at + used → t.next ≡ step.Tag → t.scope.end ≡ f.scope.end
-    → EndsWith (innermost_group s.parents) (here s rest) used → ((w : Place) → ClosesAt f.group f.number f.scope.end (here s rest) w → StandsAt pool m depth levels base p0 t w) → Reads pool m depth levels base p0 t (drop used rest)
+    → EndsWith (innermost_group s.parents) (here s rest) used → ((w : Place) → ClosesAt f.group f.number f.scope.end (here s rest) w → HasReached pool m depth levels base p0 t w) → Reads pool m depth levels base p0 t (drop used rest)
 part_closed {pool} {m} {depth} {levels} {base} {p0} s t f rest used around at tag end ends closes =
     by_group f.group (subst (λ (z : List Parent). EndsWith (innermost_group z) (here s rest) used) around ends) closes
   where
-    by_group : (g : Bool) → EndsWith (if g then Some f.number else None) (here s rest) used → ((w : Place) → ClosesAt g f.number f.scope.end (here s rest) w → StandsAt pool m depth levels base p0 t w)
+    by_group : (g : Bool) → EndsWith (if g then Some f.number else None) (here s rest) used → ((w : Place) → ClosesAt g f.number f.scope.end (here s rest) w → HasReached pool m depth levels base p0 t w)
         → Reads pool m depth levels base p0 t (drop used rest)
-    by_group true last put = stands_here t (drop used rest) (passed (here s rest) used) (put (passed (here s rest) used) last) tag (sym at) refl
+    by_group true last put = reached_here t (drop used rest) (passed (here s rest) used) (put (passed (here s rest) used) last) tag (sym at) refl
     by_group false last put =
         let none = last.0 in
         subst (λ (z : ℕ). Reads pool m depth levels base p0 t (drop z rest)) (sym none)
@@ -88,7 +88,7 @@ part_closed {pool} {m} {depth} {levels} {base} {p0} s t f rest used around at ta
 -- A GROUP at a known end
 group_reported :
     {pool : Types} {m depth levels : ℕ} {base : List Record} {p0 : Place} {parents : List Parent} {scope : Scope} {now : Part} {q : Place} (k : ℕ)
-    → Stands pool m depth levels base p0 parents now scope q → innermost_group parents ≡ Some k → q.known ≡ Some 0 → Bad (schema_of pool) (records (in_message m)) depth p0 (fault q.at (path_of parents) PastEnd)
+    → Reached pool m depth levels base p0 parents now scope q → innermost_group parents ≡ Some k → q.known ≡ Some 0 → Bad (schema_of pool) (records (in_message m)) depth p0 (fault q.at (path_of parents) PastEnd)
 group_reported {parents = []} k s some end = absurd (cc)
 group_reported {parents = parent ∷ parents} k s some end = past_end_reported s (in_group_of parent parents k some) end
 
@@ -97,7 +97,7 @@ pub group_at_end :
     → Reported pool m depth p0 (fault s.at (path_here s) PastEnd)
 group_at_end {pool} {m} {depth} {levels} {base} {p0} s rest begun tag some end =
     let (k, is) = the_group (innermost_group s.parents) some in
-    record { bad = subst (λ (z : List PathStep). Bad (schema_of pool) (records (in_message m)) depth p0 (fault s.at z PastEnd)) path (group_reported k (standing s rest s.parents s.now begun tag refl refl) is end); settled = λ same. absurd (cc) }
+    record { bad = subst (λ (z : List PathStep). Bad (schema_of pool) (records (in_message m)) depth p0 (fault s.at z PastEnd)) path (group_reported k (has_reached s rest s.parents s.now begun tag refl refl) is end); settled = λ same. absurd (cc) }
   where
     the_group : (o : Option ℕ) → is_some o ≡ true → (k : ℕ) × (o ≡ Some k)
     the_group (Some k) h = (k, refl)
@@ -121,7 +121,7 @@ pub list_few :
     → s.scope.counts k ≤ s.at
 list_few {pool} {m} {depth} {levels} {base} {p0} s rest k kd outer begun is =
     let list = at_list k kd outer (subst (λ (z : Step). After pool m depth levels base p0 s.parents z s.now s.scope (here s rest)) is begun) in
-    let few = counts_fit k list.stands in
+    let few = counts_fit k list.reached in
     let tag = list.has.tag.2.at in
     let size = list.length_is.length_is.2.at in
     let on = list.elements_are.moves.at in
@@ -134,6 +134,6 @@ list_ended {pool} {m} {depth} {levels} {base} {p0} s t rest k kd outer ok begun 
     let inside_list = subst (λ (z : Step). After pool m depth levels base p0 s.parents z s.now s.scope (here s rest)) is begun in
     let over = list_over k kd outer ok (list_can_hold k kd outer ok inside_list) inside_list end in
     closed_reads s t outer rest at tag (ap (λ (z : Scope). z.end) scope)
-    (subst (λ (z : List Parent). Stands pool m depth levels base p0 z t.now t.scope (up_to outer (here s rest))) (sym around)
-    (subst (λ (z : Part). Stands pool m depth levels base p0 s.parents z t.scope (up_to outer (here s rest))) (sym now)
-    (subst (λ (z : Scope). Stands pool m depth levels base p0 s.parents s.now z (up_to outer (here s rest))) (sym scope) over)))
+    (subst (λ (z : List Parent). Reached pool m depth levels base p0 z t.now t.scope (up_to outer (here s rest))) (sym around)
+    (subst (λ (z : Part). Reached pool m depth levels base p0 s.parents z t.scope (up_to outer (here s rest))) (sym now)
+    (subst (λ (z : Scope). Reached pool m depth levels base p0 s.parents s.now z (up_to outer (here s rest))) (sym scope) over)))

@@ -10,7 +10,7 @@ use Rattle.pb_schema.specs.Context.{Context}
 use Rattle.pb_wire.specs.declared.fault.PathStep.{PathStep}
 use Rattle.pb_building.specs.Open.Occurrences.{CountsOf}
 use Rattle.pb_building.specs.Open.Opened.{SoFar, Begun, a_message, a_value, a_group}
-use Rattle.pb_building.specs.Open.Parents.{Part, Scope, Parent, Held, inside, Stands}
+use Rattle.pb_building.specs.Open.Parents.{Part, Scope, Parent, Held, inside, Reached}
 use Rattle.pb_building.proofs.StepCounts.{occurrence-le-length}
 
 few_records : (rs : List Record) (b : List ℕ) → AreRecords rs b → length rs ≤ length b
@@ -37,13 +37,13 @@ begun_later (a_group levels tag is_open is_place) = let x = ap (λ (z : Place). 
 
 -- the counts of the innermost part
 pub counts_fit :
-    {pool : Types} {m depth levels : ℕ} {base : List Record} {p0 : Place} {parents : List Parent} {scope : Scope} {now : Part} {q : Place} (k : ℕ) → Stands pool m depth levels base p0 parents now scope q → scope.counts k ≤ q.at
+    {pool : Types} {m depth levels : ℕ} {base : List Record} {p0 : Place} {parents : List Parent} {scope : Scope} {now : Part} {q : Place} (k : ℕ) → Reached pool m depth levels base p0 parents now scope q → scope.counts k ≤ q.at
 counts_fit {scope = scope} k s = counts_after scope.counts k s.so_far s.counted
 
 -- and those of its parent
 pub parent_counts_fit :
     {pool : Types} {m depth levels : ℕ} {base : List Record} {p0 : Place} {parent : Parent} {parents : List Parent} {scope : Scope} {now : Part} {q : Place} (k : ℕ)
-    → Stands pool m depth levels base p0 (parent ∷ parents) now scope q → parent.scope.counts k ≤ q.at
+    → Reached pool m depth levels base p0 (parent ∷ parents) now scope q → parent.scope.counts k ≤ q.at
 parent_counts_fit {pool} {m} {depth} {levels} {base} {p0} {parent} {parents} {scope} {now} {q} k s =
     let before = outer_counts s.held in
     let at = s.so_far.moves.at in

@@ -20,14 +20,14 @@ use Rattle.pb_decode.proofs.DecodeLemmas.{some_text}
 
 -- what is read is a list of bytes
 pub bytes_taken : {pool : Types} {m : ℕ} {limits : Bounds} (b : List ℕ) (s : State) (held : List ℕ) → Took pool m limits b s held → All IsByte b
-bytes_taken b s held h = All-from_recursion IsByte b h.reads.stands.bytes
+bytes_taken b s held h = All-from_recursion IsByte b h.reads.reached.bytes
 
 both : (b more : List ℕ) → AreBytes b → AreBytes more → AreBytes (b ++ more)
 both [] more x y = y
 both (z ∷ b) more x y = (x.0, both b more x.1 y)
 
 pub bytes_with : {pool : Types} {m : ℕ} {limits : Bounds} (b more : List ℕ) (s : State) (held : List ℕ) → AreBytes more → Took pool m limits b s held → All IsByte (b ++ more)
-bytes_with b more s held bytes h = All-from_recursion IsByte (b ++ more) (both b more h.reads.stands.bytes bytes)
+bytes_with b more s held bytes h = All-from_recursion IsByte (b ++ more) (both b more h.reads.reached.bytes bytes)
 
 pub going_there : {pool : Types} {m : ℕ} {limits : Bounds} (b : List ℕ) (s : State) (held : List ℕ) → Took pool m limits b s held → IsGoing pool m limits b
 going_there {pool} {m} {limits} b s held h = by_stops h.stops

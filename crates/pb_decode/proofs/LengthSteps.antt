@@ -7,7 +7,7 @@ use Rattle.pb_schema.specs.Types.{Types}
 use Rattle.pb_building.specs.declared.open.part.Parent.{Parent as ParentKept}
 use Rattle.pb_building.specs.declared.tokens.step.Step.{Step}
 use Rattle.pb_building.specs.declared.tokens.step.Step.TheVariants as step
-use Rattle.pb_building.specs.Open.Parents.{Parent, Stands}
+use Rattle.pb_building.specs.Open.Parents.{Parent, Reached}
 use Rattle.pb_building.specs.Open.PartView.{part_view, scope_view, parent_view}
 use Rattle.pb_building.specs.Tokens.After.{After}
 use Rattle.pb_building.specs.declared.open.part.Part.{Part as PartKept}
@@ -34,19 +34,19 @@ after_here {pool} {m} {depth} {levels} {base} {p0} s rest u a at same =
     subst (After pool m depth levels base p0 s.parents s.next s.now s.scope) (place_here s rest u (place_up_to u s.scope.end a.ends) at same) a
 
 -- after a whole record, or where a part begins, a tag comes next
-pub stands_here :
-    {pool : Types} {m depth levels : ℕ} {base : List Record} {p0 : Place} (s : State) (rest : List ℕ) (u : Place) → Stands pool m depth levels base p0 s.parents s.now s.scope u → s.next ≡ step.Tag → u.at ≡ s.at → u.rest ≡ rest
+pub reached_here :
+    {pool : Types} {m depth levels : ℕ} {base : List Record} {p0 : Place} (s : State) (rest : List ℕ) (u : Place) → Reached pool m depth levels base p0 s.parents s.now s.scope u → s.next ≡ step.Tag → u.at ≡ s.at → u.rest ≡ rest
     → Reads pool m depth levels base p0 s rest
-stands_here {pool} {m} {depth} {levels} {base} {p0} s rest u h tag at same =
+reached_here {pool} {m} {depth} {levels} {base} {p0} s rest u h tag at same =
     after_here s rest u (subst (λ (z : Step). After pool m depth levels base p0 s.parents z s.now s.scope u) (sym tag) (after_record h)) at same
 
 -- a reader in what is opened is where it begins
 pub entered :
     {pool : Types} {m depth levels : ℕ} {base : List Record} {p0 : Place} (r : StateKept) (part : PartKept) (scope : ScopeKept) (parent : ParentKept) (parents : List Parent) (q : Place) → parents_view r.parents.items ≡ parent_view parent ∷ parents
-    → r.part ≡ part → r.scope ≡ scope → r.step ≡ step.Tag → q.at ≡ r.at → Stands pool m depth levels base p0 (parent_view parent ∷ parents) (part_view part) (scope_view scope) q → Reads pool m depth levels base p0 (state_view r) q.rest
+    → r.part ≡ part → r.scope ≡ scope → r.step ≡ step.Tag → q.at ≡ r.at → Reached pool m depth levels base p0 (parent_view parent ∷ parents) (part_view part) (scope_view scope) q → Reads pool m depth levels base p0 (state_view r) q.rest
 entered {pool} {m} {depth} {levels} {base} {p0} r part scope parent parents q is_parents is_part is_scope tag at h =
-    stands_here (state_view r) q.rest q
-    (subst (λ (z : List Parent). Stands pool m depth levels base p0 z (part_view r.part) (scope_view r.scope) q) (sym is_parents)
-    (subst (λ (z : PartKept). Stands pool m depth levels base p0 (parent_view parent ∷ parents) (part_view z) (scope_view r.scope) q) (sym is_part)
-    (subst (λ (z : ScopeKept). Stands pool m depth levels base p0 (parent_view parent ∷ parents) (part_view part) (scope_view z) q) (sym is_scope) h)))
+    reached_here (state_view r) q.rest q
+    (subst (λ (z : List Parent). Reached pool m depth levels base p0 z (part_view r.part) (scope_view r.scope) q) (sym is_parents)
+    (subst (λ (z : PartKept). Reached pool m depth levels base p0 (parent_view parent ∷ parents) (part_view z) (scope_view r.scope) q) (sym is_part)
+    (subst (λ (z : ScopeKept). Reached pool m depth levels base p0 (parent_view parent ∷ parents) (part_view part) (scope_view z) q) (sym is_scope) h)))
     tag at refl

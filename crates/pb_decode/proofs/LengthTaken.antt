@@ -1,30 +1,21 @@
 -- The length of a record, where its payload or its part begins.
-use Rattle.std.proofs.Common.{◌≡◌, ◌≢◌, ℕ, ◌≤◌, List, [], ◌∷◌, ◌++◌, length, sym, ap, subst, Option, Some, None, IfSome}
-use Rattle.std.specs.Prelude.{IfNone}
+use Rattle.std.proofs.Common.{◌≡◌, ◌≢◌, ℕ, List, [], ◌∷◌, ◌++◌, length, sym, ap, subst}
 use Rattle.pb_wire.specs.Record.{Record}
 use Rattle.pb_wire.specs.declared.fault.Cause.{Cause}
 use Rattle.pb_wire.specs.declared.fault.Cause.TheVariants.{Truncated}
 use Rattle.pb_wire.specs.declared.fault.PathStep.{PathStep}
-use Rattle.pb_wire.specs.Fault.{fault, Place, input_end, Reads as ReadsNumber, VarintFault, LengthFault}
+use Rattle.pb_wire.specs.Fault.{fault, Place, input_end, VarintFault, LengthFault}
 use Rattle.pb_wire.specs.Schema.{records}
 use Rattle.pb_wire.specs.Grammar.{Bad}
-use Rattle.pb_wire.specs.Scan.{given_at, passed}
 use Rattle.pb_schema.specs.Types.{Types}
 use Rattle.pb_schema.specs.Context.{a_message as in_message, schema_of}
 use Rattle.pb_building.specs.declared.open.target.Target.{Target}
 use Rattle.pb_building.specs.declared.tokens.step.Step.{Step}
 use Rattle.pb_building.specs.declared.tokens.step.Step.TheVariants as step
-use Rattle.pb_building.specs.Open.Parents.{EndsAt, path_of, next_step}
+use Rattle.pb_building.specs.Open.Parents.{path_of, next_step}
 use Rattle.pb_building.specs.Tokens.After.{awaited, After}
-use Rattle.pb_decode.specs.Reader.{State, left_of, here, own_step, path_here, Reads, Stops, cut, Reported}
-use Rattle.pb_building.proofs.ParentLemmas.{ends_along}
+use Rattle.pb_decode.specs.Reader.{State, here, own_step, path_here, Reads, Stops, cut, Reported}
 use Rattle.pb_building.proofs.TokenReports.{length_refused}
-
--- AFTER THE LENGTH the known end is where it was
-pub length_ends :
-    {pool : Types} {m depth levels : ℕ} {base : List Record} {p0 : Place} (s : State) (rest : List ℕ) (n size : ℕ) → Reads pool m depth levels base p0 s rest
-    → ReadsNumber (here s rest) n (passed (here s rest) size) → EndsAt (passed (here s rest) size) s.scope.end
-length_ends s rest n size begun h = ends_along h.0 s.scope.end h.2 begun.ends
 
 -- the reader awaits the length of this record
 pub at_length :
@@ -41,9 +32,10 @@ length_reported pool m depth p0 s k p byte c is bad =
     subst (λ (z : List PathStep). Bad (schema_of pool) (records (in_message m)) depth p0 (fault byte z c)) path bad
 
 pub length_fault_reported :
-    (pool : Types) (m depth : ℕ) (p0 : Place) (s : State) (k : ℕ) (p : Target) (c : Cause) → s.next ≡ step.Length k p → c ≢ Truncated
-    → Bad (schema_of pool) (records (in_message m)) depth p0 (fault s.at (path_of s.parents ++ next_step k s.scope ∷ []) c) → Reported pool m depth p0 (fault s.at (path_here s) c)
-length_fault_reported pool m depth p0 s k p c is not_cut bad = record { bad = length_reported pool m depth p0 s k p s.at c is bad; settled = not_cut }
+    {pool : Types} {m depth levels : ℕ} {base : List Record} {p0 : Place} (s : State) (rest : List ℕ) (k : ℕ) (p : Target) (c : Cause) → Reads pool m depth levels base p0 s rest → s.next ≡ step.Length k p → c ≢ Truncated
+    → LengthFault (here s rest) (fault s.at [] c) → Reported pool m depth p0 (fault s.at (path_here s) c)
+length_fault_reported {pool} {m} {depth} {p0 = p0} s rest k p c begun is not_cut bad =
+    record { bad = length_reported pool m depth p0 s k p s.at c is (length_refused k p (fault s.at [] c) begun (ap awaited is) bad); settled = not_cut }
 
 -- THE BYTES END inside the length
 pub length_short :
@@ -51,18 +43,3 @@ pub length_short :
     → VarintFault (here s rest) (fault (input_end (here s rest)) [] Truncated) → Stops pool m depth p0 s rest
 length_short {pool} {m} {depth} {levels} {base} {p0} s rest k p begun is bad =
     cut (length_reported pool m depth p0 s k p (input_end (here s rest)) Truncated is (length_refused k p (fault (input_end (here s rest)) [] Truncated) begun (ap awaited is) (LengthFault.token bad)))
-
--- WHAT IS REPORTED of the number at the start of the bytes
-pub number_there :
-    (s : State) (left : Option ℕ) (rest : List ℕ) (o : Option (ℕ × ℕ)) (n size : ℕ) → left ≡ left_of s → o ≡ Some (n, size)
-    → IfSome o (λ t. (t.1 ≤ length rest) × ReadsNumber (given_at s.at left rest) t.0 (passed (given_at s.at left rest) t.1)) → (size ≤ length rest) × ReadsNumber (here s rest) n (passed (here s rest) size)
-number_there s left rest o n size same is h =
-    subst (λ (z : Option ℕ). (size ≤ length rest) × ReadsNumber (given_at s.at z rest) n (passed (given_at s.at z rest) size)) same
-    (subst (λ (z : Option (ℕ × ℕ)). IfSome z (λ t. (t.1 ≤ length rest) × ReadsNumber (given_at s.at left rest) t.0 (passed (given_at s.at left rest) t.1))) is h)
-
-pub number_cut :
-    (s : State) (left : Option ℕ) (rest : List ℕ) (o : Option (ℕ × ℕ)) → left ≡ left_of s → o ≡ None → IfNone o (VarintFault (given_at s.at left rest) (fault (input_end (given_at s.at left rest)) [] Truncated))
-    → VarintFault (here s rest) (fault (input_end (here s rest)) [] Truncated)
-number_cut s left rest o same is h =
-    subst (λ (z : Option ℕ). VarintFault (given_at s.at z rest) (fault (input_end (given_at s.at z rest)) [] Truncated)) same
-    (subst (λ (z : Option (ℕ × ℕ)). IfNone z (VarintFault (given_at s.at left rest) (fault (input_end (given_at s.at left rest)) [] Truncated))) is h)

@@ -38,12 +38,12 @@ module _ {pool : Types} {m depth levels : ℕ} {base : List Record} {p0 : Place}
   payload_target = (at_payload k meant n payload_next).for_bytes
 
   pub payload_can : IsPool pool → CanHold pool s.now
-  payload_can ok = can_hold ok s.now (at_payload k meant n payload_next).stands
+  payload_can ok = can_hold ok s.now (at_payload k meant n payload_next).reached
 
   pub payload_few : s.scope.counts k ≤ s.at
   payload_few =
       let at = at_payload k meant n payload_next in
-      let few = counts_fit k at.stands in
+      let few = counts_fit k at.reached in
       let tag = at.has.tag.2.at in
       let size = at.length_is.length_is.2.at in
       omega (arith, few, tag, size)

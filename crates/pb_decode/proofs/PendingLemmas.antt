@@ -24,7 +24,7 @@ use Rattle.pb_building.specs.declared.tokens.step.Step.{Step}
 use Rattle.pb_building.specs.declared.tokens.step.Step.TheVariants as step
 use Rattle.pb_building.specs.Open.Opened as opened
 use Rattle.pb_building.specs.Open.Opened.{Begun}
-use Rattle.pb_building.specs.Open.Parents.{Part, message_part, entry_part, group_part, IsSameForm, IsPartOf, Takes, Parent, Scope, Held, at_top, inside, Stands}
+use Rattle.pb_building.specs.Open.Parents.{Part, message_part, entry_part, group_part, IsSameForm, IsPartOf, Takes, Parent, Scope, Held, at_top, inside, Reached}
 use Rattle.pb_building.specs.Tokens.Numbers.{a_varint, eight_bytes, four_bytes, IsCutVarint, IsCutNumber}
 use Rattle.pb_building.specs.Tokens.After.{tag, After}
 use Rattle.pb_decode.specs.Reader.{State}
@@ -52,10 +52,10 @@ path_size (inside {parents = parents} {steps = steps} up h begun form can deep c
     omega (arith, outer, e)
 
 -- WHERE THE BYTES END
-from_stands :
-    {pool : Types} {m depth held lists declared : ℕ} {b : List ℕ} {parents : List Parent} {now : Part} {scope : Scope} {q : Place} → (s : Stands pool m depth 101 [] (text_at b) parents now scope q)
+from_reached :
+    {pool : Types} {m depth held lists declared : ℕ} {b : List ℕ} {parents : List Parent} {now : Part} {scope : Scope} {q : Place} → (s : Reached pool m depth 101 [] (text_at b) parents now scope q)
     → Unfinished (schema_of pool) (context_of s.open_now) scope.depth_left q held lists declared → EndsInside (schema_of pool) (in_message m) depth b held (suc (length parents) + lists) declared
-from_stands {lists = lists} {parents = parents} {scope = scope} {q = q} s h = record {
+from_reached {lists = lists} {parents = parents} {scope = scope} {q = q} s h = record {
   open_now = s.open_now;
   depth_left = scope.depth_left;
   path = s.path;
@@ -77,10 +77,10 @@ nothing_cut u none empty = subst IsCutVarint same (VarintFault.cut_short (omega 
     same = ap (λ (k : Option ℕ). let p : Place = record { at = u.at; known = k; rest = [] } in p) (sym none) ∙ ap (λ (z : List ℕ). let p : Place = record { at = u.at; known = u.known; rest = z } in p) (sym empty)
 
 tag_cut :
-    {pool : Types} {m depth : ℕ} {b : List ℕ} {parents : List Parent} {now : Part} {scope : Scope} {u : Place} → Stands pool m depth 101 [] (text_at b) parents now scope u
+    {pool : Types} {m depth : ℕ} {b : List ℕ} {parents : List Parent} {now : Part} {scope : Scope} {u : Place} → Reached pool m depth 101 [] (text_at b) parents now scope u
     → IsCutVarint u ⊎ ((parents ≡ []) × IsOver u) → IsCutVarint u
 tag_cut s (inl h) = h
-tag_cut {pool} {m} {depth} {b} {parents} {now} {scope} {u} s (inr (none, over)) = by_end over (top_known (subst (λ (z : List Parent). Stands pool m depth 101 [] (text_at b) z now scope u) none s))
+tag_cut {pool} {m} {depth} {b} {parents} {now} {scope} {u} s (inr (none, over)) = by_end over (top_known (subst (λ (z : List Parent). Reached pool m depth 101 [] (text_at b) z now scope u) none s))
   where
     by_end : IsOver u → u.known ≡ None → IsCutVarint u
     by_end (inl ended) open_end = absurd (cc)
@@ -98,23 +98,23 @@ declared_in (step.Elements n k outer) = 0
 ends_at :
     {pool : Types} {m depth : ℕ} {b : List ℕ} (ok : IsPool pool) (next : Step) {parents : List Parent} {now : Part} {scope : Scope} {u : Place} → After pool m depth 101 [] (text_at b) parents next now scope u
     → WaitsAt next parents u → EndsInside (schema_of pool) (in_message m) depth b (length u.rest) (suc (length parents) + lists_in next) (declared_in next)
-ends_at ok step.Tag a w = let s = at_record a in from_stands s (in_tag (tag_cut s w) refl refl refl)
-ends_at ok (step.Varint n p) a w = let at = at_tag (tag n 0 p) a refl in from_stands at.stands (in_number at.has w refl refl refl)
-ends_at ok (step.I64 n p) a w = let at = at_tag (tag n 1 p) a refl in from_stands at.stands (in_number at.has w refl refl refl)
-ends_at ok (step.I32 n p) a w = let at = at_tag (tag n 5 p) a refl in from_stands at.stands (in_number at.has w refl refl refl)
+ends_at ok step.Tag a w = let s = at_record a in from_reached s (in_tag (tag_cut s w) refl refl refl)
+ends_at ok (step.Varint n p) a w = let at = at_tag (tag n 0 p) a refl in from_reached at.reached (in_number at.has w refl refl refl)
+ends_at ok (step.I64 n p) a w = let at = at_tag (tag n 1 p) a refl in from_reached at.reached (in_number at.has w refl refl refl)
+ends_at ok (step.I32 n p) a w = let at = at_tag (tag n 5 p) a refl in from_reached at.reached (in_number at.has w refl refl refl)
 ends_at {pool} ok (step.Length n p) {now = now} {scope = scope} a w =
     let at = at_tag (tag n 2 p) a refl in
-    from_stands at.stands
+    from_reached at.reached
     (in_length at.has
-    (subst (λ (c : Context). IsAllowed scope.depth_left ((schema_of pool).reading c n)) (sym (part_of_context now (context_of at.stands.open_now) at.stands.form)) (reads_allowed pool now n scope.depth_left p at.means at.has_level))
+    (subst (λ (c : Context). IsAllowed scope.depth_left ((schema_of pool).reading c n)) (sym (part_of_context now (context_of at.reached.open_now) at.reached.form)) (reads_allowed pool now n scope.depth_left p at.means at.has_level))
     w refl refl refl)
 ends_at ok (step.Payload n p size) {now = now} a w =
     let at = at_payload n p size a in
-    from_stands at.stands (in_payload at.has (payload_reading n p size a (can_hold ok now at.stands) at.for_bytes at) at.length_is w refl refl refl)
+    from_reached at.reached (in_payload at.has (payload_reading n p size a (can_hold ok now at.reached) at.for_bytes at) at.length_is w refl refl refl)
 ends_at {pool} ok (step.Elements n k outer) a w =
     let list = at_list n k outer a in
-    from_stands list.stands
-    (in_list list.has (list_reading pool (context_of list.stands.open_now) list.message_type n k list.stands.form list.means) list.length_is list.elements_are.whole list.elements_are.moves
+    from_reached list.reached
+    (in_list list.has (list_reading pool (context_of list.reached.open_now) list.message_type n k list.reached.form list.means) list.length_is list.elements_are.whole list.elements_are.moves
     (element_fault k (packs_here n k outer a) w) refl refl refl)
 
 pub ends_inside :
@@ -231,7 +231,7 @@ few_parents {pool} {depth = depth} (inside {parent = parent} {parents = parents}
         omega (arith, outer, one, none, levels)
 
 pub few_open : {pool : Types} {m : ℕ} {limits : Bounds} (b : List ℕ) (s : State) (held : List ℕ) → Took pool m limits b s held → suc (length s.parents) + lists_in s.next ≤ 2 * limits.depth + 2
-few_open b s held took = let few = few_parents took.reads.stands.held in let low = one_list s.next in omega (arith, few, low)
+few_open b s held took = let few = few_parents took.reads.reached.held in let low = one_list s.next in omega (arith, few, low)
   where
     one_list : (next : Step) → lists_in next ≤ 1
     one_list (step.Elements n k outer) = omega arith

@@ -16,7 +16,7 @@ use Rattle.pb_value.specs.Data.{Message, empty}
 use Rattle.pb_value.specs.Derives.{Text}
 use Rattle.pb_building.specs.declared.tokens.step.Step.{Step}
 use Rattle.pb_building.specs.declared.tokens.step.Step.TheVariants as step
-use Rattle.pb_building.specs.Open.Parents.{Part, message_part, Parent, Scope, Held, at_top, Stands}
+use Rattle.pb_building.specs.Open.Parents.{Part, message_part, Parent, Scope, Held, at_top, Reached}
 use Rattle.pb_building.specs.Tokens.After.{After}
 use Rattle.pb_decode.specs.Reader.{State, here, path_here, Reads, IsReading, Stops, over, cut, Reported}
 use Rattle.pb_decode.specs.Push.{Took, IsSettled}
@@ -73,7 +73,7 @@ took_more b piece s t held rest h fits at there = record {
 }
 
 -- no end is known of the whole input
-pub top_known : {pool : Types} {m depth levels : ℕ} {b : List ℕ} {now : Part} {scope : Scope} {q : Place} → Stands pool m depth levels [] (text_at b) [] now scope q → q.known ≡ None
+pub top_known : {pool : Types} {m depth levels : ℕ} {b : List ℕ} {now : Part} {scope : Scope} {q : Place} → Reached pool m depth levels [] (text_at b) [] now scope q → q.known ≡ None
 top_known {pool} {m} {depth} {levels} {b} {now} {q = q} s = from_held (length s.so_far.front) s.held s.so_far.moves.known
   where
     from_held :
@@ -82,29 +82,29 @@ top_known {pool} {m} {depth} {levels} {b} {now} {q = q} s = from_held (length s.
     from_held n (at_top v form is_open is_depth is_inner is_path is_place is_base goes_on) known = known ∙ ap (λ (z : Place). option_map (λ (e : ℕ). e - n) z.known) is_place
 
 -- at the top, and after a whole record
-pub stands_top :
+pub reached_top :
     {pool : Types} {m depth levels : ℕ} {b : List ℕ} (s : State) (held : List ℕ) → s.parents ≡ [] → s.next ≡ step.Tag → Reads pool m depth levels [] (text_at b) s held
-    → Stands pool m depth levels [] (text_at b) [] s.now s.scope (here s held)
-stands_top {pool} {m} {depth} {levels} {b} s held none tag h =
+    → Reached pool m depth levels [] (text_at b) [] s.now s.scope (here s held)
+reached_top {pool} {m} {depth} {levels} {b} s held none tag h =
     at_record
     (subst (λ (z : Step). After pool m depth levels [] (text_at b) [] z s.now s.scope (here s held)) tag
     (subst (λ (z : List Parent). After pool m depth levels [] (text_at b) z s.next s.now s.scope (here s held)) none h))
 
 pub top_over : {pool : Types} {m depth levels : ℕ} {b : List ℕ} (s : State) (held : List ℕ) → s.parents ≡ [] → s.next ≡ step.Tag → Reads pool m depth levels [] (text_at b) s held → IsOver (here s held) → held ≡ []
-top_over s held none tag h (inl ended) = let open_end = top_known (stands_top s held none tag h) in absurd (cc)
+top_over s held none tag h (inl ended) = let open_end = top_known (reached_top s held none tag h) in absurd (cc)
 top_over s held none tag h (inr ended) = ended.1
 
 -- a whole input, at the end of its bytes
 pub text_there :
     {pool : Types} {m : ℕ} {limits : Bounds} (b : List ℕ) (s : State) (held : List ℕ) → length b ≤ limits.bytes → s.parents ≡ [] → s.next ≡ step.Tag → held ≡ []
     → Reads pool m limits.depth 101 [] (text_at b) s held → (v : Message) × (s.now ≡ message_part m v) × Text pool m limits b v
-text_there {pool} {m} {limits} b s held size none tag empty h = from_top (is_top refl stands.held)
+text_there {pool} {m} {limits} b s held size none tag empty h = from_top (is_top refl reached.held)
   where
-    stands : Stands pool m limits.depth 101 [] (text_at b) [] s.now s.scope (here s held)
-    stands = stands_top s held none tag h
+    reached : Reached pool m limits.depth 101 [] (text_at b) [] s.now s.scope (here s held)
+    reached = reached_top s held none tag h
 
     from_top : (v : Message) × (s.now ≡ message_part m v) → (v : Message) × (s.now ≡ message_part m v) × Text pool m limits b v
-    from_top (v, is) = (v, is, text_read pool m limits b (text_at b) m v s.scope (here s held) refl size (subst (λ (z : Part). Stands pool m limits.depth 101 [] (text_at b) [] z s.scope (here s held)) is stands) empty)
+    from_top (v, is) = (v, is, text_read pool m limits b (text_at b) m v s.scope (here s held) refl size (subst (λ (z : Part). Reached pool m limits.depth 101 [] (text_at b) [] z s.scope (here s held)) is reached) empty)
 
 -- TOO MANY BYTES: those within the limit are read first
 pub front_bad :

@@ -19,7 +19,7 @@ use Rattle.pb_building.specs.Tokens.Numbers.{NumberFault}
 use Rattle.pb_building.specs.Tokens.After.{Tag, tag, awaited, After}
 use Rattle.pb_building.specs.declared.open.target.Target.{Target}
 use Rattle.pb_decode.specs.declared.reader.state.State.{State as StateKept}
-use Rattle.pb_decode.specs.Reader.{State, state_view, CanRead, here, own_step, path_here, Reads, Stops, cut, Taken, Reported, StandsAt, IfFault}
+use Rattle.pb_decode.specs.Reader.{State, state_view, CanRead, here, own_step, path_here, Reads, Stops, cut, Taken, Reported, HasReached, IfFault}
 use Rattle.pb_building.proofs.AfterLemmas.{after_record, number_reported}
 use Rattle.pb_building.proofs.PlaceLemmas.{slice_from}
 
@@ -116,12 +116,12 @@ pub number_refused :
 number_refused s rest t c begun is not_cut bad = record { bad = number_bad s rest t s.at c begun is bad; settled = not_cut }
 
 -- AFTER A WHOLE RECORD a tag comes next
-pub stands_reads :
+pub reached_reads :
     {pool : Types} {m depth levels : ℕ} {base : List Record} {p0 : Place} (s t : State) (size : ℕ) (rest : List ℕ) → t.at ≡ s.at + size → t.scope.end ≡ s.scope.end → t.next ≡ step.Tag
-    → StandsAt pool m depth levels base p0 t (passed (here s rest) size) → Reads pool m depth levels base p0 t (drop size rest)
-stands_reads {pool} {m} {depth} {levels} {base} {p0} s t size rest at end tag h =
+    → HasReached pool m depth levels base p0 t (passed (here s rest) size) → Reads pool m depth levels base p0 t (drop size rest)
+reached_reads {pool} {m} {depth} {levels} {base} {p0} s t size rest at end tag h =
     subst (λ (z : Step). After pool m depth levels base p0 t.parents z t.now t.scope (here t (drop size rest))) (sym tag)
-    (after_record (subst (StandsAt pool m depth levels base p0 t) (passed_here s t size rest at end) h))
+    (after_record (subst (HasReached pool m depth levels base p0 t) (passed_here s t size rest at end) h))
 
 -- what is reported of an error
 pub if_fault_weaker : (e : DecodeError) (P Q : Fault → Type 0) → ((f : Fault) → P f → Q f) → IfFault e P → IfFault e Q

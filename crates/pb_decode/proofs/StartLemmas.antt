@@ -19,12 +19,12 @@ use Rattle.pb_value.specs.WellFormed.{IsWellFormed}
 use Rattle.pb_building.specs.declared.tokens.step.Step.{Step}
 use Rattle.pb_building.specs.declared.tokens.step.Step.TheVariants as step
 use Rattle.pb_building.specs.Open.Opened.{SoFar}
-use Rattle.pb_building.specs.Open.Parents.{Part, message_part, Parent, Scope, EndsAt, Held, at_top, Stands}
+use Rattle.pb_building.specs.Open.Parents.{Part, message_part, Parent, Scope, EndsAt, Held, at_top, Reached}
 use Rattle.pb_building.specs.Tokens.After.{After}
 use Rattle.pb_decode.specs.Reader.{State, here, path_here, Reads, IsReading, Stops, over, cut}
 use Rattle.pb_decode.specs.Reader.Start.{Start, starting, further, TookFrom, IsOverAt, IsWhole, BadFrom}
 use Rattle.pb_building.proofs.AfterLemmas.{after_record, at_record}
-use Rattle.pb_building.proofs.ParentLemmas.{stands_at_start}
+use Rattle.pb_building.proofs.ParentLemmas.{reached_at_start}
 use Rattle.pb_decode.proofs.FinishLemmas.{cut_reported}
 use Rattle.pb_whole.proofs.Top.{is_top, top_well_formed}
 
@@ -53,17 +53,17 @@ took_further o s t held rest more h at there = record {
 
 -- THE END
 -- where nothing is open but the message, the reader is after a whole record of it
-pub stands_over : {pool : Types} (o : Start) (s : State) (held : List ℕ) → IsOverAt s held → TookFrom pool o s held → Stands pool o.kind o.depth 101 o.base o.place [] s.now s.scope (here s held)
-stands_over {pool} o s held ended h =
+pub reached_over : {pool : Types} (o : Start) (s : State) (held : List ℕ) → IsOverAt s held → TookFrom pool o s held → Reached pool o.kind o.depth 101 o.base o.place [] s.now s.scope (here s held)
+reached_over {pool} o s held ended h =
     at_record
     (subst (λ (z : Step). After pool o.kind o.depth 101 o.base o.place [] z s.now s.scope (here s held)) ended.next
     (subst (λ (z : List Parent). After pool o.kind o.depth 101 o.base o.place z s.next s.now s.scope (here s held)) ended.parents h.reads))
 
 pub is_message : {pool : Types} (o : Start) (s : State) (held : List ℕ) → IsOverAt s held → TookFrom pool o s held → (v : Message) × (s.now ≡ message_part o.kind v)
-is_message o s held ended h = is_top refl (stands_over o s held ended h).held
+is_message o s held ended h = is_top refl (reached_over o s held ended h).held
 
 -- whole records lead from the top's first byte to the reader's position
-whole_read : (pool : Types) (o : Start) (k : ℕ) (v : Message) (scope : Scope) (q : Place) → IsOver q → Stands pool o.kind o.depth 101 o.base o.place [] (message_part k v) scope q → IsWhole pool o v
+whole_read : (pool : Types) (o : Start) (k : ℕ) (v : Message) (scope : Scope) (q : Place) → IsOver q → Reached pool o.kind o.depth 101 o.base o.place [] (message_part k v) scope q → IsWhole pool o v
 unfolding value
 whole_read pool o k v scope q ended s = from_held s.held s.so_far s.worth
   where
@@ -88,11 +88,11 @@ whole_read pool o k v scope q ended s = from_held s.held s.so_far s.worth
 pub whole_there : {pool : Types} (o : Start) (s : State) (held : List ℕ) (k : ℕ) (w : Message) → IsOverAt s held → s.now ≡ message_part k w → TookFrom pool o s held → IsWhole pool o w
 whole_there {pool} o s held k w ended is h =
     whole_read pool o k w s.scope (here s held) ended.over
-    (subst (λ (z : Part). Stands pool o.kind o.depth 101 o.base o.place [] z s.scope (here s held)) is (stands_over o s held ended h))
+    (subst (λ (z : Part). Reached pool o.kind o.depth 101 o.base o.place [] z s.scope (here s held)) is (reached_over o s held ended h))
 
 pub well_formed_over : {pool : Types} (o : Start) (s : State) (held : List ℕ) (k : ℕ) (w : Message) → IsPool pool → IsOverAt s held → s.now ≡ message_part k w → TookFrom pool o s held → IsWellFormed pool o.kind w
 well_formed_over {pool} o s held k w ok ended is h =
-    top_well_formed k w ok (subst (λ (z : Part). Stands pool o.kind o.depth 101 o.base o.place [] z s.scope (here s held)) is (stands_over o s held ended h))
+    top_well_formed k w ok (subst (λ (z : Part). Reached pool o.kind o.depth 101 o.base o.place [] z s.scope (here s held)) is (reached_over o s held ended h))
 
 -- what is begun is cut short
 pub cut_over : {pool : Types} (o : Start) (s : State) (held : List ℕ) → (IsOverAt s held → ⊥) → TookFrom pool o s held → BadFrom pool o (fault (s.at + length held) (path_here s) Truncated)
@@ -129,26 +129,26 @@ begins_there n (at_top v form is_open is_depth is_inner is_path is_place is_base
     subst (λ (z : Open Context). Begins z (given_at 0 (Some (suc n)) [])) (sym is_open) ((λ e. let same : Some (suc n) ≡ Some 0 = e in absurd (cc)), (λ e. let same : Some (suc n) ≡ None = e in absurd (cc)))
 
 stops_at_start :
-    {pool : Types} (k depth : ℕ) (base : List Record) (v : Part) (scope : Scope) (end : Option ℕ) → scope.end ≡ end → Stands pool k depth 101 base (given_at 0 end []) [] v scope (given_at 0 end [])
+    {pool : Types} (k depth : ℕ) (base : List Record) (v : Part) (scope : Scope) (end : Option ℕ) → scope.end ≡ end → Reached pool k depth 101 base (given_at 0 end []) [] v scope (given_at 0 end [])
     → Stops pool k depth (given_at 0 end []) (started v scope) []
 unfolding started
-stops_at_start k depth base v scope None is stands = over refl refl (inr (ap (option_map (λ (e : ℕ). e - 0)) is, refl))
-stops_at_start k depth base v scope (Some zero) is stands = over refl refl (inl (ap (option_map (λ (e : ℕ). e - 0)) is))
-stops_at_start k depth base v scope (Some (suc n)) is stands = cut (cut_reported stands (begins_there n stands.held) refl (λ e. let same : Some (suc n) ≡ Some 0 = e in absurd (cc)))
+stops_at_start k depth base v scope None is reached = over refl refl (inr (ap (option_map (λ (e : ℕ). e - 0)) is, refl))
+stops_at_start k depth base v scope (Some zero) is reached = over refl refl (inl (ap (option_map (λ (e : ℕ). e - 0)) is))
+stops_at_start k depth base v scope (Some (suc n)) is reached = cut (cut_reported reached (begins_there n reached.held) refl (λ e. let same : Some (suc n) ≡ Some 0 = e in absurd (cc)))
 
 took_started :
     (pool : Types) (k depth : ℕ) (base : List Record) (end : Option ℕ) (v : Message) (scope : Scope) → scope.depth_left ≡ depth → scope.end ≡ end → ((n : ℕ) → scope.counts n ≡ 0) → depth ≤ 100 → k < length pool.messages
     → IsWellFormed pool k v → v ≡ value pool k base → TookFrom pool (starting k depth base end) (started (message_part k v) scope) []
 unfolding value started
 took_started pool k depth base end v scope depth_left is_end counts deep within good is = record {
-  reads = subst (λ (z : Place). After pool k depth 101 base (given_at 0 end []) [] step.Tag (message_part k v) scope z) placed (after_record stands);
-  stops = stops_at_start k depth base (message_part k v) scope end is_end stands;
+  reads = subst (λ (z : Place). After pool k depth 101 base (given_at 0 end []) [] step.Tag (message_part k v) scope z) placed (after_record reached);
+  stops = stops_at_start k depth base (message_part k v) scope end is_end reached;
   at = omega arith;
 }
   where
-    stands : Stands pool k depth 101 base (given_at 0 end []) [] (message_part k v) scope (given_at 0 end [])
-    stands =
-        stands_at_start pool k depth 101 base (given_at 0 end []) scope v (omega (arith, deep)) is within good.parts (let low = good.depth in omega (arith, low)) tt depth_left counts
+    reached : Reached pool k depth 101 base (given_at 0 end []) [] (message_part k v) scope (given_at 0 end [])
+    reached =
+        reached_at_start pool k depth 101 base (given_at 0 end []) scope v (omega (arith, deep)) is within good.parts (let low = good.depth in omega (arith, low)) tt depth_left counts
         (subst (EndsAt (given_at 0 end [])) (sym is_end) (ends_at_start end))
 
     placed : given_at 0 end [] ≡ given_at 0 (option_map (λ (e : ℕ). e - 0) scope.end) []

@@ -1,11 +1,10 @@
 -- A tag, or the end of the input, where a reader is after a whole record.
 use Rattle.std.proofs.Common.{◌≡◌, ◌≢◌, ℕ, zero, suc, ◌+◌, ◌-◌, ◌<◌, ◌≤◌, List, [], ◌∷◌, ◌++◌, length, refl, sym, ap, ◌∙◌, subst, arith, append-nil, inl, inr, ◌⊎◌, Option, Some, None, option_map}
-use Rattle.std.specs.Prelude.{IfSome, IfNone}
 use Rattle.pb_wire.specs.Record.{Record}
 use Rattle.pb_wire.specs.declared.fault.Cause.{Cause}
 use Rattle.pb_wire.specs.declared.fault.Cause.TheVariants.{Truncated}
 use Rattle.pb_wire.specs.declared.fault.PathStep.{PathStep}
-use Rattle.pb_wire.specs.Fault.{fault, Place, input_end, Reads as HasNumber, HasTag, TagFault, VarintFault}
+use Rattle.pb_wire.specs.Fault.{Fault, fault, Place, input_end, HasTag, TagFault, LengthFault, VarintFault}
 use Rattle.pb_wire.specs.Scan.{given_at, passed}
 use Rattle.pb_wire.proofs.Tokens.{ends_some}
 use Rattle.pb_wire.specs.Schema.{Open, records, in_group}
@@ -16,12 +15,12 @@ use Rattle.pb_building.specs.declared.tokens.step.Step.{Step}
 use Rattle.pb_building.specs.declared.tokens.step.Step.TheVariants as step
 use Rattle.pb_building.specs.Open.Opened.{Begun}
 use Rattle.pb_building.specs.Open.Opened as opened
-use Rattle.pb_building.specs.Open.Parents.{Part, Scope, Parent, path_of, Held, inside, Stands}
+use Rattle.pb_building.specs.Open.Parents.{Part, Scope, Parent, path_of, Held, inside, Reached}
 use Rattle.pb_decode.specs.Reader.{State, left_of, here, own_step, path_here, weight, Reads, Stops, over, cut, Reported}
 use Rattle.pb_decode.specs.Reader.Ended.{NothingEnds, StepGoesOn}
 use Rattle.pb_building.proofs.OpenedLemmas.{cut_at_end}
 use Rattle.pb_building.proofs.AfterLemmas.{reported_here}
-use Rattle.pb_decode.proofs.EndedLemmas.{standing}
+use Rattle.pb_decode.proofs.EndedLemmas.{has_reached}
 
 -- A STEP weighs at most as much as half a byte
 pub light : (s : Step) → weight s ≤ 1
@@ -33,32 +32,27 @@ light (step.Length n p) = omega arith
 light (step.Payload n p size) = omega arith
 light (step.Elements n k outer) = omega arith
 
--- A NUMBER has a byte at least
-pub number_long : {n : ℕ} (p : Place) (size : ℕ) → HasNumber p n (passed p size) → 0 < size
-number_long p size h = let some = ends_some h.0 h.1.ends in let at = h.2.at in omega (arith, some, at)
+-- A TAG has a byte at least
+pub tag_long : {k w : ℕ} (p : Place) (size : ℕ) → HasTag p k w (passed p size) → 0 < size
+tag_long p size h = let some = ends_some h.tag.0 h.tag.1.ends in let at = h.tag.2.at in omega (arith, some, at)
 
--- THE NUMBER AT THE START, with this many bytes before the known end
-pub front_whole :
-    (at : ℕ) (e f : Option ℕ) (rest : List ℕ) (o : Option (ℕ × ℕ)) (n size : ℕ) → o ≡ Some (n, size) → e ≡ f → IfSome o (λ t. (t.1 ≤ length rest) × HasNumber (given_at at e rest) t.0 (passed (given_at at e rest) t.1))
-    → (size ≤ length rest) × HasNumber (given_at at f rest) n (passed (given_at at f rest) size)
-front_whole at e f rest o n size is same h =
-    subst (λ (z : Option ℕ). (size ≤ length rest) × HasNumber (given_at at z rest) n (passed (given_at at z rest) size)) same
-    (subst (λ (z : Option (ℕ × ℕ)). IfSome z (λ t. (t.1 ≤ length rest) × HasNumber (given_at at e rest) t.0 (passed (given_at at e rest) t.1))) is h)
+-- what is so with this many bytes before the known end
+pub at_own_left : (P : Place → Type 0) (s : State) (e : Option ℕ) (rest : List ℕ) → e ≡ left_of s → P (given_at s.at e rest) → P (here s rest)
+at_own_left P s e rest is h = subst (λ (z : Option ℕ). P (given_at s.at z rest)) is h
 
--- and the tag that it is
-pub tag_here :
-    (s : State) (e : Option ℕ) (rest : List ℕ) (o : Option (ℕ × ℕ)) (n size number type : ℕ) → o ≡ Some (n, size) → e ≡ left_of s → IfSome o (λ t. (t.1 ≤ length rest) × HasNumber (given_at s.at e rest) t.0 (passed (given_at s.at e rest) t.1))
-    → ((q u : Place) → HasNumber q n u → HasTag q number type u) → (size ≤ length rest) × HasTag (here s rest) number type (passed (here s rest) size)
-tag_here s e rest o n size number type is same h parts =
-    let whole = front_whole s.at e (left_of s) rest o n size is same h in
-    (whole.0, parts (here s rest) (passed (here s rest) size) whole.1)
+-- where the input ends inside a tag or a length it ends inside its varint
+pub cut_tag : {p : Place} {byte : ℕ} (innermost : Option ℕ) → TagFault innermost p (fault byte [] Truncated) → VarintFault p (fault byte [] Truncated)
+cut_tag innermost (TagFault.token v) = v
+cut_tag innermost (TagFault.too_large h l is) = absurd (let never = ap (λ (f : Fault). f.cause) is in cc)
+cut_tag innermost (TagFault.number_zero h l is) = absurd (let never = ap (λ (f : Fault). f.cause) is in cc)
+cut_tag innermost (TagFault.bad_type h a b l is) = absurd (let never = ap (λ (f : Fault). f.cause) is in cc)
+cut_tag innermost (TagFault.stray_end h l is) = absurd (let never = ap (λ (f : Fault). f.cause) is in cc)
+cut_tag innermost (TagFault.wrong_end h a b is) = absurd (let never = ap (λ (f : Fault). f.cause) is in cc)
 
-pub front_short :
-    (at : ℕ) (e f : Option ℕ) (rest : List ℕ) (o : Option (ℕ × ℕ)) → o ≡ None → e ≡ f → IfNone o (VarintFault (given_at at e rest) (fault (input_end (given_at at e rest)) [] Truncated))
-    → VarintFault (given_at at f rest) (fault (input_end (given_at at f rest)) [] Truncated)
-front_short at e f rest o is same h =
-    subst (λ (z : Option ℕ). VarintFault (given_at at z rest) (fault (input_end (given_at at z rest)) [] Truncated)) same
-    (subst (λ (z : Option (ℕ × ℕ)). IfNone z (VarintFault (given_at at e rest) (fault (input_end (given_at at e rest)) [] Truncated))) is h)
+pub cut_length : {p : Place} {byte : ℕ} → LengthFault p (fault byte [] Truncated) → VarintFault p (fault byte [] Truncated)
+cut_length (LengthFault.token v) = v
+cut_length (LengthFault.too_large h l is) = absurd (let never = ap (λ (f : Fault). f.cause) is in cc)
+cut_length (LengthFault.past_end h a l is) = absurd (let never = ap (λ (f : Fault). f.cause) is in cc)
 
 -- WHERE A RECORD BEGINS: the open part inside something else has a known end, or ends by a tag
 begun_known : (pool : Types) {a o : Open Context} {depth_left below k : ℕ} {q u : Place} (c : Context) → Begun (schema_of pool) a depth_left k q o below u → o ≡ records c → u.known ≡ None → ⊥
@@ -76,7 +70,7 @@ still_none front None f is none = refl
 still_none front (Some n) f is none = absurd (let never : Some (n - front) ≡ None = sym is ∙ none in cc)
 
 begins_inside :
-    {pool : Types} {m depth levels : ℕ} {base : List Record} {p0 : Place} {scope : Scope} {now : Part} {q : Place} (parents : List Parent) (s : Stands pool m depth levels base p0 parents now scope q) → (parents ≡ [] → q.known ≢ None) → q.known ≢ Some 0 → Begins s.open_now q
+    {pool : Types} {m depth levels : ℕ} {base : List Record} {p0 : Place} {scope : Scope} {now : Part} {q : Place} (parents : List Parent) (s : Reached pool m depth levels base p0 parents now scope q) → (parents ≡ [] → q.known ≢ None) → q.known ≢ Some 0 → Begins s.open_now q
 begins_inside {pool} {m} {depth} {levels} {base} {p0} {scope} {now} {q} parents s top open_end = by_open s.open_now refl
   where
     by_parents : (c : Context) (fs : List Parent) → parents ≡ fs → s.open_now ≡ records c → q.known ≡ None → ⊥
@@ -102,7 +96,7 @@ refused_at_tag {pool} {m} {depth} {p0} s c tag settled bad = record { bad = subs
 
 -- THE INPUT ENDS TOO EARLY
 cut_here :
-    {pool : Types} {m depth levels : ℕ} {base : List Record} {p0 : Place} (s : State) (rest : List ℕ) → s.next ≡ step.Tag → (h : Stands pool m depth levels base p0 s.parents s.now s.scope (here s rest)) → Begins h.open_now (here s rest)
+    {pool : Types} {m depth levels : ℕ} {base : List Record} {p0 : Place} (s : State) (rest : List ℕ) → s.next ≡ step.Tag → (h : Reached pool m depth levels base p0 s.parents s.now s.scope (here s rest)) → Begins h.open_now (here s rest)
     → RecordFault (schema_of pool) h.open_now h.records_so_far s.scope.depth_left (here s rest) (fault (input_end (here s rest)) [] Truncated) → Stops pool m depth p0 s rest
 cut_here {pool} {m} {depth} {p0 = p0} s rest tag h goes bad =
     cut (subst (λ (z : Step). Bad (schema_of pool) (records (in_message m)) depth p0 (fault (s.at + length rest) (path_of s.parents ++ own_step z s.scope) Truncated)) (sym tag)
@@ -113,7 +107,7 @@ pub tag_short :
     {pool : Types} {m depth levels : ℕ} {base : List Record} {p0 : Place} (s : State) (rest : List ℕ) → Reads pool m depth levels base p0 s rest → s.next ≡ step.Tag → left_of s ≢ Some 0 → rest ≢ []
     → VarintFault (here s rest) (fault (input_end (here s rest)) [] Truncated) → Stops pool m depth p0 s rest
 tag_short s rest begun tag open_end some bad =
-    let h = standing s rest s.parents s.now begun tag refl refl in
+    let h = has_reached s rest s.parents s.now begun tag refl refl in
     cut_here s rest tag h (begins_here h.open_now (here s rest) open_end some) (RecordFault.tag (TagFault.token bad))
 
 -- NOTHING IS LEFT: at the top that is the end, unless a known end is still to come
@@ -121,8 +115,8 @@ pub stops_at_tag :
     {pool : Types} {m depth levels : ℕ} {base : List Record} {p0 : Place} (s : State) (rest : List ℕ) → Reads pool m depth levels base p0 s rest → s.next ≡ step.Tag → NothingEnds s → (rest ≡ []) ⊎ (left_of s ≡ Some 0) → Stops pool m depth p0 s rest
 stops_at_tag {pool} {m} {depth} {levels} {base} {p0} s rest begun tag goes_on nothing = by_end (left_of s) refl nothing
   where
-    h : Stands pool m depth levels base p0 s.parents s.now s.scope (here s rest)
-    h = standing s rest s.parents s.now begun tag refl refl
+    h : Reached pool m depth levels base p0 s.parents s.now s.scope (here s rest)
+    h = has_reached s rest s.parents s.now begun tag refl refl
 
     cut_off : rest ≡ [] → (s.parents ≡ [] → left_of s ≢ None) → left_of s ≢ Some 0 → Stops pool m depth p0 s rest
     cut_off none top open_end = cut_here s rest tag h (begins_inside s.parents h top open_end) (cut_at_end none open_end)

@@ -14,31 +14,31 @@ use Rattle.pb_building.specs.declared.open.target.Target.TheVariants as target
 use Rattle.pb_building.specs.declared.tokens.record_tag.RecordTag.{RecordTag}
 use Rattle.pb_building.specs.declared.tokens.step.Step.{Step}
 use Rattle.pb_building.specs.declared.tokens.step.Step.TheVariants as step
-use Rattle.pb_building.specs.Open.Parents.{Part, message_part, entry_part, parent_of, CanHold, up_to, Stands}
+use Rattle.pb_building.specs.Open.Parents.{Part, message_part, entry_part, parent_of, CanHold, up_to, Reached}
 use Rattle.pb_building.specs.Open.Openings.{taken_message, without_message, depth_left_in}
 use Rattle.pb_building.specs.Open.Targets.{Means, part_context}
 use Rattle.pb_building.specs.Tokens.After.{HasLevelFor, After}
 use Rattle.pb_whole.specs.Reads.{IsOpen}
 use Rattle.pb_decode.specs.declared.reader.state.State.{State as StateKept}
-use Rattle.pb_decode.specs.Reader.{State, state_view, left_of, here, Reads, StandsAt, IsReading}
+use Rattle.pb_decode.specs.Reader.{State, state_view, left_of, here, Reads, HasReached, IsReading}
 use Rattle.pb_decode.specs.Reader.Steps.{IsAtTag}
 use Rattle.pb_building.proofs.AfterLemmas.{after_record}
 use Rattle.pb_building.proofs.PlaceLemmas.{slice_from}
 use Rattle.pb_building.proofs.WellLemmas.{can_hold}
 use Rattle.pb_whole.proofs.Payloads.{entry_begun, message_begun}
-use Rattle.pb_decode.proofs.EndedLemmas.{standing}
+use Rattle.pb_decode.proofs.EndedLemmas.{has_reached}
 use Rattle.pb_decode.proofs.FewRecords.{counts_fit}
 
 -- AFTER A WHOLE RECORD, where a tag may come
-pub tag_stands :
-    {pool : Types} {m depth levels : ℕ} {base : List Record} {p0 : Place} (s : State) (rest : List ℕ) → Reads pool m depth levels base p0 s rest → s.next ≡ step.Tag → Stands pool m depth levels base p0 s.parents s.now s.scope (here s rest)
-tag_stands s rest begun tag = standing s rest s.parents s.now begun tag refl refl
+pub tag_reached :
+    {pool : Types} {m depth levels : ℕ} {base : List Record} {p0 : Place} (s : State) (rest : List ℕ) → Reads pool m depth levels base p0 s rest → s.next ≡ step.Tag → Reached pool m depth levels base p0 s.parents s.now s.scope (here s rest)
+tag_reached s rest begun tag = has_reached s rest s.parents s.now begun tag refl refl
 
 pub tag_can : {pool : Types} {m depth levels : ℕ} {base : List Record} {p0 : Place} (s : State) (rest : List ℕ) → IsPool pool → Reads pool m depth levels base p0 s rest → s.next ≡ step.Tag → CanHold pool s.now
-tag_can s rest ok begun tag = can_hold ok s.now (tag_stands s rest begun tag)
+tag_can s rest ok begun tag = can_hold ok s.now (tag_reached s rest begun tag)
 
 pub tag_few : {pool : Types} {m depth levels : ℕ} {base : List Record} {p0 : Place} (s : State) (rest : List ℕ) (k : ℕ) → Reads pool m depth levels base p0 s rest → s.next ≡ step.Tag → s.scope.counts k ≤ s.at
-tag_few s rest k begun tag = counts_fit k (tag_stands s rest begun tag)
+tag_few s rest k begun tag = counts_fit k (tag_reached s rest begun tag)
 
 -- A TAG begins the bytes
 pub at_tag :
@@ -74,7 +74,7 @@ entry_in_reader s rest number tag_size start size key kd ok from tag has l means
   base = from.base;
   p0 = from.p0;
   parents = parent_of s.now number (slot.Map number) false s.scope ∷ s.parents;
-  stands = entry_begun s.at (left_of s) rest number tag_size start size s.scope.depth_left key kd ok (tag_stands s rest from.reads tag) refl has l means some;
+  reached = entry_begun s.at (left_of s) rest number tag_size start size s.scope.depth_left key kd ok (tag_reached s rest from.reads tag) refl has l means some;
 }
 
 pub message_in_reader :
@@ -90,16 +90,16 @@ message_in_reader s rest number tag_size start size below j t outer w ok from is
   base = from.base;
   p0 = from.p0;
   parents = parent_of outer number t false s.scope ∷ s.parents;
-  stands = message_begun s.at (left_of s) rest number tag_size start size s.scope.depth_left below j t outer w ok (tag_stands s rest from.reads tag) refl is_below has l means some is_outer is_taken;
+  reached = message_begun s.at (left_of s) rest number tag_size start size s.scope.depth_left below j t outer w ok (tag_reached s rest from.reads tag) refl is_below has l means some is_outer is_taken;
 }
 
 -- AFTER IT the reader has read that record
 pub inner_passed :
     {pool : Types} {m depth levels : ℕ} {base : List Record} {p0 : Place} (s t : State) (rest : List ℕ) (start size : ℕ) → t.at ≡ s.at + (start + size) → t.next ≡ step.Tag → t.scope.end ≡ s.scope.end
-    → StandsAt pool m depth levels base p0 t (up_to s.scope.end (passed (given_at (s.at + start) (Some size) (take (length rest - start) (drop start rest))) size)) → Reads pool m depth levels base p0 t (drop (start + size) rest)
+    → HasReached pool m depth levels base p0 t (up_to s.scope.end (passed (given_at (s.at + start) (Some size) (take (length rest - start) (drop start rest))) size)) → Reads pool m depth levels base p0 t (drop (start + size) rest)
 inner_passed {pool} {m} {depth} {levels} {base} {p0} s t rest start size at tag end there =
     subst (λ (z : Step). After pool m depth levels base p0 t.parents z t.now t.scope (here t (drop (start + size) rest))) (sym tag)
-    (after_record (subst (StandsAt pool m depth levels base p0 t) place there))
+    (after_record (subst (HasReached pool m depth levels base p0 t) place there))
   where
     at_is : (s.at + start) + size ≡ t.at
     at_is = let same : (s.at + start) + size ≡ s.at + (start + size) = omega arith in same ∙ sym at

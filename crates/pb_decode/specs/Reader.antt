@@ -23,7 +23,7 @@ use Rattle.pb_building.specs.declared.open.part.Parent.{Parent as ParentKept}
 use Rattle.pb_decode.specs.declared.reader.state.State.{State as StateKept}
 use Rattle.pb_building.specs.declared.tokens.step.Step.{Step}
 use Rattle.pb_building.specs.declared.tokens.step.Step.TheVariants as step
-use Rattle.pb_building.specs.Open.Parents.{Part, Scope, Parent, path_of, path_to, next_step, Stands}
+use Rattle.pb_building.specs.Open.Parents.{Part, Scope, Parent, path_of, path_to, next_step, Reached}
 use Rattle.pb_building.specs.Open.PartView.{part_view, scope_view, parent_view}
 use Rattle.pb_building.specs.Tokens.After.{After}
 
@@ -73,8 +73,8 @@ abbrev pub Reads : Types → ℕ → ℕ → ℕ → List Record → Place → S
 Reads pool m depth levels base p0 s rest = After pool m depth levels base p0 s.parents s.next s.now s.scope (here s rest)
 
 -- a whole record ends at this place, and the reader is after it
-abbrev pub StandsAt : Types → ℕ → ℕ → ℕ → List Record → Place → State → Place → Type 0
-StandsAt pool m depth levels base p0 s w = Stands pool m depth levels base p0 s.parents s.now s.scope w
+abbrev pub HasReached : Types → ℕ → ℕ → ℕ → List Record → Place → State → Place → Type 0
+HasReached pool m depth levels base p0 s w = Reached pool m depth levels base p0 s.parents s.now s.scope w
 
 -- what the reader has begun goes on at this place
 abbrev pub AfterAt : Types → ℕ → ℕ → ℕ → List Record → Place → State → Place → Type 0

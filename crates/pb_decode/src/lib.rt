@@ -8,7 +8,7 @@
 //! use std::test::Fail;
 //!
 //! /// How many fields a message of type T has, or where its bytes fail and why.
-//! fn told(alloc: Global, pool: &Pool, bytes: &[u8]) -> Result<String, Fail> {
+//! fn outcome(alloc: Global, pool: &Pool, bytes: &[u8]) -> Result<String, Fail> {
 //!     let message_type = pool.message_by_name("T").ok_or("no type T")?;
 //!     match decode(alloc, pool, message_type, bytes, Limits::FULL) {
 //!         Ok(message) => Ok(format!(in alloc; "{} fields", message.body().fields.len())?),

@@ -11,7 +11,7 @@ use Rattle.pb_value.specs.Dynamic.{Dynamic}
 use Rattle.pb_decode.specs.declared.error.DecodeError.{DecodeError}
 use Rattle.pb_decode.specs.Reader.{IfFault}
 
--- the pieces, one behind the other
+-- the pieces, one after the other
 abbrev pub joined : List (Bor (List ℕ)) → List ℕ
 joined pieces = concat (map (λ p. p.now) pieces)
 

@@ -8,7 +8,7 @@ use std::alloc::Global;
 use std::test::Fail;
 
 /// How many fields a message of type T has, or where its bytes fail and why.
-fn told(alloc: Global, pool: &Pool, bytes: &[u8]) -> Result<String, Fail> {
+fn outcome(alloc: Global, pool: &Pool, bytes: &[u8]) -> Result<String, Fail> {
     let message_type = pool.message_by_name("T").ok_or("no type T")?;
     match decode(alloc, pool, message_type, bytes, Limits::FULL) {
         Ok(message) => Ok(format!(in alloc; "{} fields", message.body().fields.len())?),
@@ -19,8 +19,8 @@ fn told(alloc: Global, pool: &Pool, bytes: &[u8]) -> Result<String, Fail> {
 #[test]
 fn first_call(rt: HostRuntime) -> Result<(), Fail> {
     let schema = sample(rt.alloc(), "T")?;
-    let whole = told(rt.alloc(), &schema.pool, b"\x08\x96\x01")?;
-    let cut = told(rt.alloc(), &schema.pool, b"\x08\x96")?;
+    let whole = outcome(rt.alloc(), &schema.pool, b"\x08\x96\x01")?;
+    let cut = outcome(rt.alloc(), &schema.pool, b"\x08\x96")?;
     assert!(rt; whole.as_str() == "1 fields" && cut.as_str() == "Truncated at byte 2");
     Ok(())
 }

@@ -80,8 +80,8 @@ message_below ms i m within is =
 pub bodies_done : (written : List Datum) (ms : List MessageDecl) (i : ℕ) → length ms ≤ i → written ≡ map message_body (map message_view (take i ms)) → written ≡ message_bodies (messages_of (map message_view ms))
 bodies_done written ms i past h = h ∙ ap (λ xs. map message_body (map message_view xs)) (take_past ms i past) ∙ sym (bodies_map (map message_view ms))
 
--- what is cut at less room and fewer levels is cut
-pub cut_further : (e : WriteSetError) (room levels room' levels' : ℕ) → (room < levels → room' < levels') → CutAt room levels e → CutAt room' levels' e
-cut_further TooDeep room levels room' levels' more cut = more cut
-cut_further TooLarge room levels room' levels' more cut = cut
-cut_further Memory room levels room' levels' more cut = cut
+-- what is cut at less depth_left and fewer levels is cut
+pub cut_further : (e : WriteSetError) (depth_left levels depth_left' levels' : ℕ) → (depth_left < levels → depth_left' < levels') → CutAt depth_left levels e → CutAt depth_left' levels' e
+cut_further TooDeep depth_left levels depth_left' levels' more cut = more cut
+cut_further TooLarge depth_left levels depth_left' levels' more cut = cut
+cut_further Memory depth_left levels depth_left' levels' more cut = cut

@@ -81,8 +81,8 @@ abbrev mutual
   messages_at_causes two n no_fields = []
   messages_at_causes two n (field k h fs) =
       let here : List DeclCause = messages_causes two h in
-      let behind : List DeclCause = messages_at_causes two n fs in
-      match_ordering (nat_cmp n k) behind here behind
+      let later : List DeclCause = messages_at_causes two n fs in
+      match_ordering (nat_cmp n k) later here later
 
   pub messages_causes : Bool → Holding → List DeclCause
   messages_causes two (one d) = []

@@ -61,8 +61,8 @@ abbrev mutual
   inner_parts i two scope n no_fields = []
   inner_parts i two scope n (field k h fs) =
       let here : List OmittedView = holding_parts i two scope h in
-      let behind : List OmittedView = inner_parts i two scope n fs in
-      match_ordering (nat_cmp n k) behind here behind
+      let later : List OmittedView = inner_parts i two scope n fs in
+      match_ordering (nat_cmp n k) later here later
 
   pub holding_parts : ℕ → Bool → List ℕ → Holding → List OmittedView
   holding_parts i two scope (one d) = []

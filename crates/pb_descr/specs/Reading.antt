@@ -73,8 +73,8 @@ abbrev mutual
   messages_at n no_fields = no_messages
   messages_at n (field k h fs) =
       let here : DeclaredMessages = messages_in h in
-      let behind : DeclaredMessages = messages_at n fs in
-      match_ordering (nat_cmp n k) behind here behind
+      let later : DeclaredMessages = messages_at n fs in
+      match_ordering (nat_cmp n k) later here later
 
   pub messages_in : Holding → DeclaredMessages
   messages_in (one d) = no_messages

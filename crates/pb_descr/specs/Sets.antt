@@ -82,8 +82,8 @@ IsUnwritten files TooDeep = 100 < message_depth (set_body files)
 IsUnwritten files TooLarge = (message_depth (set_body files) ≤ 100) × (2 ^ 31 ≤ length (set_bytes files))
 IsUnwritten files Memory = ⊤
 
--- something that takes `levels` levels is not written where only `room` are left, or memory ran out
+-- something that takes `levels` levels is not written where only `depth_left` are left, or memory ran out
 abbrev pub CutAt : ℕ → ℕ → WriteSetError → Type 0
-CutAt room levels TooDeep = room < levels
-CutAt room levels TooLarge = ⊥
-CutAt room levels Memory = ⊤
+CutAt depth_left levels TooDeep = depth_left < levels
+CutAt depth_left levels TooLarge = ⊥
+CutAt depth_left levels Memory = ⊤

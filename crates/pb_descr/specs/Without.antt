@@ -69,8 +69,8 @@ abbrev mutual
   inner_without two n no_fields = None
   inner_without two n (field k h fs) =
       let here : Holding = holding_without two h in
-      let behind : Option Holding = inner_without two n fs in
-      match_ordering (nat_cmp n k) behind (Some here) behind
+      let later : Option Holding = inner_without two n fs in
+      match_ordering (nat_cmp n k) later (Some here) later
 
   pub holding_without : Bool → Holding → Holding
   holding_without two (one d) = one d

@@ -51,35 +51,39 @@ fn message_with(
     )
 }
 
-/// A message, if it takes at most `room` levels, its own included.
+/// A message, if it takes at most `depth_left` levels, its own included.
 #[cycle(messages)]
-fn message_value(alloc: Global, declared: &MessageDecl, room: u8) -> Result<Value, WriteSetError>
+fn message_value(
+    alloc: Global,
+    declared: &MessageDecl,
+    depth_left: u8,
+) -> Result<Value, WriteSetError>
     ensures written { IfOk result (λ v. value_view v ≡ message_body (message_view declared.now)) }
-    ensures within { OnOk result (nests (message_view declared.now) ≤ room) }
-    ensures refused { IfErr result (CutAt room (levels_of (message_body (message_view declared.now)))) }
+    ensures within { OnOk result (nests (message_view declared.now) ≤ depth_left) }
+    ensures refused { IfErr result (CutAt depth_left (levels_of (message_body (message_view declared.now)))) }
 {
-    if room == 0 {
+    if depth_left == 0 {
         return Err(WriteSetError::TooDeep);
     }
-    let inner = message_values(alloc, &declared.messages, room - 1)?;
+    let inner = message_values(alloc, &declared.messages, depth_left - 1)?;
     let value = message_with(alloc, declared, list(inner))?;
     Ok(value)
 }
 
-/// Messages, if each takes at most `room` levels.
+/// Messages, if each takes at most `depth_left` levels.
 #[cycle(messages)]
 fn message_values(
     alloc: Global,
     messages: &Vec<MessageDecl>,
-    room: u8,
+    depth_left: u8,
 ) -> Result<Vec<Value>, WriteSetError>
     ensures written { IfOk result (λ v. map value_view v.items ≡ message_bodies (messages_of (map message_view messages.now.items))) }
-    ensures within { OnOk result (all_nest (messages_of (map message_view messages.now.items)) ≤ room) }
-    ensures refused { IfErr result (CutAt room (datums_depth (datums_of (message_bodies (messages_of (map message_view messages.now.items)))))) }
+    ensures within { OnOk result (all_nest (messages_of (map message_view messages.now.items)) ≤ depth_left) }
+    ensures refused { IfErr result (CutAt depth_left (datums_depth (datums_of (message_bodies (messages_of (map message_view messages.now.items)))))) }
 {
     let mut values = Vec::with_capacity(alloc, messages.len())?;
     for declared in messages {
-        let value = message_value(alloc, declared, room)?;
+        let value = message_value(alloc, declared, depth_left)?;
         values.push(value)?;
     }
     Ok(values)

@@ -15,7 +15,7 @@ use Rattle.pb_wire.specs.Limits.{full}
 use Rattle.pb_wire.specs.Reading.{Front}
 use Rattle.pb_wire.specs.Rest.{Rest}
 use Rattle.pb_wire.specs.RecordIter.{Seen, varint, fixed64, len, group, fixed32, Item, AreShown}
-use Rattle.pb_wire.specs.RecordIter.{ShowsFront, ShowsRecord, Passes, Gives, to_end, to_fault, all_ok, as_told, too_large}
+use Rattle.pb_wire.specs.RecordIter.{ShowsFront, ShowsRecord, Passes, Gives, to_end, to_fault, all_ok, without_path, too_large}
 use Rattle.pb_wire.specs.Schema.{blank}
 use Rattle.pb_wire.specs.Sound.{AllSound, one}
 use Rattle.pb_wire.specs.Scan.{TellsVarint, given_at, passed}
@@ -115,13 +115,13 @@ value_shown {depth} {k} {p} {q} (len s) h =
 pub gives_some :
     {b : List ℕ} {r : Rest} → Exactly (IsSomeText blank tt full b) (HasFault blank tt full b)
     → ((rs : List Record) → IsText blank tt full b rs → (xs : List (ℕ × Seen)) × AreShown rs xs b × Gives r (all_ok xs))
-    → ((f : Fault) → HasFault blank tt full b f → (xs : List (ℕ × Seen)) × ShowsFront xs b × Gives r (all_ok xs ++ Err (as_told f) ∷ []))
+    → ((f : Fault) → HasFault blank tt full b f → (xs : List (ℕ × Seen)) × ShowsFront xs b × Gives r (all_ok xs ++ Err (without_path f) ∷ []))
     → (items : List Item) × Gives r items
 gives_some {b} {r} told text fault = by told.either
   where
     by : IsSomeText blank tt full b ⊎ ((f : Fault) × HasFault blank tt full b f) → (items : List Item) × Gives r items
     by (inl is) = let given = text is.0 is.1 in (all_ok given.0, given.2)
-    by (inr has) = let given = fault has.0 has.1 in (all_ok given.0 ++ Err (as_told has.0) ∷ [], given.2)
+    by (inr has) = let given = fault has.0 has.1 in (all_ok given.0 ++ Err (without_path has.0) ∷ [], given.2)
 
 first_of : {depth : ℕ} {p q : Place} (x : ℕ × Seen) (others : List (ℕ × Seen)) → Passes depth p (x ∷ others) q → (r : Place) × ShowsRecord depth p x r
 first_of {depth} {p} {q} x others h = go h.rs h.front h.shown h.sound h.moves
@@ -147,7 +147,7 @@ pub first_given :
     → (q : Place) × ShowsRecord s.depth (place s.text s.at) x q
 first_given {s} {x} {items} {others} (to_end {xs = []} {q = q} h end is) e = by s.is_cut is
   where
-    by : (b : Bool) → items ≡ [] ++ (if b then Err (as_told (too_large s)) ∷ [] else []) → (q : Place) × ShowsRecord s.depth (place s.text s.at) x q
+    by : (b : Bool) → items ≡ [] ++ (if b then Err (without_path (too_large s)) ∷ [] else []) → (q : Place) × ShowsRecord s.depth (place s.text s.at) x q
     by true i = absurd (cc)
     by false i = absurd (cc)
 first_given {s} {x} (to_end {xs = y ∷ ys} h end is) e = let same : y ≡ x = cc in first_of x ys (rw same at h)
@@ -271,7 +271,7 @@ pub passed_on :
 passed_on b from at size before after {s} {rs} {x} reached h few more same no_tag = by (nat_eq x.0 s.number) refl
   where
     some : 0 < size
-    some = let n = record_some {room = 100} (h.it, h.front, passed (place b at) size, h.shown.spelled, h.sound, h.moves) in
+    some = let n = record_some {depth_left = 100} (h.it, h.front, passed (place b at) size, h.shown.spelled, h.sound, h.moves) in
         let e : at + size ≡ at + length h.front = h.moves.at in omega (arith, n, e)
 
     within : at + size ≤ length b

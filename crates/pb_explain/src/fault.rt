@@ -56,7 +56,7 @@ fn put_site<O: Output>(sink: &mut Sink, out: &mut O, given: Given<'_>, byte: usi
 fn put_byte<O: Output>(sink: &mut Sink, out: &mut O, byte: u64)
     ensures { Puts O.written O.failures out.old out.new sink.old sink.new (codes "  at byte " ++ decimal byte ++ codes " of ") }
 {
-    sink.make_room(out, 64);
+    sink.reserve(out, 64);
     sink.held.push(b"  at byte ");
     sink.held.push_decimal(byte);
     sink.held.push(b" of ");
@@ -66,7 +66,7 @@ fn put_byte<O: Output>(sink: &mut Sink, out: &mut O, byte: u64)
 fn put_frame<O: Output>(sink: &mut Sink, out: &mut O, byte: u64, index: u64, offset: u64)
     ensures { Puts O.written O.failures out.old out.new sink.old sink.new (frame_text byte index offset) }
 {
-    sink.make_room(out, 128);
+    sink.reserve(out, 128);
     sink.held.push(b": byte ");
     sink.held.push_decimal(byte);
     sink.held.push(b" of frame ");

@@ -98,7 +98,7 @@ fn begins(byte: u8) -> bool
 fn put_position<O: Output>(sink: &mut Sink, out: &mut O, line: u64, column: u64)
     ensures { Puts O.written O.failures out.old out.new sink.old sink.new (position_text line column) }
 {
-    sink.make_room(out, 128);
+    sink.reserve(out, 128);
     sink.held.push(b"  line ");
     sink.held.push_decimal(line);
     sink.held.push(b" column ");

@@ -179,7 +179,7 @@ fn put_step<O: Output>(
 fn put_step_text<O: Output>(sink: &mut Sink, out: &mut O, step: PathStep)
     ensures { Puts O.written O.failures out.old out.new sink.old sink.new (codes "  " ++ step_text step) }
 {
-    sink.make_room(out, 64);
+    sink.reserve(out, 64);
     sink.held.push(b"  ");
     sink.held.push_decimal(u64::from(step.number));
     sink.held.push(b"[");
@@ -275,7 +275,7 @@ fn put_bytes<O: Output>(sink: &mut Sink, out: &mut O, first: u64, last: Option<u
 fn put_start<O: Output>(sink: &mut Sink, out: &mut O, first: u64)
     ensures { Puts O.written O.failures out.old out.new sink.old sink.new (start_text first) }
 {
-    sink.make_room(out, 64);
+    sink.reserve(out, 64);
     sink.held.push(b": from byte ");
     sink.held.push_decimal(first);
     sink.held.push(b" on\n");
@@ -284,7 +284,7 @@ fn put_start<O: Output>(sink: &mut Sink, out: &mut O, first: u64)
 fn put_bounds<O: Output>(sink: &mut Sink, out: &mut O, first: u64, last: u64)
     ensures { Puts O.written O.failures out.old out.new sink.old sink.new (bounds_text first last) }
 {
-    sink.make_room(out, 128);
+    sink.reserve(out, 128);
     sink.held.push(b": bytes ");
     sink.held.push_decimal(first);
     sink.held.push(b" to ");

@@ -29,8 +29,8 @@ pub fn read_on<'a, I: Input>(
 {
     let mut buffer = [0u8; PIECE];
     'reading: while bytes.len() < limit {
-        let room = PIECE.min(limit - bytes.len());
-        let Ok(count) = input.read(&mut buffer[..room]) else {
+        let size = PIECE.min(limit - bytes.len());
+        let Ok(count) = input.read(&mut buffer[..size]) else {
             return Err(Refusal::Device(path));
         };
         if count == 0 {

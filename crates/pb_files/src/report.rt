@@ -268,7 +268,7 @@ fn put_set_fault<O: Output>(
 fn put_set_cause<O: Output>(sink: &mut Sink, out: &mut O, file: usize, cause: DeclCause)
     ensures { Puts O.written O.failures out.old out.new sink.old sink.new (set_cause_line file cause) }
 {
-    sink.make_room(out, 64);
+    sink.reserve(out, 64);
     sink.held.push(b"set file ");
     sink.held.push_decimal(file as u64);
     put_cause(sink, out, cause.name());
@@ -321,7 +321,7 @@ fn put_frame_fault<O: Output>(
 fn put_frame_index<O: Output>(sink: &mut Sink, out: &mut O, index: u64)
     ensures { Puts O.written O.failures out.old out.new sink.old sink.new (codes "frame " ++ decimal index ++ codes " ") }
 {
-    sink.make_room(out, 32);
+    sink.reserve(out, 32);
     sink.held.push(b"frame ");
     sink.held.push_decimal(index);
     sink.held.push(b" ");
@@ -351,7 +351,7 @@ fn put_frames<O: Output>(sink: &mut Sink, out: &mut O, lines: &[u8], refused: u6
 fn put_frames_line<O: Output>(sink: &mut Sink, out: &mut O, refused: u64, count: u64)
     ensures { Puts O.written O.failures out.old out.new sink.old sink.new (frames_line refused count) }
 {
-    sink.make_room(out, 128);
+    sink.reserve(out, 128);
     sink.held.push(b"frames refused ");
     sink.held.push_decimal(refused);
     sink.held.push(b" of ");
@@ -371,7 +371,7 @@ fn put_source<O: Output>(sink: &mut Sink, out: &mut O, file: &str, byte: u64, ca
 fn put_at<O: Output>(sink: &mut Sink, out: &mut O, byte: u64)
     ensures { Puts O.written O.failures out.old out.new sink.old sink.new (codes " byte " ++ decimal byte) }
 {
-    sink.make_room(out, 32);
+    sink.reserve(out, 32);
     sink.held.push(b" byte ");
     sink.held.push_decimal(byte);
 }
@@ -398,7 +398,7 @@ fn put_byte<O: Output>(sink: &mut Sink, out: &mut O, byte: u64)
     ensures { Puts O.written O.failures out.old out.new sink.old sink.new
         (codes "byte " ++ decimal byte ++ codes " path ") }
 {
-    sink.make_room(out, 32);
+    sink.reserve(out, 32);
     sink.held.push(b"byte ");
     sink.held.push_decimal(byte);
     sink.held.push(b" path ");
@@ -433,7 +433,7 @@ fn put_step<O: Output>(sink: &mut Sink, out: &mut O, separator: &[u8], step: Pat
     ensures { Puts O.written O.failures out.old out.new sink.old sink.new
         (separator.now ++ step_text step) }
 {
-    sink.make_room(out, 64);
+    sink.reserve(out, 64);
     sink.held.push(separator);
     sink.held.push_decimal(u64::from(step.number));
     sink.held.push(b"[");
@@ -482,7 +482,7 @@ fn put_number<O: Output>(sink: &mut Sink, out: &mut O, separator: &[u8], number:
     requires { length separator.now ≤ 1 }
     ensures { Puts O.written O.failures out.old out.new sink.old sink.new (separator.now ++ decimal number) }
 {
-    sink.make_room(out, 32);
+    sink.reserve(out, 32);
     sink.held.push(separator);
     sink.held.push_decimal(u64::from(number));
 }

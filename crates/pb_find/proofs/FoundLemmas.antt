@@ -1,7 +1,7 @@
 -- What is found of records, one by one, is the scalar that their message has at the path.
 use Rattle.std.proofs.Common.{◌≡◌, ℕ, zero, suc, ◌<◌, List, [], ◌∷◌, ◌++◌, append_assoc, append-nil, arith, refl, sym, ap, ◌∙◌, subst, Option, Some, None, option_map}
 use Rattle.std.proofs.lemmas.List.Sums.{fold-append}
-use Rattle.std.specs.Prelude.{Bool, true, false, not, ◌==◌, ◌&&◌, fold, option_and_then, if◌then◌else◌}
+use Rattle.std.specs.Prelude.{Bool, true, false, not, ◌==◌, fold, option_and_then, if◌then◌else◌}
 use Rattle.std.specs.List.{AllByRecursion}
 use Rattle.pb_wire.specs.Record.{Record, wire_type}
 use Rattle.pb_wire.specs.Inside.{records_inside}

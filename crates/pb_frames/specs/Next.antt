@@ -37,7 +37,7 @@ module _ (pool : Types) (m : ℕ) (limits : Bounds) where
   IsNext old new (Refused reason size) = IfSome old (λ input. TakesSpan input new size (λ span. FrameFault pool m limits span (fault_of reason)))
   IsNext old new (Cut reason) = IfSome old (λ input. HasNoSpan input × FrameFault pool m limits input (fault_of reason))
 
-  -- what comes of bytes behind a length of `start` bytes that counts `size`, of which they are as many as there are
+  -- what comes of bytes after a length of `start` bytes that counts `size`, of which they are as many as there are
   abbrev pub IsJudged : ℕ → ℕ → List ℕ → NextFrame → Type 0
   IsJudged start size text End = ⊥
   IsJudged start size text (Message message taken) = (taken ≡ start + size) × IsFrameOf pool m limits size text message.body

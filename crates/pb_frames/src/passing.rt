@@ -19,8 +19,8 @@ pub(crate) fn pass_over<I: Input>(input: &mut I, count: u64) -> Result<u64, Devi
     let mut buffer = [0u8; PIECE];
     let mut done = 0;
     'passing: while done < count {
-        let room = (count - done).min(PIECE as u64) as usize;
-        let taken = input.read(&mut buffer[..room])?;
+        let size = (count - done).min(PIECE as u64) as usize;
+        let taken = input.read(&mut buffer[..size])?;
         if taken == 0 {
             return Ok(done);
         }

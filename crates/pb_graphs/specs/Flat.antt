@@ -1,9 +1,9 @@
--- A graph whose lists stand in one, each after the one before.
+-- A graph whose lists are parts of one list, each after the one before.
 use Rattle.std.specs.Prelude.{◌≡◌, ◌≤◌, ◌-◌, ℕ, List, [], ◌∷◌, ◌++◌, length, take, drop}
 use Rattle.std.specs.List.{AllByRecursion}
 use Rattle.pb_graphs.specs.declared.flat.FlatGraph.{FlatGraph}
 
--- what stands in a list from one place up to another
+-- the items of a list from one position up to another
 abbrev pub part_of : List ℕ → ℕ → ℕ → List ℕ
 part_of targets start end = take (end - start) (drop start targets)
 

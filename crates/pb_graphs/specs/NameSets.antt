@@ -8,6 +8,6 @@ use Rattle.pb_graphs.specs.declared.name_set.NameSet.{NameSet}
 abbrev pub names_in : NameSet → List (List ℕ)
 names_in s = map (λ k. k.items) s.names.keys
 
--- these names and one more, which stands last where it is new
+-- these names and one more, which comes last where it is new
 abbrev pub with_name : List ℕ → List (List ℕ) → List (List ℕ)
 with_name name names = if list_any (bytes_eq name) names then names else names ++ name ∷ []

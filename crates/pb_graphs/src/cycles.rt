@@ -22,7 +22,7 @@ pub(crate) enum Progress {
     Done,
 }
 
-/// What stands at a place of the list of an index.
+/// The item at a position of the list of an index.
 fn target_at(graph: &FlatGraph, index: usize, place: usize) -> Option<usize>
     ensures exact { result ≡ slice_get (next_of (lists_of graph.now) index) place }
     ensures small { IfSome result (λ _. place < 2 ^ 63) }

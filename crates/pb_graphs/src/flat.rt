@@ -1,4 +1,4 @@
-//! A graph whose lists stand in one, so that it takes few allocations and a walk touches little memory.
+//! A graph whose lists are parts of one list, so that it takes few allocations and a walk touches little memory.
 
 ghost use Rattle.std.specs.Prelude.{◌≡◌, ◌<◌, ◌^◌, ◌++◌, [], ◌∷◌, length, IfOk, OnOk};
 ghost use Rattle.std.specs.List.{slice_index_or};

@@ -60,14 +60,14 @@ pub(crate) fn put_scalar<O: Output>(
 pub(crate) fn put_natural<O: Output>(sink: &mut Sink, out: &mut O, number: u64)
     ensures { Puts O.written O.failures out.old out.new sink.old sink.new (decimal number) }
 {
-    sink.make_room(out, 20);
+    sink.reserve(out, 20);
     sink.held.push_decimal(number);
 }
 
 fn put_integer<O: Output>(sink: &mut Sink, out: &mut O, number: i64)
     ensures { Puts O.written O.failures out.old out.new sink.old sink.new (signed_decimal number) }
 {
-    sink.make_room(out, 21);
+    sink.reserve(out, 21);
     sink.held.push_signed(number);
 }
 

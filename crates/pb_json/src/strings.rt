@@ -37,7 +37,7 @@ fn put_string_bytes<O: Output>(sink: &mut Sink, out: &mut O, string: &[u8])
 pub(crate) fn put_string_byte<O: Output>(sink: &mut Sink, out: &mut O, byte: u8)
     ensures { Puts O.written O.failures out.old out.new sink.old sink.new (string_byte byte) }
 {
-    sink.make_room(out, 6);
+    sink.reserve(out, 6);
     if let Some(letter) = escape_letter(byte) {
         sink.held.push(&[b'\\', letter]);
     } else if byte < 32 {

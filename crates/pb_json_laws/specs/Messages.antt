@@ -78,7 +78,7 @@ DeclaredApart given pool =
     (m i j : ℕ) (f g : FieldView) → slice_get (message_fields pool m) i ≡ Some f → slice_get (message_fields pool m) j ≡ Some g
     → g.name ≡ json_name given m f → g ≡ f
 
--- names that are given are read, where fields can be told apart by them
+-- names that are given are read, where they distinguish fields
 abbrev pub GivenNamesAreRead : Types → Type 0
 GivenNamesAreRead pool =
     (names : Bor NamesGiven) → JsonNamesDiffer names.now pool → DeclaredApart names.now pool → NamesAreRead (Given names) names.now pool

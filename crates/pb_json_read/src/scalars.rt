@@ -96,7 +96,7 @@ pub(crate) fn read_text(alloc: Global, form: &JsonForm) -> Result<Option<String>
     Ok(Some(String::from_str(alloc, text.as_str())?))
 }
 
-/// The bytes that a string of base64 stands for.
+/// The bytes that a string of base64 encodes.
 pub(crate) fn read_bytes(alloc: Global, form: &JsonForm) -> Result<Option<Vec<u8>>, AllocError>
     ensures { IfOk result (λ read. IsOnly (IsBytes (form_view form.now)) (option_map (λ v. v.items) read)) }
 {

@@ -17,7 +17,7 @@ time seconds nanos = record { seconds = seconds; nanos = nanos }
 abbrev pub natural : ℕ → List ℕ → Option ℕ
 natural most ds = if list_all is_ascii_digit ds && (nat_lt 0 (length ds) && nat_le (digits_value 10 ds) most) then Some (digits_value 10 ds) else None
 
--- a fraction of a second at the front: a point, and digits; nothing where no point stands there
+-- a fraction of a second at the front: a point, and digits; nothing where there is no point
 abbrev pub fraction_len : List ℕ → ℕ
 fraction_len s = if slice_index s 0 == 46 then 1 + prefix_len is_ascii_digit (drop 1 s) else 0
 

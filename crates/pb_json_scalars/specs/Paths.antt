@@ -26,7 +26,7 @@ abbrev pub onto_first : ℕ → List (List ℕ) → List (List ℕ)
 onto_first c [] = (c ∷ []) ∷ []
 onto_first c (name ∷ names) = (c ∷ name) ∷ names
 
--- what stands between commas
+-- what is between commas
 abbrev pub between_commas : List ℕ → List (List ℕ)
 between_commas [] = [] ∷ []
 between_commas (c ∷ cs) = if c == 44 then [] ∷ between_commas cs else onto_first c (between_commas cs)

@@ -33,7 +33,7 @@ ScannedAs n negative p = (negative ≡ n.negative) × (p ≡ parts_of n)
 abbrev pub IsScanned : List ℕ → Bool → Parts → Type 0
 IsScanned s negative p = (n : Number) × IsNumber s n × ScannedAs n negative p
 
--- what follows a minus that stands first
+-- what follows a minus that comes first
 abbrev pub without_minus : List ℕ → List ℕ
 without_minus s = drop (if slice_index s 0 == 45 then 1 else 0) s
 

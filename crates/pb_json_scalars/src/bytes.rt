@@ -96,7 +96,7 @@ fn without_padding(characters: &[u8]) -> &[u8]
     &characters[..characters.len() - padding(characters)]
 }
 
-/// How many characters of padding stand at the end.
+/// How many characters of padding there are at the end.
 fn padding(characters: &[u8]) -> usize
     ensures is { result ≡ padding characters.now }
     ensures within { result ≤ length characters.now }

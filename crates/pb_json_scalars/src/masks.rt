@@ -30,7 +30,7 @@ pub fn read_mask(alloc: Global, characters: &[u8]) -> Result<Option<Vec<String>>
     Ok(Some(paths))
 }
 
-/// How many bytes stand before the first comma.
+/// How many bytes there are before the first comma.
 fn name_len(characters: &[u8]) -> usize
     ensures is { result ≡ prefix_len (λ c. not (c == 44)) characters.now }
     ensures within { result ≤ length characters.now }

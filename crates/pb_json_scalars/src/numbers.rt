@@ -6,7 +6,7 @@ ghost use Rattle.pb_json_scalars.specs.Scanned.{is_int, is_number, without_minus
 
 use fast_float::Numeral;
 
-/// A number: whether a minus stands first, and what follows it.
+/// A number: whether a minus comes first, and what follows it.
 #[derive(Drop)]
 pub(crate) struct Scanned<'a> {
     pub is_negative: bool,
@@ -30,14 +30,14 @@ pub(crate) fn scan_number(characters: &[u8]) -> Option<Scanned<'_>>
     }
 }
 
-/// Whether a minus stands first.
+/// Whether a minus comes first.
 pub(crate) fn has_minus(characters: &[u8]) -> bool
     ensures { result ≡ (slice_index characters.now 0 == 45) }
 {
     !characters.is_empty() && characters[0] == b'-'
 }
 
-/// What follows a minus that stands first.
+/// What follows a minus that comes first.
 fn without_minus(characters: &[u8]) -> &[u8]
     ensures { result.now ≡ without_minus characters.now }
 {

@@ -221,7 +221,7 @@ fn fraction_len(characters: &[u8]) -> usize
     }
 }
 
-/// How many digits stand at the front.
+/// How many digits the bytes begin with.
 fn digits_len(characters: &[u8]) -> usize
     ensures is { result ≡ prefix_len is_ascii_digit characters.now }
     ensures within { result ≤ length characters.now }

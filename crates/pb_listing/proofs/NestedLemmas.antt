@@ -9,7 +9,7 @@ use Rattle.pb_wire.specs.Exact.{Exactly, IsSomeText}
 use Rattle.pb_wire.specs.Fault.{Fault}
 use Rattle.pb_wire.specs.Grammar.{HasFault, IsText}
 use Rattle.pb_wire.specs.Limits.{Bounds, full}
-use Rattle.pb_wire.specs.RecordIter.{Gives, NextGives, Seen, all_ok, as_told}
+use Rattle.pb_wire.specs.RecordIter.{Gives, NextGives, Seen, all_ok, without_path}
 use Rattle.pb_wire.specs.RecordIter as shown
 use Rattle.pb_wire.specs.Rest.{Rest}
 use Rattle.pb_wire.specs.Schema.{blank}
@@ -24,7 +24,7 @@ use Rattle.pb_listing.specs.RawListing.{line, record_lines}
 -- what an iterator over bytes has left: only records, if the bytes are a list of records, and else records and then the fault
 pub record AreLeft (limits : Bounds) (b : List ℕ) (s : Rest) : Type 0 where
   pub text : IsSomeText blank tt limits b → (xs : List (ℕ × Seen)) × Gives s (all_ok xs)
-  pub fault : (f : Fault) → HasFault blank tt limits b f → (xs : List (ℕ × Seen)) × Gives s (all_ok xs ++ Err (as_told f) ∷ [])
+  pub fault : (f : Fault) → HasFault blank tt limits b f → (xs : List (ℕ × Seen)) × Gives s (all_ok xs ++ Err (without_path f) ∷ [])
 
 module _ (limits : Bounds) (b : List ℕ) where
   -- a record came
@@ -40,12 +40,12 @@ module _ (limits : Bounds) (b : List ℕ) where
           (xs, subst (Gives t) (sym rest) first.2)
 
       of_fault :
-          (f : Fault) → (xs : List (ℕ × Seen)) × Gives s (all_ok xs ++ Err (as_told f) ∷ []) → (xs : List (ℕ × Seen)) × Gives t (all_ok xs ++ Err (as_told f) ∷ [])
-      of_fault f ([], gives) = let e = (step.first (Err (as_told f) ∷ []) gives).1 in absurd (cc)
+          (f : Fault) → (xs : List (ℕ × Seen)) × Gives s (all_ok xs ++ Err (without_path f) ∷ []) → (xs : List (ℕ × Seen)) × Gives t (all_ok xs ++ Err (without_path f) ∷ [])
+      of_fault f ([], gives) = let e = (step.first (Err (without_path f) ∷ []) gives).1 in absurd (cc)
       of_fault f (x ∷ xs, gives) =
-          let first = step.first (all_ok (x ∷ xs) ++ Err (as_told f) ∷ []) gives in
+          let first = step.first (all_ok (x ∷ xs) ++ Err (without_path f) ∷ []) gives in
           let e = first.1 in
-          let rest : all_ok xs ++ Err (as_told f) ∷ [] ≡ first.0 = cc in
+          let rest : all_ok xs ++ Err (without_path f) ∷ [] ≡ first.0 = cc in
           (xs, subst (Gives t) (sym rest) first.2)
 
   -- a fault came
@@ -61,9 +61,9 @@ module _ (limits : Bounds) (b : List ℕ) where
       (s t : Rest) → Exactly (IsSomeText blank tt limits b) (HasFault blank tt limits b) → AreLeft limits b s → NextGives s None t → IsSomeText blank tt limits b
   some_text s t told left step = elim told.either [ inl is ↦ is | inr has ↦ absurd (by has.0 (left.fault has.0 has.1)) ]
     where
-      by : (f : Fault) → (xs : List (ℕ × Seen)) × Gives s (all_ok xs ++ Err (as_told f) ∷ []) → ⊥
-      by f ([], gives) = let e = (step.first (Err (as_told f) ∷ []) gives).0 in cc
-      by f (x ∷ xs, gives) = let e = (step.first (all_ok (x ∷ xs) ++ Err (as_told f) ∷ []) gives).0 in cc
+      by : (f : Fault) → (xs : List (ℕ × Seen)) × Gives s (all_ok xs ++ Err (without_path f) ∷ []) → ⊥
+      by f ([], gives) = let e = (step.first (Err (without_path f) ∷ []) gives).0 in cc
+      by f (x ∷ xs, gives) = let e = (step.first (all_ok (x ∷ xs) ++ Err (without_path f) ∷ []) gives).0 in cc
 
 -- ---- whether there is a record
 

@@ -10,7 +10,7 @@ use Rattle.pb_listing.specs.declared.form.FloatForm.{FloatForm}
 use Rattle.pb_listing.specs.declared.form.FloatForm.TheVariants.{Bits, Decimal}
 use Rattle.pb_listing.specs.Listing.{scalar_text}
 
--- A float in decimal: digits that read back to it, with an exponent where more than so many digits would stand before the point, or more than so
+-- A float in decimal: digits that read back to it, with an exponent where more than this many digits would come before the point, or more than this
 -- many zeros after it; or a word for what is no number.
 abbrev pub IsDecimal : Format → ℕ → ℕ → Float → List ℕ → Type 0
 IsDecimal f whole_digits leading_zeros nan s = s ≡ codes "nan"

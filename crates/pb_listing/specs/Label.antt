@@ -1,4 +1,4 @@
--- What stands before a value in a listing: the name of its field, and in a map the key.
+-- What comes before a value in a listing: the name of its field, and in a map the key.
 use Rattle.std.specs.Prelude.{ℕ, List, [], ◌++◌, Option, Some, None}
 use Rattle.std.specs.Borrow.{Bor}
 use Rattle.pb_value.specs.View.{key_view}

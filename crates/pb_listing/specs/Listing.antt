@@ -1,5 +1,5 @@
 -- The listing of a message by its pool: the fields by rising number, the elements of a list and the entries of a map each by themselves, a
--- message or a group between two lines, and behind the fields the unknown records.
+-- message or a group between two lines, and after the fields the unknown records.
 use Rattle.std.specs.Prelude.{ℕ, ℤ, suc, List, [], ◌∷◌, ◌++◌, Bool, true, false, ◌==◌, ◌||◌, nat_lt, unwrap_or, codes, decimal, if◌then◌else◌}
 use Rattle.std.specs.Fmt.{signed_decimal}
 use Rattle.std.specs.Int.{to_be_bytes, w32, w64}
@@ -27,7 +27,7 @@ is_quoted b = (b == 34) || (b == 92)
 abbrev pub is_control : ℕ → Bool
 is_control b = nat_lt b 32 || (b == 127)
 
--- a byte of a text: behind a backslash, by its digits, or as it is
+-- a byte of a string: after a backslash, by its digits, or as it is
 abbrev pub text_byte : ℕ → List ℕ
 text_byte b = if is_quoted b then codes "\\" ++ b ∷ [] else (if is_control b then codes "\\x" ++ encode_lower (b ∷ []) else b ∷ [])
 
@@ -56,7 +56,7 @@ scalar_text names (bytes s) = codes "h'" ++ encode_lower s ++ codes "'"
 abbrev pub names_of_kind : Types → Kind → List (List ℕ × ℤ)
 names_of_kind pool k = option_map_or (λ e. enum_values pool e) (enum_of_kind k) []
 
--- a map's key behind the name of the map: it is written like a value, and is no enum's
+-- a map's key after the name of the map: it is written like a value, and is no enum's
 abbrev pub bracketed : Scalar → List ℕ
 bracketed key = codes "[" ++ scalar_text [] key ++ codes "]"
 
@@ -69,7 +69,7 @@ unknown_lines level (r ∷ rs) = record_lines (codes "? ") level r.number r.payl
 
 module _ (pool : Types) where
   abbrev mutual
-    -- the lines of a value of a kind behind its name
+    -- the lines of a value of a kind, after its name
     pub datum_lines : ℕ → Kind → List ℕ → Datum → List ℕ
     datum_lines level k name (scalar x) = line level (name ++ codes ": " ++ scalar_text (names_of_kind pool k) x)
     datum_lines level k name (message b) =

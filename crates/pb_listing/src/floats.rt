@@ -40,7 +40,7 @@ fn put_bits<O: Output>(sink: &mut Sink, out: &mut O, bytes: &[u8])
     requires { length bytes.now ≤ 8 }
     ensures { Puts O.written O.failures out.old out.new sink.old sink.new (codes "0x" ++ encode_lower bytes.now) }
 {
-    sink.make_room(out, 18);
+    sink.reserve(out, 18);
     sink.held.push(b"0x");
     sink.held.push_hex(bytes);
 }

@@ -1,4 +1,4 @@
-//! Listings of records and of messages, put into an output behind a buffer.
+//! Listings of records and of messages, put into an output through a buffer.
 #![tactic(auto)]
 
 mod context;

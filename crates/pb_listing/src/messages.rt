@@ -27,7 +27,7 @@ use pb_value::{Body, Content, DynamicMessage, MapKey, Value};
 use pb_wire::{DeviceFault, Output};
 use std::collections::BTreeMap;
 
-/// What stands before a value: the name of its field, and in a map the key.
+/// What comes before a value: the name of its field, and in a map the key.
 #[derive(Clone, Copy)]
 struct Label<'a> {
     name: &'a str,
@@ -224,7 +224,7 @@ fn put_entries<O: Output>(
     }
 }
 
-/// The lines of a value behind its label.
+/// The lines of a value, after its label.
 #[cycle(lines)]
 fn put_value<O: Output>(
     sink: &mut Sink,
@@ -308,7 +308,7 @@ fn put_label<O: Output>(sink: &mut Sink, out: &mut O, level: usize, label: Label
     requires { level ≤ 101 }
     ensures { Puts O.written O.failures out.old out.new sink.old sink.new (indent level ++ label_text label.entry) }
 {
-    sink.make_room(out, 202);
+    sink.reserve(out, 202);
     push_indent(&mut sink.held, level);
     sink.put(out, label.name.as_bytes());
     put_bracketed(sink, out, label.key);

@@ -105,7 +105,7 @@ fn put_message_start<O: Output>(
     ensures { Puts O.written O.failures out.old out.new sink.old sink.new
         (line level (decimal number ++ codes " len " ++ decimal (length bytes.now) ++ codes " {")) }
 {
-    sink.make_room(out, LINE);
+    sink.reserve(out, LINE);
     push_start(&mut sink.held, level, b"", number, b" len ");
     sink.held.push_decimal(bytes.len() as u64);
     sink.held.push(b" {\n");

@@ -18,7 +18,7 @@ use pb_wire::{DeviceFault, Limits, MAX_DEPTH, Output, Payload, RecordIter};
 /// Two spaces for each level: one for the frame that holds a message, and one for each level below it.
 const INDENT: [u8; 202] = [b' '; 202];
 
-/// The greatest level of a line: a frame's message is one level in, and at most 100 levels stand below a message.
+/// The greatest level of a line: a frame's message is one level in, and there are at most 100 levels below a message.
 pub(crate) const DEEPEST: usize = 101;
 
 /// No line of a record is longer, but for the bytes of a payload: the indentation, a mark, two numbers of at most twenty
@@ -115,7 +115,7 @@ pub(crate) fn put_varint_line<O: Output>(
     ensures { Puts O.written O.failures out.old out.new sink.old sink.new
         (line level (mark.now ++ decimal number ++ codes " varint " ++ decimal value)) }
 {
-    sink.make_room(out, LINE);
+    sink.reserve(out, LINE);
     push_start(&mut sink.held, level, mark, number, b" varint ");
     sink.held.push_decimal(value);
     sink.held.push(b"\n");
@@ -138,7 +138,7 @@ pub(crate) fn put_fixed_line<O: Output>(
     ensures { Puts O.written O.failures out.old out.new sink.old sink.new
         (line level (mark.now ++ decimal number ++ word.now ++ encode_lower bytes.now)) }
 {
-    sink.make_room(out, LINE);
+    sink.reserve(out, LINE);
     push_start(&mut sink.held, level, mark, number, word);
     sink.held.push_hex(bytes);
     sink.held.push(b"\n");
@@ -157,7 +157,7 @@ pub(crate) fn put_len_line<O: Output>(
     ensures { Puts O.written O.failures out.old out.new sink.old sink.new
         (line level (mark.now ++ decimal number ++ codes " len " ++ decimal (length bytes.now) ++ shown_bytes bytes.now)) }
 {
-    sink.make_room(out, LINE);
+    sink.reserve(out, LINE);
     push_start(&mut sink.held, level, mark, number, b" len ");
     sink.held.push_decimal(bytes.len() as u64);
     put_shown_bytes(sink, out, bytes);
@@ -187,22 +187,22 @@ pub(crate) fn put_group_start<O: Output>(
     ensures { Puts O.written O.failures out.old out.new sink.old sink.new
         (line level (mark.now ++ decimal number ++ codes " group {")) }
 {
-    sink.make_room(out, LINE);
+    sink.reserve(out, LINE);
     push_start(&mut sink.held, level, mark, number, b" group {");
     sink.held.push(b"\n");
 }
 
-/// The line behind the records of a group, or the lines of a message.
+/// The line after the records of a group, or the lines of a message.
 pub(crate) fn put_end<O: Output>(sink: &mut Sink, out: &mut O, level: usize)
     requires { level ≤ 101 }
     ensures { Puts O.written O.failures out.old out.new sink.old sink.new (line level (codes "}")) }
 {
-    sink.make_room(out, LINE);
+    sink.reserve(out, LINE);
     push_indent(&mut sink.held, level);
     sink.held.push(b"}\n");
 }
 
-/// What stands before a record's value.
+/// What comes before a record's value.
 #[inline]
 pub(crate) fn push_start(
     buffer: &mut OutputBuffer,
@@ -213,7 +213,7 @@ pub(crate) fn push_start(
 )
     requires low { level ≤ 101 }
     requires mark { length mark.now ≤ 2 }
-    requires room { length buffer.old + 224 + length word.now ≤ 4096 }
+    requires fits { length buffer.old + 224 + length word.now ≤ 4096 }
     ensures after { buffer.new ≡ buffer.old ++ (indent level ++ (mark.now ++ decimal number ++ word.now)) }
     ensures len { length buffer.new ≤ length buffer.old + 224 + length word.now }
 {
@@ -223,11 +223,11 @@ pub(crate) fn push_start(
     buffer.push(word);
 }
 
-/// The spaces of a level. Most records stand in no group.
+/// The spaces of a level. Most records are in no group.
 #[inline]
 pub(crate) fn push_indent(buffer: &mut OutputBuffer, level: usize)
     requires low { level ≤ 101 }
-    requires room { length buffer.old + 202 ≤ 4096 }
+    requires fits { length buffer.old + 202 ≤ 4096 }
     ensures after { buffer.new ≡ buffer.old ++ indent level }
     ensures len { length buffer.new ≤ length buffer.old + 202 }
 {

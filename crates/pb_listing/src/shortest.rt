@@ -85,7 +85,7 @@ fn put_record<O: Output>(sink: &mut Sink, out: &mut O, level: u8, number: u32, p
 fn put_number<O: Output>(sink: &mut Sink, out: &mut O, number: u64)
     ensures { Puts O.written O.failures out.old out.new sink.old sink.new (encode_lower (shortest number)) }
 {
-    sink.make_room(out, 20);
+    sink.reserve(out, 20);
     if number < 0x80 {
         sink.held.push_hex_byte(number as u8);
     } else {

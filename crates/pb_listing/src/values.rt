@@ -63,14 +63,14 @@ pub(crate) fn put_key<O: Output>(sink: &mut Sink, out: &mut O, key: &MapKey)
 pub(crate) fn put_natural<O: Output>(sink: &mut Sink, out: &mut O, number: u64)
     ensures { Puts O.written O.failures out.old out.new sink.old sink.new (decimal number) }
 {
-    sink.make_room(out, 20);
+    sink.reserve(out, 20);
     sink.held.push_decimal(number);
 }
 
 pub(crate) fn put_integer<O: Output>(sink: &mut Sink, out: &mut O, number: i64)
     ensures { Puts O.written O.failures out.old out.new sink.old sink.new (signed_decimal number) }
 {
-    sink.make_room(out, 21);
+    sink.reserve(out, 21);
     sink.held.push_signed(number);
 }
 
@@ -117,7 +117,7 @@ fn put_text_bytes<O: Output>(sink: &mut Sink, out: &mut O, text: &[u8])
 fn put_text_byte<O: Output>(sink: &mut Sink, out: &mut O, byte: u8)
     ensures { Puts O.written O.failures out.old out.new sink.old sink.new (text_byte byte) }
 {
-    sink.make_room(out, 4);
+    sink.reserve(out, 4);
     if byte == b'"' || byte == b'\\' {
         sink.held.push(&[b'\\', byte]);
     } else if byte < 32 || byte == 127 {

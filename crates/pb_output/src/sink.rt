@@ -95,12 +95,12 @@ impl Sink {
 
     /// Sees that this many bytes more can be held.
     #[inline(always)]
-    pub fn make_room<O: Output>(&mut self, out: &mut O, count: usize)
+    pub fn reserve<O: Output>(&mut self, out: &mut O, count: usize)
         requires { count ≤ SIZE }
-        ensures room { length self.new.held + count ≤ SIZE }
+        ensures fits { length self.new.held + count ≤ SIZE }
         ensures kept { Puts O.written O.failures out.old out.new self.old self.new [] }
     {
-        if count > self.held.room() {
+        if count > self.held.free() {
             self.flush(out);
         }
     }
@@ -109,7 +109,7 @@ impl Sink {
     pub fn put<O: Output>(&mut self, out: &mut O, bytes: &[u8])
         ensures { Puts O.written O.failures out.old out.new self.old self.new bytes.now }
     {
-        if bytes.len() <= self.held.room() {
+        if bytes.len() <= self.held.free() {
             self.held.push(bytes);
             return;
         }
@@ -152,7 +152,7 @@ impl Sink {
     pub fn put_varint<O: Output>(&mut self, out: &mut O, number: u64)
         ensures { Puts O.written O.failures out.old out.new self.old self.new (shortest number) }
     {
-        self.make_room(out, MAX_VARINT);
+        self.reserve(out, MAX_VARINT);
         self.held.push_varint(number);
     }
 
@@ -161,7 +161,7 @@ impl Sink {
     pub fn put_varints<O: Output>(&mut self, out: &mut O, first: u64, second: u64)
         ensures { Puts O.written O.failures out.old out.new self.old self.new (shortest first ++ shortest second) }
     {
-        self.make_room(out, 2 * MAX_VARINT);
+        self.reserve(out, 2 * MAX_VARINT);
         self.held.push_varint(first);
         self.held.push_varint(second);
     }
@@ -172,7 +172,7 @@ impl Sink {
         requires { length bytes.now ≤ MAX_VARINT }
         ensures { Puts O.written O.failures out.old out.new self.old self.new (shortest number ++ bytes.now) }
     {
-        self.make_room(out, 2 * MAX_VARINT);
+        self.reserve(out, 2 * MAX_VARINT);
         self.held.push_varint(number);
         self.held.push(bytes);
     }
@@ -196,7 +196,7 @@ impl Sink {
         requires { length bytes.now ≤ CHUNK }
         ensures { Puts O.written O.failures out.old out.new self.old self.new (encode_lower bytes.now) }
     {
-        self.make_room(out, 2 * bytes.len());
+        self.reserve(out, 2 * bytes.len());
         self.held.push_hex(bytes);
     }
 }

@@ -87,7 +87,7 @@ levels_above (Field n ∷ p) = suc (levels_above p)
 levels_above (Index i ∷ p) = levels_above p
 levels_above (Key k ∷ p) = levels_above p
 
--- Why a change of a message is refused below which at most so many levels may be added: the message is not there, or that change's own cause, and
+-- Why a change of a message is refused below which at most this many levels may be added: the message is not there, or that change's own cause, and
 -- the depth last.
 abbrev pub refusal : ℕ → Edit → Option Dynamic → Option ChangeError
 refusal most e None = Some Absent
@@ -105,7 +105,7 @@ field_place (Index i ∷ []) = None
 field_place (Key k ∷ []) = None
 field_place (s ∷ t ∷ p) = option_map (λ q. (s ∷ q.0, q.1)) (field_place (t ∷ p))
 
--- at the message of a place, at most so many levels may be added: no more than 100 are below the whole
+-- at the message of a place, at most this many levels may be added: no more than 100 are below the whole
 abbrev pub most_at : List PlaceStep → ℕ
 most_at p = 100 - levels_above p
 

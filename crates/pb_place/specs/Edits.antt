@@ -1,4 +1,4 @@
--- What the code's changes stand for, and what holds on the way to the message.
+-- What the code's changes mean, and what holds on the way to the message.
 use Rattle.std.specs.Prelude.{◌≡◌, ℕ, List, Option, Some, IsSomeAnd, option_map, Result}
 use Rattle.std.specs.Result.{IfOk, OnErr}
 use Rattle.pb_schema.specs.Types.{Types}
@@ -42,7 +42,7 @@ HoldsParts pool t (list ds) = (i : ℕ) (d : Datum) → nth_datum ds i ≡ Some 
 HoldsParts pool t (map es) = (x : Scalar) (d : Datum) → get_entry x es ≡ Some d → IsPart pool t d
 
 module _ (pool : Types) (most : ℕ) where
-  -- what an answer tells of a change at a place in what a field holds, whose messages are of a type, and of what was taken out
+  -- what an answer says of a change at a place in what a field holds, whose messages are of a type, and of what was taken out
   pub record IsWalked (t : Option ℕ) (p : List PlaceStep) (e : Edit) (old new : Holding) (r : Result Unit ChangeError) (out : Option Value) : Type 0 where
     pub ok : IfOk r (λ _. IsDone e (target p (content_part pool t old)) (λ b. new ≡ replaced p b old) (option_map value_view out))
     pub err : OnErr r (new ≡ old)

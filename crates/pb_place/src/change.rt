@@ -104,7 +104,7 @@ impl Change {
         }
     }
 
-    /// Makes the change in a message below which at most so many levels may be added. The answer is what was taken out of it.
+    /// Makes the change in a message below which at most this many levels may be added. The answer is what was taken out of it.
     pub(crate) fn make_within(
         self,
         message: &mut DynamicMessage<'_>,

@@ -31,7 +31,7 @@ fn most_at(place: &[PlaceStep]) -> u8
     left
 }
 
-/// Makes a change in the message at a place, below which at most so many levels may be added. The answer is what was taken out of it.
+/// Makes a change in the message at a place, below which at most this many levels may be added. The answer is what was taken out of it.
 fn change_inside(
     message: &mut DynamicMessage<'_>,
     place: &[PlaceStep],

@@ -86,11 +86,11 @@ fn are_written(
     alloc: Global,
     message: &DynamicMessage<'_>,
     place: &str,
-    room: usize,
+    capacity: usize,
     said: &str,
 ) -> Result<bool, Fail> {
     let place = place_of(alloc, place)?;
-    let mut buffer = vec![in alloc; 0u32; room]?;
+    let mut buffer = vec![in alloc; 0u32; capacity]?;
     let count = numbers_at(message.view(), &place, &mut buffer);
     let (word, numbers) = said.split_once(' ').unwrap_or((said, ""));
     Ok(is_number(count, word)? && are_numbers(&buffer, numbers)?)

@@ -6,7 +6,7 @@ use Rattle.pb_wire.specs.Schema.{Element}
 use Rattle.pb_wire.specs.Sound.{AreElements}
 use Rattle.pb_schema.specs.Packed.{numbers_of}
 
--- s is whole elements after which rest stands: the first is this number, of this wire type
+-- s is whole elements and then rest: the first is this number, of this wire type
 pub record Cuts (e : Element) (w : ℕ) (p : Payload) (s rest : List ℕ) : Type 0 where
   pub type : wire_type p ≡ w
   pub range : IsInRange p

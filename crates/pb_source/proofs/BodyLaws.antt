@@ -9,7 +9,7 @@ use Rattle.pb_tokens.specs.declared.grammar.Grammar.{Grammar}
 use Rattle.pb_tokens.specs.Symbols.{Symbol, word, number, text, sign}
 use Rattle.pb_tokens.specs.Language.{Language, ◌▸◌, one, Rules}
 use Rattle.pb_tokens.specs.Phrases.{keyword, mark, name, BeginsNot, option, setting, signed, value_end, enum_range, typename}
-use Rattle.pb_tokens.specs.Readers.Forms.{Outcome, Reader, mapped, behind, on_kind, first_passes, by_kind, is_mark, choice, keyword_reader, mark_reader}
+use Rattle.pb_tokens.specs.Readers.Forms.{Outcome, Reader, mapped, preceded, on_kind, first_passes, by_kind, is_mark, choice, keyword_reader, mark_reader}
 use Rattle.pb_tokens.specs.Readers.Phrases.{option_reader, is_dot, enum_range_reader, name_reader, fullname_reader, typename_reader}
 use Rattle.pb_tokens.proofs.ReaderLaws.{Reads}
 use Rattle.pb_tokens.proofs.Compose.{never, Mapped, Both, Behind, Before, reads_mapped, reads_both, reads_behind, reads_before, reads_before_so, reads_some, reads_either, reads_equal, said_so}
@@ -194,7 +194,7 @@ abbrev stream_kind : Symbol → Option Bool
 stream_kind s = Some (streams s)
 
 abbrev stream_line : ℕ → Bool → Option (Reader (Bool × List ℕ))
-stream_line n true = Some (mapped (λ t. (true, t)) (behind (keyword_reader (codes "stream")) (typename_reader n)))
+stream_line n true = Some (mapped (λ t. (true, t)) (preceded (keyword_reader (codes "stream")) (typename_reader n)))
 stream_line n false = Some (mapped (λ t. (false, t)) (typename_reader n))
 
 stream_offers : (n : ℕ) (b : Bool) → Offers n is_dot (Streamed b) (stream_line n b)
@@ -219,14 +219,14 @@ none_left zero rules = refl
 none_left (suc n) rules = refl
 
 as_kinds : (n : ℕ) (rules : Rules) (ts : List Symbol)
-    → choice streams (mapped (λ t. (true, t)) (behind (keyword_reader (codes "stream")) (typename_reader n))) (mapped (λ t. (false, t)) (typename_reader n)) rules ts
+    → choice streams (mapped (λ t. (true, t)) (preceded (keyword_reader (codes "stream")) (typename_reader n))) (mapped (λ t. (false, t)) (typename_reader n)) rules ts
     ≡ by_kind stream_kind (stream_line n) rules ts
 as_kinds n rules [] = none_left n rules
 as_kinds n rules (s ∷ ts) = by_test (streams s)
   where
     by_test : (b : Bool)
         → ◌≡◌ {A = Outcome (Bool × List ℕ)}
-        (if b then mapped (λ t. (true, t)) (behind (keyword_reader (codes "stream")) (typename_reader n)) rules (s ∷ ts)
+        (if b then mapped (λ t. (true, t)) (preceded (keyword_reader (codes "stream")) (typename_reader n)) rules (s ∷ ts)
         else mapped (λ t. (false, t)) (typename_reader n) rules (s ∷ ts))
         (on_kind (stream_line n) (Some b) rules (s ∷ ts))
     by_test true = refl

@@ -9,7 +9,7 @@ use Rattle.pb_tokens.specs.declared.grammar.Grammar.{Grammar}
 use Rattle.pb_tokens.specs.Symbols.{Symbol, word, number, text, sign}
 use Rattle.pb_tokens.specs.Language.{Language, ◌▸◌, ◌or◌, Rules}
 use Rattle.pb_tokens.specs.Phrases.{keyword, mark, BeginsNot, Until, Listed, typename, message_range, assignment, value_end}
-use Rattle.pb_tokens.specs.Readers.Forms.{Reader, mapped, behind, keyword_reader, first_passes}
+use Rattle.pb_tokens.specs.Readers.Forms.{Reader, mapped, preceded, keyword_reader, first_passes}
 use Rattle.pb_tokens.specs.Readers.Phrases.{is_comma, message_range_reader}
 use Rattle.pb_tokens.proofs.ReaderLaws.{Reads, IsStop}
 use Rattle.pb_tokens.proofs.Compose.{never, Mapped, reads_mapped, reads_behind, reads_behind_so, reads_some, said_so}

@@ -4,7 +4,7 @@ use Rattle.std.proofs.lemmas.Bool.{cases_lt}
 use Rattle.std.proofs.lemmas.List.{append_cancel_right, take-append-le, take-append-drop, take-take}
 use Rattle.std.proofs.Math.Seq.{take-append_seam}
 use Rattle.pb_tokens.specs.Symbols.{Symbol}
-use Rattle.pb_tokens.specs.Language.{Language, Rules, all_rules, without, cause_of, told, Begins}
+use Rattle.pb_tokens.specs.Language.{Language, Rules, all_rules, without, cause_of, reported, Begins}
 use Rattle.pb_tokens.specs.declared.rule.Rule.{Rule}
 use Rattle.pb_tokens.specs.declared.rule.Rule.TheVariants.{NumbersFit as numbers_fit, OptionsKnown as options_known, SyntaxFirst as syntax_first, NestsBounded as nests_bounded, TextsValid as texts_valid}
 use Rattle.pb_tokens.specs.Readers.Forms.{Reader}
@@ -33,7 +33,7 @@ same_rule syntax_first _ = inr refl
 same_rule nests_bounded _ = inr refl
 same_rule texts_valid _ = inr refl
 
-not_unexpected : (s : Rule) → Unexpected ≡ told (Some s) → ⊥
+not_unexpected : (s : Rule) → Unexpected ≡ reported (Some s) → ⊥
 not_unexpected numbers_fit e = cc e
 not_unexpected options_known e = cc e
 not_unexpected syntax_first e = cc e
@@ -72,7 +72,7 @@ module _ {A : Type 0} (e : Symbol → Bool) (File : Rules → A → Language) (p
 
   -- refused with a symbol: nothing with it begins a word, and the cause is exact
   at_symbol : (front : List Symbol) (t : Symbol) (x : List Symbol) (why : Option Rule)
-      → ((n : ℕ) → length (front ++ t ∷ x) ≤ n → p n all_rules (front ++ t ∷ x) ≡ Err (t ∷ x, why)) → IsCause File (front ++ t ∷ []) (told why)
+      → ((n : ℕ) → length (front ++ t ∷ x) ≤ n → p n all_rules (front ++ t ∷ x) ≡ Err (t ∷ x, why)) → IsCause File (front ++ t ∷ []) (reported why)
   at_symbol front t x None h =
       IsCause.no_rule (λ r. no_word (without r) front t x None (λ n l. (reads n).same (without r) (front ++ t ∷ x) (t ∷ x) None l refl (h n l)))
   at_symbol front t x (Some r) h =
@@ -87,13 +87,13 @@ module _ {A : Type 0} (e : Symbol → Bool) (File : Rules → A → Language) (p
       head_is s t xs ys h = cc h
 
   -- what is refused has the fault that is reported
-  pub refused_so : (ts rest : List Symbol) (why : Option Rule) → ts ≢ [] → Refuses all_rules ts rest why → Fault File ts (length ts - length rest) (told why)
+  pub refused_so : (ts rest : List Symbol) (why : Option Rule) → ts ≢ [] → Refuses all_rules ts rest why → Fault File ts (length ts - length rest) (reported why)
   refused_so ts [] why some h =
       let n = length ts in
       let none : why ≡ None = (reads n).at_end all_rules ts why (omega arith) (h n (omega arith)) in
       let r = (reads n).refused all_rules ts [] why (omega arith) (h n (omega arith)) in
       let all : ts ≡ r.front = r.joined ∙ append-nil r.front in
-      subst (λ w. Fault File ts (length ts - 0) (told w)) (sym none)
+      subst (λ w. Fault File ts (length ts - 0) (reported w)) (sym none)
       (subst (λ k. Fault File ts k Unexpected) (whole_length (length ts))
       (Fault.at_end some (subst (Begins (File all_rules)) (sym all) r.begins)
       (λ v d. contradiction ((reads n).complete all_rules v ts [] (subst (λ c. length c ≤ n) (sym (append-nil ts)) (omega arith)) d tt) (ap (λ c. p n all_rules c) (append-nil ts) ∙ h n (omega arith)))))
@@ -110,16 +110,16 @@ module _ {A : Type 0} (e : Symbol → Bool) (File : Rules → A → Language) (p
       λ m l. ap (λ c. p m all_rules c) (sym r.joined) ∙ h m (subst (λ c. length c ≤ m) (sym r.joined) l) in
       let k : length ts ≡ length r.front + suc (length x) = ap length r.joined ∙ length-append r.front (t ∷ x) in
       let place : length r.front ≡ length ts - length (t ∷ x) = omega arith in
-      subst (λ k. Fault File ts k (told why)) place
-      (subst (λ c. Fault File c (length r.front) (told why)) (sym r.joined)
+      subst (λ k. Fault File ts k (reported why)) place
+      (subst (λ c. Fault File c (length r.front) (reported why)) (sym r.joined)
       (Fault.at_symbol (subst (λ m. length r.front < m) (sym (length-append r.front (t ∷ x))) (omega arith))
       (subst (Begins (File all_rules)) (sym (take_front r.front (t ∷ x))) r.begins)
       (λ b. no_word all_rules r.front t x why h' (subst (Begins (File all_rules)) (take_more r.front t x) b))
-      (subst (λ c. IsCause File c (told why)) (sym (take_more r.front t x)) (at_symbol r.front t x why h'))))
+      (subst (λ c. IsCause File c (reported why)) (sym (take_more r.front t x)) (at_symbol r.front t x why h'))))
 
   -- and nothing else
   pub only_so : (ts rest : List Symbol) (why : Option Rule) (k : ℕ) (c : SourceCause) → ts ≢ [] → Refuses all_rules ts rest why → Fault File ts k c
-      → (k ≡ length ts - length rest) × (c ≡ told why)
+      → (k ≡ length ts - length rest) × (c ≡ reported why)
   only_so ts rest why k c some h f = by_fault rest why h f
     where
       F : List Symbol → Type 0
@@ -135,7 +135,7 @@ module _ {A : Type 0} (e : Symbol → Bool) (File : Rules → A → Language) (p
       at_the_end why h = (reads (length ts)).at_end all_rules ts why (omega arith) (h (length ts) (omega arith))
 
       same_cause : (front : List Symbol) (t : Symbol) (x : List Symbol) (why : Option Rule) (c : SourceCause)
-          → Refuses all_rules (front ++ t ∷ x) (t ∷ x) why → IsCause File (front ++ t ∷ []) c → c ≡ told why
+          → Refuses all_rules (front ++ t ∷ x) (t ∷ x) why → IsCause File (front ++ t ∷ []) c → c ≡ reported why
       same_cause front t x None c h (IsCause.a_rule r b) =
           absurd (no_word (without r) front t x None (λ n l. (reads n).same (without r) (front ++ t ∷ x) (t ∷ x) None l refl (h n l)) b)
       same_cause front t x (Some s) c h (IsCause.a_rule r b) =
@@ -146,13 +146,13 @@ module _ {A : Type 0} (e : Symbol → Bool) (File : Rules → A → Language) (p
       same_cause front t x None c h (IsCause.no_rule g) = refl
       same_cause front t x (Some s) c h (IsCause.no_rule g) = absurd (refuted (at_symbol front t x (Some s) h) refl)
         where
-          refuted : {d : SourceCause} → IsCause File (front ++ t ∷ []) d → d ≡ told (Some s) → ⊥
+          refuted : {d : SourceCause} → IsCause File (front ++ t ∷ []) d → d ≡ reported (Some s) → ⊥
           refuted (IsCause.a_rule r b) e = g r b
           refuted (IsCause.no_rule _) e = not_unexpected s e
 
-      by_fault : (rest : List Symbol) (why : Option Rule) {k : ℕ} {c : SourceCause} → Refuses all_rules ts rest why → Fault File ts k c → (k ≡ length ts - length rest) × (c ≡ told why)
+      by_fault : (rest : List Symbol) (why : Option Rule) {k : ℕ} {c : SourceCause} → Refuses all_rules ts rest why → Fault File ts k c → (k ≡ length ts - length rest) × (c ≡ reported why)
       by_fault rest why h (Fault.no_symbols e n) = absurd (some e)
-      by_fault [] why h (Fault.at_end _ b none) = (omega arith, ap told (sym (at_the_end why h)))
+      by_fault [] why h (Fault.at_end _ b none) = (omega arith, ap reported (sym (at_the_end why h)))
       by_fault (t ∷ x) why h (Fault.at_end _ b none) =
           let r = reading (t ∷ x) why h in
           absurd (no_word all_rules r.front t x why (moved r.front t x why r.joined h)

@@ -31,7 +31,7 @@ use Rattle.pb_source.specs.Syntaxes.{is_lenient}
 use Rattle.pb_source.specs.declared.kind.FileKind.{FileKind}
 use Rattle.pb_source.specs.declared.kind.FileKind.TheVariants as kind
 use Rattle.pb_source.specs.Meaning.{FileStatement, all_said, packages_said}
-use Rattle.pb_source.specs.Grammar.{beyond_strict, enum_line, extend, body, message, room, service, access, file_statement, syntax_said, syntax_line, file}
+use Rattle.pb_source.specs.Grammar.{beyond_strict, enum_line, extend, body, message, depth_left, service, access, file_statement, syntax_said, syntax_line, file}
 use Rattle.pb_source.specs.Readers.Lines.{nested_in, extend_reader, access_reader, import_reader, package_reader, file_kind, file_line, file_statement_reader, syntax_word_in, syntax_text_in, strict_syntax_reader, named_syntax, named_syntax_in, lenient_syntax_reader, begins_syntax, syntax_reader, is_package, statements_reader, file_reader}
 use Rattle.pb_source.proofs.StatementKinds.{kind_one, kind_then, kind_front}
 use Rattle.pb_source.proofs.ExtensionLaws.{offers_lined, reads_extend}
@@ -119,7 +119,7 @@ StatementOnce grammar said rules s ts = Once said s × file_statement grammar ru
 
 -- a block of `extend`
 abbrev Extend : Grammar → Rules → List DeclaredMessage → Language
-Extend grammar rules = extend grammar rules (body grammar rules (room rules))
+Extend grammar rules = extend grammar rules (body grammar rules (depth_left rules))
 
 abbrev FileLine : (grammar : Grammar) → Bool → FileKind → Rules → FileStatement → Language
 FileLine grammar said kind.Empty = Silent FileStatement.nothing_said (λ rules. mark ";")
@@ -127,7 +127,7 @@ FileLine grammar said kind.Option = Silent FileStatement.nothing_said (option gr
 FileLine grammar said kind.Import = Mapped {A = Bool × List ℕ} (λ x. FileStatement.an_import x.0 x.1) Import
 FileLine grammar true kind.Package = λ rules s ts. ⊥
 FileLine grammar false kind.Package = Mapped FileStatement.a_package Package
-FileLine grammar said kind.Message = Mapped FileStatement.a_message (λ rules. message grammar rules (room rules))
+FileLine grammar said kind.Message = Mapped FileStatement.a_message (λ rules. message grammar rules (depth_left rules))
 FileLine grammar said kind.Enum = Mapped FileStatement.an_enum (enum_line grammar)
 FileLine grammar said kind.Service = Mapped FileStatement.a_service (service grammar)
 FileLine grammar said kind.Extend = Mapped FileStatement.an_extend (λ rules ms. beyond_strict grammar (Extend grammar rules ms))
@@ -143,7 +143,7 @@ file_offers grammar n said kind.Enum = reads_mapped FileStatement.an_enum (reads
 file_offers grammar n said kind.Service = reads_mapped FileStatement.a_service (reads_service grammar n)
 file_offers grammar n said kind.Extend =
     offers_lined (is_lenient grammar) FileStatement.an_extend (Extend grammar) (extend_reader grammar n (nested_in grammar n 64))
-    (reads_extend grammar n (λ rules. body grammar rules (room rules)) (nested_in grammar n 64) (nests_in_file grammar n))
+    (reads_extend grammar n (λ rules. body grammar rules (depth_left rules)) (nested_in grammar n 64) (nests_in_file grammar n))
 
 file_filled : (grammar : Grammar) → (said : Bool) (k : FileKind) (rules : Rules) (s : FileStatement) → FileLine grammar said k rules s [] → ⊥
 file_filled grammar said kind.Empty rules s d = cc d.2

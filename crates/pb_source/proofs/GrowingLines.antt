@@ -254,14 +254,14 @@ grows_message_statement grammar n (Nested.inside p) (Nested.beyond q) h = absurd
 grows_body : (n : ℕ) {p q : Reader MessageStatement} → Grows p q → Grows (body_reader n p) (body_reader (suc n) q)
 grows_body n g = grows_until n is_closing [] g (grows_same (mark_reader (codes "}")))
 
-grows_nested : (grammar : Grammar) (n room : ℕ) → GrowsNested (nested_in grammar n room) (nested_in grammar (suc n) room)
+grows_nested : (grammar : Grammar) (n depth_left : ℕ) → GrowsNested (nested_in grammar n depth_left) (nested_in grammar (suc n) depth_left)
 unfolding nested_in
 grows_nested grammar n zero = grows_body n (grows_message_statement grammar n Nested.none Nested.none tt)
-grows_nested grammar n (suc room) = grows_body n (grows_message_statement grammar n (nested_in grammar n room) (nested_in grammar (suc n) room) (grows_nested grammar n room))
+grows_nested grammar n (suc depth_left) = grows_body n (grows_message_statement grammar n (nested_in grammar n depth_left) (nested_in grammar (suc n) depth_left) (grows_nested grammar n depth_left))
 
-grows_message : (grammar : Grammar) (n room : ℕ) → Grows (message_reader grammar n room) (message_reader grammar (suc n) room)
-grows_message grammar n room =
-    grows_message_line (grows_body n (grows_message_statement grammar n (nested_in grammar n room) (nested_in grammar (suc n) room) (grows_nested grammar n room)))
+grows_message : (grammar : Grammar) (n depth_left : ℕ) → Grows (message_reader grammar n depth_left) (message_reader grammar (suc n) depth_left)
+grows_message grammar n depth_left =
+    grows_message_line (grows_body n (grows_message_statement grammar n (nested_in grammar n depth_left) (nested_in grammar (suc n) depth_left) (grows_nested grammar n depth_left)))
 
 -- ---- services
 

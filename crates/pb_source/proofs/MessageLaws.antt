@@ -28,7 +28,7 @@ use Rattle.pb_source.specs.Syntaxes.{is_lenient, is_proto2, optional_label}
 use Rattle.pb_source.specs.declared.kind.MessageKind.{MessageKind}
 use Rattle.pb_source.specs.declared.kind.MessageKind.TheVariants as kind
 use Rattle.pb_source.specs.Meaning.{Member, MessageStatement, message_of}
-use Rattle.pb_source.specs.Grammar.{field, member, unlabelled, beyond_strict, in_proto2, but_proto2, oneof, enum_line, extend, extensions, message_line, message_statement, body, message, room}
+use Rattle.pb_source.specs.Grammar.{field, member, unlabelled, beyond_strict, in_proto2, but_proto2, oneof, enum_line, extend, extensions, message_line, message_statement, body, message, depth_left}
 use Rattle.pb_source.specs.Readers.Lines.{Nested, a_single, is_closing, field_reader, labelled_reader, extend_reader, extensions_reader, message_kind, nested_message_reader, message_statement_line, allowed_statement_reader, message_statement_reader, message_line_reader, body_reader, nested_in, room_statement_reader, room_body_reader, message_reader}
 use Rattle.pb_source.proofs.StatementKinds.{kind_other, not_in_table, in_front, in_both, kind_one, kind_then, kind_front}
 use Rattle.pb_source.proofs.FieldLaws.{reads_field, begins_type, field_first, MapLine, reads_map, map_line_first}
@@ -389,24 +389,24 @@ reads_statement grammar Body n (Nested.inside p) h =
 
 -- where the rule on nests is left out, one more may stand
 abbrev pub deep : ℕ → Rules → ℕ
-deep room rules = if rules nests_bounded then room else suc room
+deep depth_left rules = if rules nests_bounded then depth_left else suc depth_left
 
-deeper : (room : ℕ) (rules : Rules) → suc (deep room rules) ≡ deep (suc room) rules
-deeper room rules = by_rule (rules nests_bounded)
+deeper : (depth_left : ℕ) (rules : Rules) → suc (deep depth_left rules) ≡ deep (suc depth_left) rules
+deeper depth_left rules = by_rule (rules nests_bounded)
   where
-    by_rule : (b : Bool) → suc (if b then room else suc room) ≡ (if b then suc room else suc (suc room))
+    by_rule : (b : Bool) → suc (if b then depth_left else suc depth_left) ≡ (if b then suc depth_left else suc (suc depth_left))
     by_rule true = refl
     by_rule false = refl
 
 module _ (grammar : Grammar) (n : ℕ) where
   abbrev Bodies : ℕ → Rules → List MessageStatement → Language
-  Bodies room rules = body grammar rules (deep room rules)
+  Bodies depth_left rules = body grammar rules (deep depth_left rules)
 
-  reads_room_body : (room : ℕ) → Nests grammar n (Bodies room) (nested_in grammar n room) → Reads n never (Bodies (suc room)) (room_body_reader grammar n room)
-  reads_room_body room h =
-      said_so {Q = Bodies (suc room)}
-      (reads_body grammar (Bodies room) n (room_statement_reader grammar n room) (reads_statement grammar (Bodies room) n (nested_in grammar n room) h))
-      (λ rules ss c d. subst (λ k. body grammar rules k ss c) (deeper room rules) d) (λ rules ss c d. subst (λ k. body grammar rules k ss c) (sym (deeper room rules)) d)
+  reads_room_body : (depth_left : ℕ) → Nests grammar n (Bodies depth_left) (nested_in grammar n depth_left) → Reads n never (Bodies (suc depth_left)) (room_body_reader grammar n depth_left)
+  reads_room_body depth_left h =
+      said_so {Q = Bodies (suc depth_left)}
+      (reads_body grammar (Bodies depth_left) n (room_statement_reader grammar n depth_left) (reads_statement grammar (Bodies depth_left) n (nested_in grammar n depth_left) h))
+      (λ rules ss c d. subst (λ k. body grammar rules k ss c) (deeper depth_left rules) d) (λ rules ss c d. subst (λ k. body grammar rules k ss c) (sym (deeper depth_left rules)) d)
 
   last_so : (rules : Rules) (ss : List MessageStatement) (c : List Symbol) → Bodies 0 rules ss c → (rules nests_bounded ≡ false) × body grammar rules 1 ss c
   last_so rules ss c d = by_rule (rules nests_bounded) refl d
@@ -415,22 +415,22 @@ module _ (grammar : Grammar) (n : ℕ) where
       by_rule true h d = absurd d
       by_rule false h d = (h, d)
 
-  pub nests_in : (room : ℕ) → Nests grammar n (Bodies room) (nested_in grammar n room)
+  pub nests_in : (depth_left : ℕ) → Nests grammar n (Bodies depth_left) (nested_in grammar n depth_left)
   unfolding nested_in
   nests_in zero = (
     reads_body grammar (λ rules. body grammar rules 0) n (message_statement_reader grammar n Nested.none) (reads_statement grammar (λ rules. body grammar rules 0) n Nested.none (λ rules ss c d. d)),
     last_so,
     (λ rules ss c h d. subst (λ b. body grammar rules (if b then 0 else 1) ss c) (sym h) d),
   )
-  nests_in (suc room) = reads_room_body room (nests_in room)
+  nests_in (suc depth_left) = reads_room_body depth_left (nests_in depth_left)
 
 -- messages that nest at most 64 deep
-pub reads_message : (grammar : Grammar) → (n : ℕ) → Reads n never (λ rules. message grammar rules (room rules)) (message_reader grammar n 63)
-reads_message grammar n = reads_line grammar (λ rules. body grammar rules (room rules)) n (room_body_reader grammar n 63) (reads_room_body grammar n 63 (nests_in grammar n 63))
+pub reads_message : (grammar : Grammar) → (n : ℕ) → Reads n never (λ rules. message grammar rules (depth_left rules)) (message_reader grammar n 63)
+reads_message grammar n = reads_line grammar (λ rules. body grammar rules (depth_left rules)) n (room_body_reader grammar n 63) (reads_room_body grammar n 63 (nests_in grammar n 63))
 
 -- what nests in a file
-pub nests_in_file : (grammar : Grammar) (n : ℕ) → Nests grammar n (λ rules. body grammar rules (room rules)) (nested_in grammar n 64)
+pub nests_in_file : (grammar : Grammar) (n : ℕ) → Nests grammar n (λ rules. body grammar rules (depth_left rules)) (nested_in grammar n 64)
 nests_in_file grammar n = nests_in grammar n 64
 
-pub file_message_first : (grammar : Grammar) → (rules : Rules) (m : DeclaredMessage) (c : List Symbol) → message grammar rules (room rules) m c → first_passes (is_keyword (codes "message")) c ≡ true
-file_message_first grammar rules m c d = line_first (body grammar rules (room rules)) m c d
+pub file_message_first : (grammar : Grammar) → (rules : Rules) (m : DeclaredMessage) (c : List Symbol) → message grammar rules (depth_left rules) m c → first_passes (is_keyword (codes "message")) c ≡ true
+file_message_first grammar rules m c d = line_first (body grammar rules (depth_left rules)) m c d

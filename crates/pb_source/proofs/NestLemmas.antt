@@ -116,9 +116,9 @@ module _ (grammar : Grammar) (k : ℕ) (rules : Rules) (Body : List MessageState
   all_said_nest (s ∷ ss) ts w = both_nest (suc k) (nested_said s) (all_said nested_said ss) (said_nest s w.0 w.2) (all_said_nest ss w.1 w.3)
 
 -- what a message holds in a nest of at most this many, with its entries
-body_nests : (grammar : Grammar) (rules : Rules) (room : ℕ) (ss : List MessageStatement) (ts : List Symbol) → body grammar rules room ss ts → listed_nest (all_said nested_said ss) ≤ room
+body_nests : (grammar : Grammar) (rules : Rules) (depth_left : ℕ) (ss : List MessageStatement) (ts : List Symbol) → body grammar rules depth_left ss ts → listed_nest (all_said nested_said ss) ≤ depth_left
 body_nests grammar rules zero ss ts w = absurd w
-body_nests grammar rules (suc room) ss ts w = all_said_nest grammar room rules (body grammar rules room) (body_nests grammar rules room) ss ts w
+body_nests grammar rules (suc depth_left) ss ts w = all_said_nest grammar depth_left rules (body grammar rules depth_left) (body_nests grammar rules depth_left) ss ts w
 
 -- ---- statements of a file
 

@@ -4,7 +4,7 @@ use Rattle.std.specs.Prelude.{if◌then◌else◌}
 use Rattle.std.proofs.lemmas.List.{take-append-drop}
 use Rattle.pb_source.specs.declared.reading.Reading.{Reading}
 use Rattle.pb_tokens.specs.Symbols.{Symbol}
-use Rattle.pb_tokens.specs.Language.{Rules, all_rules, told, Begins}
+use Rattle.pb_tokens.specs.Language.{Rules, all_rules, reported, Begins}
 use Rattle.pb_tokens.specs.declared.rule.Rule.{Rule}
 use Rattle.pb_tokens.specs.declared.fault.SourceCause.{SourceCause}
 use Rattle.pb_tokens.specs.declared.fault.SourceCause.TheVariants.{Unexpected, NotProto3}
@@ -87,7 +87,7 @@ file_or_fault how ts = by_answer ts (file_reader how (length ts) all_rules ts) r
     by_answer (s ∷ ts) (Err (t ∷ x, why)) h =
         inr (
           length (s ∷ ts) - length (t ∷ x),
-          told why,
+          reported why,
           refused_so always (file how) (file_reader how) (reads_file how) (s ∷ ts) (t ∷ x) why (λ e. cc e) (further how (s ∷ ts) t x why h),
         )
 

@@ -15,7 +15,7 @@ use Rattle.pb_tokens.specs.Readers.Given.{symbols_from, Fails}
 use Rattle.pb_source.specs.Meaning.{file_of}
 use Rattle.pb_source.specs.Source.{place_in, IsSourceIn, HasFaultIn}
 use Rattle.pb_source.specs.Readers.Lines.{file_reader}
-use Rattle.pb_source.specs.Readers.Told.{fault_at}
+use Rattle.pb_source.specs.Readers.Reported.{fault_at}
 use Rattle.pb_source.proofs.OneFile.{Read}
 use Rattle.pb_source.proofs.SourceLaws.{ReadsAll, is_source, only_source, no_fault, has_fault, only_fault, no_source, token_only, token_no_source}
 

@@ -72,23 +72,23 @@ other_of grammar n (Nested.beyond p) s ts k h m = rw (not_message s k h m) (of_k
 other_of grammar n (Nested.inside p) s ts k h m = of_kind grammar n (Nested.inside p) s ts k h
 
 -- a statement that is no message
-pub other_in_room : (grammar : Grammar) → (n room : ℕ) (read : List Symbol) (s : Symbol) (ts : List Symbol) (k : MessageKind) → read ≡ s ∷ ts → message_kind s ≡ Some k → (k ≡ kind.Message → ⊥)
-    → room_statement_reader grammar n room all_rules read ≡ if_some (message_statement_line grammar n (nested_in grammar n room) k) all_rules read
-other_in_room grammar n room read s ts k e h m = rw e (other_of grammar n (nested_in grammar n room) s ts (Some k) h (λ i. m (cc i)))
+pub other_in_room : (grammar : Grammar) → (n depth_left : ℕ) (read : List Symbol) (s : Symbol) (ts : List Symbol) (k : MessageKind) → read ≡ s ∷ ts → message_kind s ≡ Some k → (k ≡ kind.Message → ⊥)
+    → room_statement_reader grammar n depth_left all_rules read ≡ if_some (message_statement_line grammar n (nested_in grammar n depth_left) k) all_rules read
+other_in_room grammar n depth_left read s ts k e h m = rw e (other_of grammar n (nested_in grammar n depth_left) s ts (Some k) h (λ i. m (cc i)))
 
 -- what begins no statement
-pub none_in_room : (grammar : Grammar) → (n room : ℕ) (read : List Symbol) (s : Symbol) (ts : List Symbol) → read ≡ s ∷ ts → message_kind s ≡ None
-    → room_statement_reader grammar n room all_rules read ≡ Err (read, None)
-none_in_room grammar n room read s ts e h = rw e (other_of grammar n (nested_in grammar n room) s ts None h (λ e. cc e))
+pub none_in_room : (grammar : Grammar) → (n depth_left : ℕ) (read : List Symbol) (s : Symbol) (ts : List Symbol) → read ≡ s ∷ ts → message_kind s ≡ None
+    → room_statement_reader grammar n depth_left all_rules read ≡ Err (read, None)
+none_in_room grammar n depth_left read s ts e h = rw e (other_of grammar n (nested_in grammar n depth_left) s ts None h (λ e. cc e))
 
 -- a message where a level is left
-pub message_in_room : (grammar : Grammar) → (n room : ℕ) (read : List Symbol) (s : Symbol) (ts : List Symbol) → 0 < room → read ≡ s ∷ ts → message_kind s ≡ Some kind.Message
-    → room_statement_reader grammar n room all_rules read ≡ mapped MessageStatement.a_message (message_reader grammar n (room - 1)) all_rules read
+pub message_in_room : (grammar : Grammar) → (n depth_left : ℕ) (read : List Symbol) (s : Symbol) (ts : List Symbol) → 0 < depth_left → read ≡ s ∷ ts → message_kind s ≡ Some kind.Message
+    → room_statement_reader grammar n depth_left all_rules read ≡ mapped MessageStatement.a_message (message_reader grammar n (depth_left - 1)) all_rules read
 unfolding nested_in
 message_in_room grammar n zero read s ts l e h = absurd (omega arith)
-message_in_room grammar n (suc room) read s ts l e h =
-    let less : room ≡ suc room - 1 = omega arith in
-    rw e (of_kind grammar n (nested_in grammar n (suc room)) s ts (Some kind.Message) h ∙ ap (λ r. mapped MessageStatement.a_message (message_reader grammar n r) all_rules (s ∷ ts)) less)
+message_in_room grammar n (suc depth_left) read s ts l e h =
+    let less : depth_left ≡ suc depth_left - 1 = omega arith in
+    rw e (of_kind grammar n (nested_in grammar n (suc depth_left)) s ts (Some kind.Message) h ∙ ap (λ r. mapped MessageStatement.a_message (message_reader grammar n r) all_rules (s ∷ ts)) less)
 
 -- a message where no level is left
 pub message_too_deep : (grammar : Grammar) → (n : ℕ) (read : List Symbol) (s : Symbol) (ts : List Symbol) → read ≡ s ∷ ts → message_kind s ≡ Some kind.Message
@@ -102,18 +102,18 @@ no_statement grammar n Nested.none = refl
 no_statement grammar n (Nested.beyond p) = refl
 no_statement grammar n (Nested.inside p) = refl
 
-pub no_room_statement : (grammar : Grammar) → (room n : ℕ) → room_statement_reader grammar n room all_rules [] ≡ Err ([], None)
-no_room_statement grammar room n = no_statement grammar n (nested_in grammar n room)
+pub no_room_statement : (grammar : Grammar) → (depth_left n : ℕ) → room_statement_reader grammar n depth_left all_rules [] ≡ Err ([], None)
+no_room_statement grammar depth_left n = no_statement grammar n (nested_in grammar n depth_left)
 
 -- ---- fields and groups
 
 -- a group where a level is left
-pub group_in_room : (grammar : Grammar) (n room : ℕ) (l : Label) (read : List Symbol) → 0 < room → is_proto2 grammar ≡ true → first_passes is_group read ≡ true
-    → member_reader grammar n l (nested_in grammar n room) all_rules read ≡ group_reader grammar n l (room_body_reader grammar n (room - 1)) all_rules read
+pub group_in_room : (grammar : Grammar) (n depth_left : ℕ) (l : Label) (read : List Symbol) → 0 < depth_left → is_proto2 grammar ≡ true → first_passes is_group read ≡ true
+    → member_reader grammar n l (nested_in grammar n depth_left) all_rules read ≡ group_reader grammar n l (room_body_reader grammar n (depth_left - 1)) all_rules read
 unfolding nested_in
 group_in_room grammar n zero l read less p h = absurd (omega arith)
-group_in_room grammar n (suc room) l read less p h =
-    let one : room ≡ suc room - 1 = omega arith in
+group_in_room grammar n (suc depth_left) l read less p h =
+    let one : depth_left ≡ suc depth_left - 1 = omega arith in
     rw (p, h) (ap (λ r. group_reader grammar n l (room_body_reader grammar n r) all_rules read) one)
 
 -- a group where no level is left
@@ -149,9 +149,9 @@ member_of true grammar n l nested read h = grouped_of grammar n l nested read h
 member_of false grammar n l nested read h = refl
 
 -- what begins no group is a field
-pub single_in_room : (grammar : Grammar) (n room : ℕ) (l : Label) (read : List Symbol) → (is_proto2 grammar && first_passes is_group read) ≡ false
-    → member_reader grammar n l (nested_in grammar n room) all_rules read ≡ mapped alone (field_reader grammar n l) all_rules read
-single_in_room grammar n room l read h = member_of (is_proto2 grammar) grammar n l (nested_in grammar n room) read h
+pub single_in_room : (grammar : Grammar) (n depth_left : ℕ) (l : Label) (read : List Symbol) → (is_proto2 grammar && first_passes is_group read) ≡ false
+    → member_reader grammar n l (nested_in grammar n depth_left) all_rules read ≡ mapped alone (field_reader grammar n l) all_rules read
+single_in_room grammar n depth_left l read h = member_of (is_proto2 grammar) grammar n l (nested_in grammar n depth_left) read h
 
 pub nesting_not : (k : MessageKind) → is_nesting k ≡ true → k ≡ kind.Message → ⊥
 nesting_not k h e = false≢true (sym (ap is_nesting e) ∙ h)

@@ -23,7 +23,7 @@ use Rattle.pb_source.specs.Grammar.{file}
 use Rattle.pb_source.specs.SyntaxFault.{Fault, SyntaxFaultIn}
 use Rattle.pb_source.specs.Source.{symbols_alone, place_in, IsSourceIn, HasFaultIn}
 use Rattle.pb_source.specs.Readers.Lines.{file_reader}
-use Rattle.pb_source.specs.Readers.Told.{cause_at}
+use Rattle.pb_source.specs.Readers.Reported.{cause_at}
 use Rattle.pb_source.proofs.OneFile.{Read}
 use Rattle.pb_source.proofs.FaultLemmas.{refused_so, only_so, words_read, read_words}
 use Rattle.pb_source.proofs.FileLaws.{reads_file}
@@ -75,8 +75,8 @@ module _ (how : Reading) (bytes : Bytes) (size : length bytes ≤ 2 ^ 31 - 1) (v
   enough : (n : ℕ) → length (symbols_from ps 0) ≤ n → length ps ≤ n
   enough n l = let e = length_from ps 0 in omega arith
 
-  room : length (symbols_from ps 0) ≤ length ps
-  room = let e = length_from ps 0 in omega arith
+  depth_left : length (symbols_from ps 0) ≤ length ps
+  depth_left = let e = length_from ps 0 in omega arith
 
   pub is_source : (name : Bytes) (ss : Read) → ReadsAll how ps ss → IsSourceIn how name bytes (file_of ss.0 name ss.1)
   is_source name ss h = record {
@@ -88,7 +88,7 @@ module _ (how : Reading) (bytes : Bytes) (size : length bytes ≤ 2 ^ 31 - 1) (v
     read = has.2;
     means = (
       ss,
-      subst (file how all_rules ss) (sym (alone_is ps)) (read_words always (file how) (file_reader how) (reads_file how) (symbols_from ps 0) ss (length ps) room (h (length ps) (omega arith))),
+      subst (file how all_rules ss) (sym (alone_is ps)) (read_words always (file how) (file_reader how) (reads_file how) (symbols_from ps 0) ss (length ps) depth_left (h (length ps) (omega arith))),
       refl,
     );
   }
@@ -97,7 +97,7 @@ module _ (how : Reading) (bytes : Bytes) (size : length bytes ≤ 2 ^ 31 - 1) (v
   was_read : (name : Bytes) (d : DeclaredFile) → IsSourceIn how name bytes d → (ss : Read) × (file_reader how (length ps) all_rules (symbols_from ps 0) ≡ Ok (ss, [])) × (d ≡ file_of ss.0 name ss.1)
   was_read name d s =
       let e = same_symbols bytes ps s.symbols has (s.tokens, s.lexed, s.read) in
-      (s.means.0, words_read always (file how) (file_reader how) (reads_file how) (symbols_from ps 0) s.means.0 (length ps) room (subst (file how all_rules s.means.0) e s.means.1), s.means.2)
+      (s.means.0, words_read always (file how) (file_reader how) (reads_file how) (symbols_from ps 0) s.means.0 (length ps) depth_left (subst (file how all_rules s.means.0) e s.means.1), s.means.2)
 
   pub only_source : (name : Bytes) (ss : Read) → ReadsAll how ps ss → (d : DeclaredFile) → IsSourceIn how name bytes d → d ≡ file_of ss.0 name ss.1
   only_source name ss h d s =
@@ -129,7 +129,7 @@ module _ (how : Reading) (bytes : Bytes) (size : length bytes ≤ 2 ^ 31 - 1) (v
       InSymbols.in_symbols k (ap (λ ss. place_in ss (length bytes) k) (sym e)) (subst (λ ts. SyntaxFaultIn how ts k c) (same_symbols bytes ps ss has (ts, a, b)) f)
 
   no_end : (ss : Read) → ReadsAll how ps ss → ((v : Read) → ¬ (file how) all_rules v (symbols_from ps 0)) → ⊥
-  no_end ss h none = none ss (read_words always (file how) (file_reader how) (reads_file how) (symbols_from ps 0) ss (length ps) room (h (length ps) (omega arith)))
+  no_end ss h none = none ss (read_words always (file how) (file_reader how) (reads_file how) (symbols_from ps 0) ss (length ps) depth_left (h (length ps) (omega arith)))
 
   -- what is read begins a file, with each of its symbols
   begins_all : (ss : Read) → ReadsAll how ps ss → (k : ℕ) → Begins (file how all_rules) (take k (symbols_from ps 0))
@@ -137,7 +137,7 @@ module _ (how : Reading) (bytes : Bytes) (size : length bytes ≤ 2 ^ 31 - 1) (v
     ss,
     drop k (symbols_from ps 0),
     subst (file how all_rules ss) (sym (take-append-drop k (symbols_from ps 0)))
-        (read_words always (file how) (file_reader how) (reads_file how) (symbols_from ps 0) ss (length ps) room (h (length ps) (omega arith))),
+        (read_words always (file how) (file_reader how) (reads_file how) (symbols_from ps 0) ss (length ps) depth_left (h (length ps) (omega arith))),
   )
 
   no_syntax_fault : (ss : Read) → ReadsAll how ps ss → (k : ℕ) (c : SourceCause) → SyntaxFaultIn how (symbols_from ps 0) k c → ⊥

@@ -13,7 +13,7 @@ use Rattle.pb_tokens.proofs.StrictLines.{Widens, until_wider, option_wider, sett
 use Rattle.pb_source.specs.declared.kind.Label.{Label}
 use Rattle.pb_source.specs.declared.kind.Label.TheVariants.{Unlabelled, Repeated, Optional}
 use Rattle.pb_source.specs.Meaning.{MapDecl, MessageStatement, EnumStatement, FileStatement, file_of}
-use Rattle.pb_source.specs.Grammar.{field, member, map_line, oneof_statement, oneof, enum_statement, enum_line, message_line, message_statement, body, message, room, method_statement, method_end, method, service_statement, service, file_statement, file}
+use Rattle.pb_source.specs.Grammar.{field, member, map_line, oneof_statement, oneof, enum_statement, enum_line, message_line, message_statement, body, message, depth_left, method_statement, method_end, method, service_statement, service, file_statement, file}
 use Rattle.pb_source.specs.Source.{symbols_alone, IsSource, IsLenientSource}
 
 -- ---- fields, oneofs and enums

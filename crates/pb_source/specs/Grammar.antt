@@ -1,5 +1,5 @@
 -- The grammars of sources, line by line as the language specifications have them, and what each line means (Protocol Buffers Language
--- Specification (Proto3), and (Proto2) for what proto2 alone has). Lines that statements are made of stand in `pb_tokens`, in `Phrases`.
+-- Specification (Proto3), and (Proto2) for what proto2 alone has). Lines that statements are made of are in `Phrases` of `pb_tokens`.
 use Prim.Native.String.{String}
 use Rattle.std.specs.Prelude.{◌≡◌, ℕ, zero, suc, ◌≤◌, ℤ, List, [], ◌∷◌, length, codes}
 use Rattle.std.specs.Prelude.{Bool, true, false, not, if◌then◌else◌, Option, Some, None, ◌⊎◌}
@@ -174,15 +174,15 @@ message_statement g rules Body (MessageStatement.reserved_names ns) = names_line
 -- { statement } "}", of a message in a nest of at most this many
 abbrev pub body : Grammar → Rules → ℕ → List MessageStatement → Language
 body g rules zero ss ts = ⊥
-body g rules (suc room) ss ts = Until (message_statement g rules (body g rules room)) (mark "}") ss ts
+body g rules (suc depth_left) ss ts = Until (message_statement g rules (body g rules depth_left)) (mark "}") ss ts
 
 -- message   = "message" word "{" { statement } "}", in a nest of at most this many
 abbrev pub message : Grammar → Rules → ℕ → DeclaredMessage → Language
-message g rules room = message_line (body g rules room)
+message g rules depth_left = message_line (body g rules depth_left)
 
 -- Where the rule on nests is left out, one more may be there: its fault is reported at its first word.
-abbrev pub room : Rules → ℕ
-room rules = if rules nests_bounded then 64 else 65
+abbrev pub depth_left : Rules → ℕ
+depth_left rules = if rules nests_bounded then 64 else 65
 
 -- ---- services
 
@@ -233,8 +233,8 @@ abbrev pub file_statement : Grammar → Rules → FileStatement → Language
 file_statement g rules FileStatement.nothing_said = option g rules or mark ";"
 file_statement g rules (FileStatement.an_import is_public n) = keyword "import" ▸ access is_public ▸ utf8_text rules n ▸ mark ";"
 file_statement g rules (FileStatement.a_package p) = λ ts. (ws : List (List ℕ)) × (p ≡ joined ws) × (keyword "package" ▸ fullname ws ▸ mark ";") ts
-file_statement g rules (FileStatement.a_message m) = message g rules (room rules) m
-file_statement g rules (FileStatement.an_extend ms) = beyond_strict g (extend g rules (body g rules (room rules)) ms)
+file_statement g rules (FileStatement.a_message m) = message g rules (depth_left rules) m
+file_statement g rules (FileStatement.an_extend ms) = beyond_strict g (extend g rules (body g rules (depth_left rules)) ms)
 file_statement g rules (FileStatement.an_enum e) = enum_line g rules e
 file_statement g rules (FileStatement.a_service s) = service g rules s
 
@@ -242,7 +242,7 @@ file_statement g rules (FileStatement.a_service s) = service g rules s
 abbrev pub syntax_said : Symbol → List ℕ → Language
 syntax_said first b = one first ▸ mark "=" ▸ one (text b) ▸ mark ";"
 
--- The syntax of a file, and the grammar of its other statements. Read strictly it is `proto3`; where the rule on it is left out, any symbol may stand
+-- The syntax of a file, and the grammar of its other statements. Read strictly it is `proto3`; where the rule on it is left out, any symbol may be
 -- first, and any text. Read leniently it is `proto2`, as where none is said, or `proto3`; where the rule is left out, any text.
 abbrev pub syntax_line : Reading → Rules → Grammar → Language
 syntax_line reading.Strict rules Strict ts =

@@ -139,7 +139,7 @@ in_oneof n f = record f { oneof = Some (pos n) }
 
 -- ---- messages
 
--- the fields in order, those of oneofs with the oneof's index, of which this many stand before
+-- the fields in order, those of oneofs with the oneof's index, of which this many come before
 abbrev pub fields_of : ℕ → List MessageStatement → List DeclaredField
 fields_of n [] = []
 fields_of n (MessageStatement.nothing_said ∷ ss) = fields_of n ss
@@ -235,7 +235,7 @@ message_of name ss = message_decl (record {
 
 -- ---- enums
 
--- the last `allow_alias` stands
+-- the last `allow_alias` counts
 abbrev pub alias_from : Bool → List EnumStatement → Bool
 alias_from now [] = now
 alias_from now (EnumStatement.allows_alias b ∷ ss) = alias_from b ss
@@ -302,7 +302,7 @@ imports_said (FileStatement.an_extend ms) = []
 imports_said (FileStatement.an_enum e) = []
 imports_said (FileStatement.a_service s) = []
 
--- the indexes of public imports, of which this many imports stand before
+-- the indexes of public imports, before which there are this many imports
 abbrev pub public_from : ℕ → List FileStatement → List ℤ
 public_from n [] = []
 public_from n (FileStatement.an_import true f ∷ ss) = pos n ∷ public_from (suc n) ss

@@ -77,7 +77,7 @@ pub(crate) enum MethodKind {
     Option,
 }
 
-/// What stands before a field's type.
+/// What comes before a field's type.
 #[derive(Clone, Copy, PartialEq, Eq)]
 pub(crate) enum Label {
     Unlabelled,

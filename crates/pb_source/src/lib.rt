@@ -7,7 +7,7 @@
 //! use std::test::Fail;
 //!
 //! /// How many messages a source declares, or where it fails and why.
-//! fn told(alloc: Global, source: &str) -> Result<String, Fail> {
+//! fn outcome(alloc: Global, source: &str) -> Result<String, Fail> {
 //!     match parse(alloc, "m.proto", source.as_bytes()) {
 //!         Ok(file) => Ok(format!(in alloc; "{} messages", file.messages.len())?),
 //!         Err(fault) => Ok(format!(in alloc; "{} at byte {}", fault.cause, fault.byte)?),
@@ -15,11 +15,11 @@
 //! }
 //!
 //! fn first_call(rt: HostRuntime) -> Result<(), Fail> {
-//!     let good = told(
+//!     let good = outcome(
 //!         rt.alloc(),
 //!         "syntax = \"proto3\"; message M { int32 a = 1; }",
 //!     )?;
-//!     let bad = told(
+//!     let bad = outcome(
 //!         rt.alloc(),
 //!         "syntax = \"proto3\"; message M { required int32 a = 1; }",
 //!     )?;

@@ -5,11 +5,11 @@ ghost use Rattle.pb_declarations.specs.Decls.{DeclaredFile};
 ghost use Rattle.pb_declarations.specs.View.{file_view};
 ghost use Rattle.pb_tokens.specs.declared.fault.SourceCause.{SourceCause};
 ghost use Rattle.pb_tokens.specs.Fault.{fault, out_of_memory};
-ghost use Rattle.pb_tokens.specs.Language.{told};
+ghost use Rattle.pb_tokens.specs.Language.{reported};
 ghost use Rattle.pb_tokens.specs.SymbolView.{symbols_of};
 ghost use Rattle.pb_source.specs.declared.reading.Reading.{Reading};
 ghost use Rattle.pb_source.specs.Source.{place_in, IsSourceIn, HasFaultIn, IsSource, HasFault, IsLenientSource, HasLenientFault};
-ghost use Rattle.pb_source.specs.Readers.Told.{fault_at};
+ghost use Rattle.pb_source.specs.Readers.Reported.{fault_at};
 
 use crate::parsing::file;
 use crate::reading::Reading;
@@ -26,7 +26,7 @@ const MAX_BYTES: usize = 2147483647;
 
 /// The cause that is reported where a rule is broken, or where a symbol was not expected.
 fn cause_of(rule: Option<Rule>) -> SourceCause
-    ensures { result ≡ told rule }
+    ensures { result ≡ reported rule }
 {
     match rule {
         None => SourceCause::Unexpected,

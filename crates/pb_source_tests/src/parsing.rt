@@ -88,7 +88,7 @@ fn allocations(rt: HostRuntime) -> Result<(), Fail> {
     Ok(())
 }
 
-/// Sources as they stand, with their faults.
+/// Sources as they are, with their faults.
 const WHOLE: &[(&[u8], &str)] = &[
     (b"", "0 NotProto3"),
     (b"/**/", "4 NotProto3"),

@@ -5,7 +5,7 @@ use std::alloc::Global;
 use std::test::Fail;
 
 /// A row: the source, then each token as its kind (W, N, T, S), its first byte and the byte after it, or `!`, the byte and the cause of the
-/// fault. In a source `¶` stands for a line feed, `␀` for a NUL and `␡` for the delete character.
+/// fault. In a source `¶` means a line feed, `␀` for a NUL and `␡` for the delete character.
 const ROWS: &str = "
  =>
 a => W0-1

@@ -11,7 +11,7 @@ use Rattle.pb_tokens.specs.Language.{Language, ◌▸◌, one, nothing, Rules}
 use Rattle.pb_tokens.specs.Aggregates.{role_of, same_bracket, closing, Balanced}
 use Rattle.pb_tokens.specs.Phrases.{mark, aggregate}
 use Rattle.pb_tokens.specs.Readers.Forms.{symbol, plain, mark_reader}
-use Rattle.pb_tokens.specs.Readers.Phrases.{behind_role, open_behind, closed_reader, aggregate_reader}
+use Rattle.pb_tokens.specs.Readers.Phrases.{behind_role, open_after, closed_reader, aggregate_reader}
 use Rattle.pb_tokens.proofs.ReaderLaws.{Reads, Chained, reads_chain}
 use Rattle.pb_tokens.proofs.Parts.{reads_answer}
 use Rattle.pb_tokens.proofs.Compose.{never, any_stop, reads_behind, said_so}
@@ -25,7 +25,7 @@ Closed (b ∷ bs) = Balanced ▸ closing b ▸ Closed bs
 
 -- one symbol, by the brackets that are open after it
 abbrev Step : List Bracket → Rules → List Bracket → Language
-Step bs rules cs ts = (s : Symbol) × (open_behind bs s ≡ Some cs) × (ts ≡ s ∷ [])
+Step bs rules cs ts = (s : Symbol) × (open_after bs s ≡ Some cs) × (ts ≡ s ∷ [])
 
 abbrev closer : Bracket → Symbol
 closer Curly = sign (codes "}")
@@ -53,12 +53,12 @@ same_only Angle Curly h = absurd (false≢true h)
 same_only Angle Square h = absurd (false≢true h)
 same_only Angle Angle h = refl
 
-closes_last : (b : Bracket) (bs : List Bracket) (s : Symbol) → role_of s ≡ Closes b → open_behind (b ∷ bs) s ≡ Some bs
+closes_last : (b : Bracket) (bs : List Bracket) (s : Symbol) → role_of s ≡ Closes b → open_after (b ∷ bs) s ≡ Some bs
 closes_last b bs s e = ap (behind_role b bs) e ∙ ap (λ t. if t then Some bs else None) (same_self b)
 
-reads_step : {n : ℕ} {e : Symbol → Bool} (b : Bracket) (bs : List Bracket) → Reads n e (Step (b ∷ bs)) (symbol (plain (open_behind (b ∷ bs))))
+reads_step : {n : ℕ} {e : Symbol → Bool} (b : Bracket) (bs : List Bracket) → Reads n e (Step (b ∷ bs)) (symbol (plain (open_after (b ∷ bs))))
 reads_step b bs =
-    reads_plain {R = λ cs ts. (s : Symbol) × (open_behind (b ∷ bs) s ≡ Some cs) × (ts ≡ s ∷ [])} (open_behind (b ∷ bs)) (closer b) bs (closes_last b bs (closer b) (closer_closes b))
+    reads_plain {R = λ cs ts. (s : Symbol) × (open_after (b ∷ bs) s ≡ Some cs) × (ts ≡ s ∷ [])} (open_after (b ∷ bs)) (closer b) bs (closes_last b bs (closer b) (closer_closes b))
     (λ s cs h. (s, h, refl)) (λ cs c d. d)
 
 abbrev Steps : Bracket → List Bracket → Language
@@ -133,7 +133,7 @@ reads_closed zero (b ∷ bs) =
     reads_none never (λ rules (u : Unit {0}). Closed (b ∷ bs)) (closed_reader zero (b ∷ bs)) (λ rules ts. refl) (λ rules. some_closed (b ∷ bs)) (closed_full b bs)
 reads_closed (suc n) (b ∷ bs) =
     said_so {Q = λ rules (u : Unit {0}). Closed (b ∷ bs)}
-    (reads_chain (suc n) n never never (Step (b ∷ bs)) (λ cs rules (u : Unit {0}). Closed cs) (symbol (plain (open_behind (b ∷ bs)))) (closed_reader n)
+    (reads_chain (suc n) n never never (Step (b ∷ bs)) (λ cs rules (u : Unit {0}). Closed cs) (symbol (plain (open_after (b ∷ bs)))) (closed_reader n)
     (reads_step b bs) (λ cs. reads_closed n cs) (λ rules v w c rest d s. any_stop (c ++ rest)) (λ rules cs c d. let l = one_long c d.0 d.2 in omega arith))
     (to_closed b bs) (of_closed b bs)
   where

@@ -3,7 +3,7 @@ use Rattle.std.proofs.Common.{◌≡◌, ℕ, zero, suc, ◌<◌, ◌≤◌, Lis
 use Rattle.pb_tokens.specs.declared.bracket.Bracket.{Bracket}
 use Rattle.pb_tokens.specs.Symbols.{Symbol}
 use Rattle.pb_tokens.specs.Language.{all_rules}
-use Rattle.pb_tokens.specs.Readers.Phrases.{open_behind, closed_reader}
+use Rattle.pb_tokens.specs.Readers.Phrases.{open_after, closed_reader}
 use Rattle.pb_tokens.specs.Readers.Given.{symbols_from}
 use Rattle.pb_tokens.specs.declared.symbol.Placed.{Placed}
 use Rattle.pb_tokens.proofs.UntilSteps.{length_from}
@@ -21,14 +21,14 @@ pub record HasOpened (ps : List Placed) (at : ℕ) (bs : List Bracket) (here : �
 pub starts : (ps : List Placed) (at : ℕ) (bs : List Bracket) → at ≤ length ps → HasOpened ps at bs at bs
 starts ps at bs l = record { within = l; passed = omega arith; turned = λ n m. (n, (let a = length_from ps at in omega arith), refl) }
 
-step : (m : ℕ) (cs ds : List Bracket) (s : Symbol) (ts : List Symbol) → suc (length ts) ≤ m → open_behind cs s ≡ Some ds
+step : (m : ℕ) (cs ds : List Bracket) (s : Symbol) (ts : List Symbol) → suc (length ts) ≤ m → open_after cs s ≡ Some ds
     → (k : ℕ) × (length ts ≤ k) × (closed_reader m cs all_rules (s ∷ ts) ≡ closed_reader k ds all_rules ts)
 step zero cs ds s ts l h = absurd (omega arith)
 step (suc m) [] ds s ts l h = absurd (cc h)
 step (suc m) (c ∷ cs) ds s ts l h = (m, omega arith, rw h refl)
 
 pub goes_on : (ps : List Placed) (at : ℕ) (bs : List Bracket) (here after : ℕ) (cs ds : List Bracket) (s : Symbol) → HasOpened ps at bs here cs → after ≡ suc here → here < length ps
-    → symbols_from ps here ≡ s ∷ symbols_from ps after → open_behind cs s ≡ Some ds → HasOpened ps at bs after ds
+    → symbols_from ps here ≡ s ∷ symbols_from ps after → open_after cs s ≡ Some ds → HasOpened ps at bs after ds
 goes_on ps at bs here after cs ds s r e l h k = record {
   within = omega arith;
   passed = (let p = r.passed in omega arith);
@@ -39,14 +39,14 @@ goes_on ps at bs here after cs ds s r e l h k = record {
       (x.0, x.1, t.2 ∙ ap (λ ts. closed_reader t.0 cs all_rules ts) h ∙ x.2);
 }
 
-mismatched : (m : ℕ) (cs : List Bracket) (s : Symbol) (ts : List Symbol) → suc (length ts) ≤ m → 0 < length cs → open_behind cs s ≡ None
+mismatched : (m : ℕ) (cs : List Bracket) (s : Symbol) (ts : List Symbol) → suc (length ts) ≤ m → 0 < length cs → open_after cs s ≡ None
     → closed_reader m cs all_rules (s ∷ ts) ≡ Err (s ∷ ts, None)
 mismatched zero cs s ts l f h = absurd (omega arith)
 mismatched (suc m) [] s ts l f h = absurd (omega arith)
 mismatched (suc m) (c ∷ cs) s ts l f h = rw h refl
 
 pub refuses : (ps : List Placed) (at : ℕ) (bs : List Bracket) (here : ℕ) (cs : List Bracket) (s : Symbol) (ts : List Symbol) → HasOpened ps at bs here cs → 0 < length cs
-    → symbols_from ps here ≡ s ∷ ts → open_behind cs s ≡ None → (n : ℕ) → length ps ≤ n
+    → symbols_from ps here ≡ s ∷ ts → open_after cs s ≡ None → (n : ℕ) → length ps ≤ n
     → closed_reader n bs all_rules (symbols_from ps at) ≡ Err (symbols_from ps here, None)
 refuses ps at bs here cs s ts r f h k n l =
     let t = r.turned n l in

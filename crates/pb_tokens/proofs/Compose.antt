@@ -2,7 +2,7 @@
 use Rattle.std.proofs.Common.{◌≡◌, ℕ, List, [], ◌∷◌, ◌++◌, Bool, true, false, refl, ap, sym, ◌∙◌, subst, append-nil, arith}
 use Rattle.pb_tokens.specs.Symbols.{Symbol}
 use Rattle.pb_tokens.specs.Language.{Language, ◌▸◌, ◌or◌, Rules, all_rules}
-use Rattle.pb_tokens.specs.Readers.Forms.{Reader, answer, mapped, both, behind, before, choice, first_passes}
+use Rattle.pb_tokens.specs.Readers.Forms.{Reader, answer, mapped, both, preceded, before, choice, first_passes}
 use Rattle.pb_tokens.proofs.ReaderLaws.{Reads, IsStop, Chained, reads_chain}
 use Rattle.pb_tokens.proofs.Parts.{Answered, reads_answer, reads_as, reads_choice}
 
@@ -62,14 +62,14 @@ pub reads_both : {A B : Type 0} {n : ℕ} {e : Symbol → Bool} {R : Rules → A
 reads_both rp rq = reads_both_so rp rq (λ rules w c rest d s. any_stop (c ++ rest))
 
 pub reads_behind_so : {B : Type 0} {n : ℕ} {e1 e2 : Symbol → Bool} {L : Rules → Language} {S : Rules → B → Language} {p : Reader (Unit {0})} {q : Reader B}
-    → Reads n e1 (λ rules u. L rules) p → Reads n e2 S q → Stops e1 e2 S → Reads n e2 (Behind L S) (behind p q)
+    → Reads n e1 (λ rules u. L rules) p → Reads n e2 S q → Stops e1 e2 S → Reads n e2 (Behind L S) (preceded p q)
 reads_behind_so {B} {n} {e1} {e2} {L} {S} {p} {q} rp rq stops =
-    reads_as n e2 (Chained (λ rules u. L rules) (λ u. S)) (Behind L S) (behind p q)
+    reads_as n e2 (Chained (λ rules u. L rules) (λ u. S)) (Behind L S) (preceded p q)
     (reads_chain n n e1 e2 (λ rules u. L rules) (λ u. S) p (λ u. q) rp (λ u. rq) (λ rules v w c rest d s. stops rules w c rest d s) (λ rules v c d. omega arith))
     (λ rules w c d. d.1) (λ rules w c d. (tt, d))
 
 pub reads_behind : {B : Type 0} {n : ℕ} {e : Symbol → Bool} {L : Rules → Language} {S : Rules → B → Language} {p : Reader (Unit {0})} {q : Reader B}
-    → Reads n never (λ rules u. L rules) p → Reads n e S q → Reads n e (Behind L S) (behind p q)
+    → Reads n never (λ rules u. L rules) p → Reads n e S q → Reads n e (Behind L S) (preceded p q)
 reads_behind rp rq = reads_behind_so rp rq (λ rules w c rest d s. any_stop (c ++ rest))
 
 pub reads_before_so : {A : Type 0} {n : ℕ} {e1 e2 : Symbol → Bool} {R : Rules → A → Language} {L : Rules → Language} {p : Reader A} {q : Reader (Unit {0})}

@@ -245,7 +245,7 @@ End Open = exponent_end true
 End MayPoint = Pointed or nothing
 End MustPoint = Pointed
 
-reads_pointed : {n : ℕ} → Reads n goes_on (λ rules (u : Unit {0}). Pointed) (Rattle.pb_tokens.specs.Readers.Forms.behind (mark_reader (codes ".")) fraction_reader)
+reads_pointed : {n : ℕ} → Reads n goes_on (λ rules (u : Unit {0}). Pointed) (Rattle.pb_tokens.specs.Readers.Forms.preceded (mark_reader (codes ".")) fraction_reader)
 reads_pointed {n} =
     reads_behind {L = λ rules. mark "."} {S = λ rules u. Fraction} (reads_mark (codes "."))
     (reads_stop n begins_fraction goes_on (λ rules (u : Unit {0}). Fraction) fraction_reader no_fraction reads_fraction)

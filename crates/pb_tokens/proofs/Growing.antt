@@ -12,8 +12,8 @@ use Rattle.pb_tokens.specs.Symbols.{Symbol}
 use Rattle.pb_tokens.specs.Language.{Rules}
 use Rattle.pb_tokens.specs.Said.{a_name, joined, last_said}
 use Rattle.pb_tokens.specs.Phrases.{is_the_name}
-use Rattle.pb_tokens.specs.Readers.Forms.{Outcome, Reader, on_outcome, answer, chain, mapped, both, behind, before, choice, by_kind, on_kind, if_some, guarded, ruled, first_passes, symbol, plain, judged, tested, is_mark, keyword_reader, mark_reader, until, separated, to_end}
-use Rattle.pb_tokens.specs.Readers.Phrases.{is_word, numeral_reader, open_behind, closed_reader, aggregate_reader, signed_value_reader, unquoted_reader, part_reader, name_reader, plus_or_minus_reader, integer_in, part_in, truth_in, type_of, is_dot, is_text, is_number, is_comma, if_allowed, listed, fullname_reader, typename_reader, constant_reader, optname_reader, assignment_reader, option_reader, said_reader, setting_reader, field_option_reader, options_reader, ended_reader, value_end_reader, type_reader}
+use Rattle.pb_tokens.specs.Readers.Forms.{Outcome, Reader, on_outcome, answer, chain, mapped, both, preceded, before, choice, by_kind, on_kind, if_some, guarded, ruled, first_passes, symbol, plain, judged, tested, is_mark, keyword_reader, mark_reader, until, separated, to_end}
+use Rattle.pb_tokens.specs.Readers.Phrases.{is_word, numeral_reader, open_after, closed_reader, aggregate_reader, signed_value_reader, unquoted_reader, part_reader, name_reader, plus_or_minus_reader, integer_in, part_in, truth_in, type_of, is_dot, is_text, is_number, is_comma, if_allowed, listed, fullname_reader, typename_reader, constant_reader, optname_reader, assignment_reader, option_reader, said_reader, setting_reader, field_option_reader, options_reader, ended_reader, value_end_reader, type_reader}
 
 -- the second may go further than the first
 pub record Grows {A : Type 0} (p q : Reader A) : Type 0 where
@@ -50,7 +50,7 @@ grows_mapped g r = grows_chain r (λ v. grows_same (answer (g v)))
 pub grows_both : {A B : Type 0} {p q : Reader A} {r s : Reader B} → Grows p q → Grows r s → Grows (both p r) (both q s)
 grows_both g h = grows_chain g (λ v. grows_mapped (λ w. (v, w)) h)
 
-pub grows_behind : {B : Type 0} {p q : Reader (Unit {0})} {r s : Reader B} → Grows p q → Grows r s → Grows (behind p r) (behind q s)
+pub grows_behind : {B : Type 0} {p q : Reader (Unit {0})} {r s : Reader B} → Grows p q → Grows r s → Grows (preceded p r) (preceded q s)
 grows_behind g h = grows_chain g (λ _. h)
 
 pub grows_before : {A : Type 0} {p q : Reader A} {r s : Reader (Unit {0})} → Grows p q → Grows r s → Grows (before p r) (before q s)
@@ -164,7 +164,7 @@ grows_aggregate n = grows_behind (grows_same (mark_reader (codes "{"))) (grows_c
     grows_closed zero [] = record { grows = λ rules ts. inl refl }
     grows_closed zero (b ∷ bs) = record { grows = λ rules ts. inr (None, refl) }
     grows_closed (suc n) [] = record { grows = λ rules ts. inl refl }
-    grows_closed (suc n) (b ∷ bs) = grows_chain (grows_same (symbol (plain (open_behind (b ∷ bs))))) (grows_closed n)
+    grows_closed (suc n) (b ∷ bs) = grows_chain (grows_same (symbol (plain (open_after (b ∷ bs))))) (grows_closed n)
 
 grows_signed_value : (g : Grammar) (n : ℕ) → Grows (signed_value_reader g n) (signed_value_reader g (suc n))
 unfolding signed_value_reader
@@ -220,7 +220,7 @@ grows_field_option g n =
 grows_options : {I : Type 0} {p q : Reader I} (close : List ℕ) (n : ℕ) → Grows p q → Grows (options_reader close n p) (options_reader close (suc n) q)
 unfolding options_reader
 grows_options close n g = grows_behind (grows_same (mark_reader (codes "[")))
-    (grows_before (grows_listed n g) (grows_same (behind (mark_reader (codes "]")) (mark_reader close))))
+    (grows_before (grows_listed n g) (grows_same (preceded (mark_reader (codes "]")) (mark_reader close))))
 
 pub grows_ended : (close : List ℕ) (g : Grammar) (n : ℕ) → Grows (ended_reader close g n) (ended_reader close g (suc n))
 unfolding ended_reader

@@ -15,7 +15,7 @@ use Rattle.pb_tokens.specs.Symbols.{Symbol, word, number, text, sign}
 use Rattle.pb_tokens.specs.Language.{Language, ◌▸◌, ◌or◌, one, Rules}
 use Rattle.pb_tokens.specs.Said.{last_said}
 use Rattle.pb_tokens.specs.Phrases.{keyword, mark, integer, limited, aggregate, counted, signed, plus_or_minus, plain_constant, constant, fullname, typename, part, optname, assignment, option, truth, is_the_name, setting, is_one_of, barred, field_option, Listed, options, ended, field_end, group_end, value_end}
-use Rattle.pb_tokens.specs.Readers.Forms.{Reader, behind, mapped, first_passes, is_keyword, is_mark, tested, if_so, symbol, judged, plain, mark_reader}
+use Rattle.pb_tokens.specs.Readers.Forms.{Reader, preceded, mapped, first_passes, is_keyword, is_mark, tested, if_so, symbol, judged, plain, mark_reader}
 use Rattle.pb_tokens.specs.Readers.Phrases.{is_dot, is_comma, listed, integer_in, limited_in, limited_reader, counted_reader, signed_reader, is_text, is_word, is_number, numeral_reader, aggregate_reader, signed_value_reader, unquoted_reader, plus_or_minus_reader, constant_reader, part_in, part_reader, optname_reader, assignment_reader, option_reader, truth_in, said_reader, setting_reader, is_barred, if_allowed, field_option_reader, options_reader, ended_reader, field_end_reader, group_end_reader, value_end_reader}
 use Rattle.pb_tokens.proofs.ReaderLaws.{Reads, IsStop, Chained, reads_chain}
 use Rattle.pb_tokens.proofs.Parts.{Answered, reads_answer, reads_stop}
@@ -493,7 +493,7 @@ module _ (g : Grammar) where
     unfolding setting_reader
     reads_setting n =
         said_so {Q = setting g v}
-        (reads_chain n n is_dot goes_on (optname g) (Assigned v) (optname_reader g n) (λ ws. behind (mark_reader (codes "=")) (said_reader g n (is_the_name v ws))) (reads_optname g n)
+        (reads_chain n n is_dot goes_on (optname g) (Assigned v) (optname_reader g n) (λ ws. preceded (mark_reader (codes "=")) (said_reader g n (is_the_name v ws))) (reads_optname g n)
         (λ ws. reads_behind {L = λ rules. mark "="} (reads_mark (codes "=")) (reads_said n (is_the_name v ws)))
         (λ rules ws o c rest d s. mark_stops {S = Said (is_the_name v ws) rules o} (codes "=") c rest refl d) (λ rules ws c d. omega arith))
         to_setting of_setting

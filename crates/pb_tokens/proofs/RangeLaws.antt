@@ -7,7 +7,7 @@ use Rattle.pb_tokens.specs.declared.rule.Rule.TheVariants.{TextsValid as texts_v
 use Rattle.pb_tokens.specs.Symbols.{Symbol, word, number, text, sign}
 use Rattle.pb_tokens.specs.Language.{Language, ◌or◌, Rules}
 use Rattle.pb_tokens.specs.Phrases.{keyword, unsigned, signed, range, utf8_text, end_behind, message_range, enum_range}
-use Rattle.pb_tokens.specs.Readers.Forms.{Reader, answer, behind, mapped, choice, first_passes, is_keyword, keyword_reader}
+use Rattle.pb_tokens.specs.Readers.Forms.{Reader, answer, preceded, mapped, choice, first_passes, is_keyword, keyword_reader}
 use Rattle.pb_tokens.specs.Readers.Phrases.{is_text, counted_reader, signed_reader, range_reader, message_range_reader, enum_range_reader, utf8_in, utf8_reader}
 use Rattle.pb_tokens.proofs.ReaderLaws.{Reads, Chained, reads_chain}
 use Rattle.pb_tokens.proofs.Parts.{Answered, reads_answer}
@@ -83,12 +83,12 @@ module _ (B : Rules → ℤ → Language) (bound : Reader ℤ) (end : ℤ → �
   of_range rules r c (inr (inr (e, (x, y, hx, (p, q, hp, hm, i), j)))) = (r.0, (x, y, hx, inl (p, q, hp, inl (tt, ends_so r greatest e, hm), i), j))
 
   reads_end : (n : ℕ) (a : ℤ) → Reads n never B bound → Reads n is_to (End a)
-      (choice is_to (behind (keyword_reader (codes "to")) (choice (is_keyword (codes "max")) (mapped (λ _. (a, greatest)) (keyword_reader (codes "max"))) (mapped (λ z. (a, end z)) bound))) (answer (a, end a)))
+      (choice is_to (preceded (keyword_reader (codes "to")) (choice (is_keyword (codes "max")) (mapped (λ _. (a, greatest)) (keyword_reader (codes "max"))) (mapped (λ z. (a, end z)) bound))) (answer (a, end a)))
   reads_end n a rb =
-      reads_either {p = behind (keyword_reader (codes "to")) (choice (is_keyword (codes "max")) (mapped (λ _. (a, greatest)) (keyword_reader (codes "max"))) (mapped (λ z. (a, end z)) bound))}
+      reads_either {p = preceded (keyword_reader (codes "to")) (choice (is_keyword (codes "max")) (mapped (λ _. (a, greatest)) (keyword_reader (codes "max"))) (mapped (λ z. (a, end z)) bound))}
       is_to
       (Rattle.pb_tokens.proofs.Parts.reads_stop n never is_to (Behind (λ rules. keyword "to") (UpTo a))
-      (behind (keyword_reader (codes "to")) (choice (is_keyword (codes "max")) (mapped (λ _. (a, greatest)) (keyword_reader (codes "max"))) (mapped (λ z. (a, end z)) bound)))
+      (preceded (keyword_reader (codes "to")) (choice (is_keyword (codes "max")) (mapped (λ _. (a, greatest)) (keyword_reader (codes "max"))) (mapped (λ z. (a, end z)) bound)))
       (λ rest s. any_stop rest)
       (reads_behind {L = λ rules. keyword "to"} {S = UpTo a} (reads_keyword (codes "to"))
       (reads_either (is_keyword (codes "max")) (reads_mapped {A = Unit {0}} {R = λ rules u. keyword "max"} (λ _. (a, greatest)) (reads_keyword (codes "max"))) (reads_mapped (λ z. (a, end z)) rb)
@@ -103,7 +103,7 @@ module _ (B : Rules → ℤ → Language) (bound : Reader ℤ) (end : ℤ → �
   reads_range n rb =
       said_so {Q = λ rules. range (B rules) end greatest}
       (reads_chain n n never is_to B End bound
-      (λ a. choice is_to (behind (keyword_reader (codes "to")) (choice (is_keyword (codes "max")) (mapped (λ _. (a, greatest)) (keyword_reader (codes "max"))) (mapped (λ z. (a, end z)) bound))) (answer (a, end a)))
+      (λ a. choice is_to (preceded (keyword_reader (codes "to")) (choice (is_keyword (codes "max")) (mapped (λ _. (a, greatest)) (keyword_reader (codes "max"))) (mapped (λ z. (a, end z)) bound))) (answer (a, end a)))
       rb (λ a. reads_end n a rb) (λ rules a r c rest d s. any_stop (c ++ rest)) (λ rules a c d. omega arith))
       to_range of_range
 

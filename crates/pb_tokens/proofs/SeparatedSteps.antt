@@ -3,7 +3,7 @@ use Rattle.std.proofs.Common.{◌≡◌, ℕ, zero, suc, ◌<◌, ◌≤◌, Lis
 use Rattle.std.proofs.lemmas.Bool.{false≢true}
 use Rattle.pb_tokens.specs.Symbols.{Symbol}
 use Rattle.pb_tokens.specs.Language.{all_rules}
-use Rattle.pb_tokens.specs.Readers.Forms.{Reader, Refusal, Outcome, on_outcome, answer, first_passes, choice, behind, separated}
+use Rattle.pb_tokens.specs.Readers.Forms.{Reader, Refusal, Outcome, on_outcome, answer, first_passes, choice, preceded, separated}
 use Rattle.pb_tokens.specs.Readers.Given.{symbols_from, Fails}
 use Rattle.pb_tokens.specs.declared.symbol.Placed.{Placed}
 use Rattle.pb_tokens.specs.declared.refusal.Refusal.{Refusal as CodeRefusal}
@@ -15,7 +15,7 @@ with_front front o = on_outcome o (λ is rest. Ok (front ++ is, rest))
 
 -- { separator item }
 abbrev pub rest_of : {I : Type 0} → ℕ → (Symbol → Bool) → Reader I → Reader (Unit {0}) → List Symbol → Outcome (List I)
-rest_of turns test item separator = choice test (behind separator (separated turns test item separator)) (answer []) all_rules
+rest_of turns test item separator = choice test (preceded separator (separated turns test item separator)) (answer []) all_rules
 
 pub record Turned {I : Type 0} (test : Symbol → Bool) (item : Reader I) (separator : Reader (Unit {0})) (m : ℕ) (ts : List Symbol) (front : List I) (rest : List Symbol) : Type 0 where
   pub turns : ℕ
@@ -59,7 +59,7 @@ module _ {I : Type 0} (test : Symbol → Bool) (item : Reader I) (separator : Re
   rest_read t here mid f g = rw (f, g) refl
 
   pub turns_on : (n : ℕ) (ts : List Symbol) (front : List I) (here rest : List Symbol) (j : I) → Turned test item separator n ts front here → length rest < length here → first_passes test here ≡ true
-      → behind separator item all_rules here ≡ Ok (j, rest) → Turned test item separator n ts (front ++ j ∷ []) rest
+      → preceded separator item all_rules here ≡ Ok (j, rest) → Turned test item separator n ts (front ++ j ∷ []) rest
   turns_on n ts front here rest j t m f h =
       let e = t.enough in
       let p = apart (separator all_rules here) j rest h in
@@ -77,7 +77,7 @@ module _ {I : Type 0} (test : Symbol → Bool) (item : Reader I) (separator : Re
   passed e (Ok x) t h = item_fails t x.1 e h
   passed e (Err x) t h = let p : x ≡ e = cc h in ap Err p
 
-  rest_refused : (t : ℕ) (here : List Symbol) (e : Refusal) → length here ≤ t → first_passes test here ≡ true → behind separator item all_rules here ≡ Err e → rest_of t test item separator here ≡ Err e
+  rest_refused : (t : ℕ) (here : List Symbol) (e : Refusal) → length here ≤ t → first_passes test here ≡ true → preceded separator item all_rules here ≡ Err e → rest_of t test item separator here ≡ Err e
   rest_refused zero [] e l f h = absurd (false≢true f)
   rest_refused zero (s ∷ ts) e l f h = absurd (omega arith)
   rest_refused (suc t) here e l f h = rw f (passed e (separator all_rules here) t h)
@@ -86,7 +86,7 @@ module _ {I : Type 0} (test : Symbol → Bool) (item : Reader I) (separator : Re
   err_front front o e h = rw h refl
 
   pub refused_there : (n : ℕ) (ts : List Symbol) (front : List I) (here : List Symbol) (e : Refusal) → Turned test item separator n ts front here → first_passes test here ≡ true
-      → behind separator item all_rules here ≡ Err e → separated n test item separator all_rules ts ≡ Err e
+      → preceded separator item all_rules here ≡ Err e → separated n test item separator all_rules ts ≡ Err e
   refused_there n ts front here e t f h = t.same ∙ err_front front _ e (rest_refused t.turns here e t.enough f h)
 
   pub stops_there : (n : ℕ) (ts : List Symbol) (front : List I) (here : List Symbol) → Turned test item separator n ts front here → first_passes test here ≡ false
@@ -116,7 +116,7 @@ module _ {I : Type 0} (test : Symbol → Bool) (item : ℕ → Reader I) (separa
   }
 
   pub goes_on : (at : ℕ) (front : List I) (here after : ℕ) (j : I) → HasRead test item separator ps at front here → here < after → after ≤ length ps → true ≡ first_passes test (symbols_from ps here)
-      → ((n : ℕ) → length ps ≤ n → behind separator (item n) all_rules (symbols_from ps here) ≡ Ok (j, symbols_from ps after)) → HasRead test item separator ps at (front ++ j ∷ []) after
+      → ((n : ℕ) → length ps ≤ n → preceded separator (item n) all_rules (symbols_from ps here) ≡ Ok (j, symbols_from ps after)) → HasRead test item separator ps at (front ++ j ∷ []) after
   goes_on at front here after j r k w f h = record {
     within = w;
     passed = (let p = r.passed in omega arith);
@@ -130,7 +130,7 @@ module _ {I : Type 0} (test : Symbol → Bool) (item : ℕ → Reader I) (separa
       fails_on ps e _ _ (λ x k. item_refused test (item n) separator n (symbols_from ps at) x (none n) (let a = length_from ps at in omega arith) k) (h n l)
 
   pub refuses : (at : ℕ) (front : List I) (here : ℕ) (e : CodeRefusal) → HasRead test item separator ps at front here → true ≡ first_passes test (symbols_from ps here)
-      → ((n : ℕ) → length ps ≤ n → Fails ps e (behind separator (item n) all_rules (symbols_from ps here)))
+      → ((n : ℕ) → length ps ≤ n → Fails ps e (preceded separator (item n) all_rules (symbols_from ps here)))
       → (n : ℕ) → length ps ≤ n → Fails ps e (separated n test (item n) separator all_rules (symbols_from ps at))
   refuses at front here e r f h n l = fails_on ps e _ _ (λ x k. refused_there test (item n) separator n (symbols_from ps at) front (symbols_from ps here) x (r.turned n l) (sym f) k) (h n l)
 

@@ -1,4 +1,4 @@
--- What stands between the braces of an aggregate: any symbols, with balanced brackets (Protocol Buffers Text Format Language Specification, "Fields").
+-- What is between the braces of an aggregate: any symbols, with balanced brackets (Protocol Buffers Text Format Language Specification, "Fields").
 use Rattle.std.specs.Prelude.{◌≡◌, ℕ, List, [], ◌∷◌, ◌++◌, codes, Bool, true, false, if◌then◌else◌}
 use Rattle.std.specs.Str.{bytes_eq}
 use Rattle.pb_tokens.specs.declared.bracket.Bracket.{Bracket}

@@ -4,7 +4,7 @@ use Rattle.std.specs.List.{list_all}
 use Rattle.std.specs.Char.{is_digit}
 use Rattle.std.specs.Str.Parse.{digits_value}
 
--- 2^32 stands for what is above it
+-- 2^32 where the number is above it
 abbrev pub capped : ℕ → ℕ
 capped n = min n (2 ^ 32)
 

@@ -55,9 +55,9 @@ cause_of nests_bounded = cause.NestedTooDeep
 cause_of texts_valid = cause.BadUtf8
 
 -- what is reported where a rule is broken, or where a symbol was not expected
-abbrev pub told : Option Rule → SourceCause
-told None = cause.Unexpected
-told (Some r) = cause_of r
+abbrev pub reported : Option Rule → SourceCause
+reported None = cause.Unexpected
+reported (Some r) = cause_of r
 
 -- the symbols so far begin a word of the language
 abbrev pub Begins : {A : Type 0} → (A → Language) → Language

@@ -1,4 +1,4 @@
--- Ranges by where they stand.
+-- Ranges by where they are declared.
 use Rattle.std.specs.Prelude.{◌≡◌, ℕ, ℤ, pos, codes}
 use Rattle.pb_tokens.specs.Phrases.{end_behind}
 use Rattle.pb_tokens.specs.Readers.Forms.{Reader, choice, mapped, is_keyword, keyword_reader}

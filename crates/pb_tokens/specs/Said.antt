@@ -13,7 +13,7 @@ joined [] = []
 joined (w ∷ []) = w
 joined (w ∷ v ∷ ws) = w ++ 46 ∷ joined (v ∷ ws)
 
--- of what was said more than once, the last stands
+-- of what is said more than once, the last counts
 abbrev pub last_said : Option Bool → List (Option Bool) → Option Bool
 last_said now [] = now
 last_said now (None ∷ ss) = last_said now ss

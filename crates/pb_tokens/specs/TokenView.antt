@@ -9,6 +9,6 @@ token_of t = record { kind = t.kind; at = t.at; text = t.text.now }
 abbrev pub tokens_of : List CodeToken → List PlacedToken
 tokens_of = map token_of
 
--- the token's text stands in the source at the token's place
+-- the source has the token's text at the token's place
 abbrev pub IsSliceOf : List ℕ → CodeToken → Type 0
 IsSliceOf source t = t.text.now ≡ take (length t.text.now) (drop t.at source)

@@ -38,7 +38,7 @@ Stops test (c ∷ cs) = test c ≡ false
 
 -- ---- comments
 
--- `*/` stands in the bytes
+-- `*/` is in the bytes
 abbrev pub has_close : List ℕ → Bool
 has_close [] = false
 has_close (c ∷ []) = false
@@ -82,11 +82,11 @@ pub data Escape : List ℕ → List ℕ → List ℕ → Type 0 where
       {c n : ℕ} {ds rest : List ℕ} → ((c ≡ 117) × (length ds ≡ 4)) ⊎ ((c ≡ 85) × (length ds ≡ 8)) → AreDigits 16 ds n
       → (n < 55296) ⊎ ((57343 < n) × (n < 1114112)) → Escape (92 ∷ c ∷ ds) (encode_utf8 n) rest
 
--- a byte that stands for itself in a text with this quote
+-- a byte that means itself in a string with this quote
 abbrev pub is_plain : ℕ → ℕ → Bool
 is_plain quote c = not (c == quote || c == 92 || c == 10 || c == 0)
 
--- what stands between the quotes, what it means, and what follows
+-- what is between the quotes, what it means, and what follows
 pub data Units (quote : ℕ) : List ℕ → List ℕ → List ℕ → Type 0 where
   none : {rest : List ℕ} → Units quote [] [] rest
   plain : {c : ℕ} {cs vs rest : List ℕ} → is_plain quote c ≡ true → Units quote cs vs rest → Units quote (c ∷ cs) (c ∷ vs) rest
@@ -94,8 +94,8 @@ pub data Units (quote : ℕ) : List ℕ → List ℕ → List ℕ → Type 0 whe
 
 -- A text's quote comes before a line feed and the end, not counting what comes after a `\`, as the first byte does where the flag says so.
 abbrev pub closes : ℕ → Bool → List ℕ → Bool
-closes quote behind [] = false
-closes quote behind (c ∷ cs) = if c == 10 then false else (if not behind && c == quote then true else closes quote (not behind && c == 92) cs)
+closes quote escaped [] = false
+closes quote escaped (c ∷ cs) = if c == 10 then false else (if not escaped && c == quote then true else closes quote (not escaped && c == 92) cs)
 
 abbrev pub is_closed : ℕ → List ℕ → Bool
 is_closed quote bs = closes quote false bs
@@ -124,7 +124,7 @@ pub data Lexes : ℕ → List ℕ → List PlacedToken → ℕ → List ℕ → 
 abbrev pub NoEscape : List ℕ → Type 0
 NoEscape bs = (e v rest : List ℕ) → Escape e v rest → bs ≢ e ++ rest
 
--- What stands here is the beginning of no token, comment or blank.
+-- The bytes begin with no token, comment or blank.
 pub data FaultHere (x : ℕ) : List ℕ → ℕ → SourceCause → Type 0 where
   open_comment : {bs : List ℕ} → has_close bs ≡ false → FaultHere x (47 ∷ 42 ∷ bs) x OpenComment
   open_text : {quote : ℕ} {bs : List ℕ} → is_quote quote ≡ true → is_closed quote bs ≡ false → FaultHere x (quote ∷ bs) x OpenText

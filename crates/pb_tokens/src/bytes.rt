@@ -53,7 +53,7 @@ pub(crate) fn word_len(bytes: &[u8]) -> usize
     bytes.len()
 }
 
-/// How many bytes at the front stand before a line feed.
+/// How many bytes there are before the first line feed.
 pub(crate) fn line_len(bytes: &[u8]) -> usize
     ensures within { result ≤ length bytes.now }
     ensures passes { list_all goes_on_line (take result bytes.now) ≡ true }
@@ -67,7 +67,7 @@ pub(crate) fn line_len(bytes: &[u8]) -> usize
     bytes.len()
 }
 
-/// How many bytes stand before the first `*/`.
+/// How many bytes there are before the first `*/`.
 pub(crate) fn close_at(bytes: &[u8]) -> Option<usize>
     ensures found { IfSome result (λ i. (i + 1 < length bytes.now) × (slice_index bytes.now i ≡ 42) × (slice_index bytes.now (i + 1) ≡ 47)
         × (has_close (take (i + 1) bytes.now) ≡ false)) }

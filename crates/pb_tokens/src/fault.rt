@@ -21,7 +21,7 @@ pub enum SourceCause {
     OpenComment,
     /// A text is not closed on its line.
     OpenText,
-    /// With this token, what stands so far begins no file.
+    /// No file begins with the tokens up to this one.
     Unexpected,
     /// A number does not fit 32 bits.
     NumberTooLarge,

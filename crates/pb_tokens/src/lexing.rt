@@ -15,7 +15,7 @@ use crate::text::{is_closed, units_len};
 use crate::token::{Token, TokenKind};
 use std::alloc::Global;
 
-/// What stands at the front of bytes, and how many bytes it has.
+/// What bytes begin with, and how many bytes it has.
 #[derive(Clone, Copy, Debug, PartialEq, Eq)]
 pub(crate) enum Piece {
     /// A blank or a comment.
@@ -56,7 +56,7 @@ fn comment_len(after: &[u8]) -> Result<Option<usize>, PieceFault>
     }
 }
 
-/// What stands at the front.
+/// What the bytes begin with.
 fn piece_at_front(bytes: &[u8]) -> Result<Piece, PieceFault>
     requires { 0 < length bytes.now }
     ensures ok { IfOk result (λ p. IsPiece bytes.now p) }

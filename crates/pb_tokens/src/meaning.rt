@@ -64,18 +64,18 @@ fn push_units(into: &mut Vec<u8>, quote: u8, bytes: &[u8]) -> Result<(), AllocEr
         if bytes[at] != b'\\' {
             return Ok(());
         }
-        let behind = &bytes[at + 1..];
-        let len = escape_len(behind);
+        let after = &bytes[at + 1..];
+        let len = escape_len(after);
         if len == 0 {
             return Ok(());
         }
-        push_escape(into, behind)?;
+        push_escape(into, after)?;
         at += 1 + len;
     }
     Ok(())
 }
 
-/// Appends the bytes that a text means, whose quotes stand around it.
+/// Appends the bytes that a string means, which has its quotes around it.
 pub(crate) fn push_text(into: &mut Vec<u8>, text: &str) -> Result<(), AllocError>
     ensures { OnOk result (into.new.items ≡ into.old.items ++ text_meaning text.now) }
 {

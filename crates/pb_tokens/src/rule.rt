@@ -5,7 +5,7 @@
 pub enum Rule {
     /// A number fits 32 bits.
     NumbersFit,
-    /// No part of an option's name stands in parentheses.
+    /// No part of an option's name is in parentheses.
     OptionsKnown,
     /// A file begins with the syntax proto3.
     SyntaxFirst,

@@ -13,7 +13,7 @@ pub(crate) fn digit_of(base: u32, byte: u8) -> Option<u32>
     char::from(byte).to_digit(base)
 }
 
-/// How many digits stand at the front, at most this many, and their number.
+/// How many digits the bytes begin with, at most this many, and their number.
 pub(crate) fn number_at(base: u32, limit: usize, bytes: &[u8]) -> (usize, u32)
     requires two { 2 ≤ base }
     requires base { base ≤ 16 }
@@ -90,7 +90,7 @@ pub(crate) fn escape_len(bytes: &[u8]) -> usize
     len
 }
 
-/// Whether the byte stands for itself in a text with this quote.
+/// Whether the byte means itself in a string with this quote.
 pub(crate) fn is_plain(quote: u8, byte: u8) -> bool
     ensures { result ≡ is_plain quote byte }
 {
@@ -124,15 +124,15 @@ pub(crate) fn units_len(quote: u8, bytes: &[u8]) -> usize
 pub(crate) fn is_closed(quote: u8, bytes: &[u8]) -> bool
     ensures { result ≡ is_closed quote bytes.now }
 {
-    let mut behind = false;
+    let mut escaped = false;
     for &byte in bytes {
         if byte == b'\n' {
             return false;
         }
-        if !behind && byte == quote {
+        if !escaped && byte == quote {
             return true;
         }
-        behind = !behind && byte == b'\\';
+        escaped = !escaped && byte == b'\\';
     }
     false
 }

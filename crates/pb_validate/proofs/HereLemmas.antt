@@ -1,5 +1,5 @@
 -- Lengths, payloads and elements at an index of the bytes.
-use Rattle.std.proofs.Common.{◌≡◌, ℕ, ◌+◌, ◌-◌, ◌<◌, ◌≤◌, List, [], length, take, drop, refl, sym, ap, subst, ◌∙◌, arith, length-drop, Option, Some, ◌++◌, append_assoc}
+use Rattle.std.proofs.Common.{◌≡◌, ℕ, ◌+◌, ◌-◌, ◌≤◌, List, length, take, drop, refl, sym, ap, subst, ◌∙◌, arith, length-drop, Option, Some, ◌++◌, append_assoc}
 use Rattle.std.proofs.lemmas.List.{length-take-le, append-nil}
 use Rattle.pb_wire.specs.Record.{len}
 use Rattle.pb_wire.specs.Spell.{Body}

@@ -32,28 +32,28 @@ use Rattle.pb_value.proofs.SoundLemmas.{SpellsSound, sound_text, sound_message, 
 use Rattle.pb_value.proofs.GroupLemmas.{records_in-group_of, group_in_range}
 
 -- a record in range that can be written, sound in its context
-pub record IsGood (pool : Types) (c : Context) (room : ℕ) (r : Record) : Type 0 where
+pub record IsGood (pool : Types) (c : Context) (depth_left : ℕ) (r : Record) : Type 0 where
   pub number : IsNumber r.number
   pub in_range : IsInRange r.payload
   pub writable : IsWritable r.payload
-  pub sound : Sound (schema_of pool) c room r.number r.payload
+  pub sound : Sound (schema_of pool) c depth_left r.number r.payload
 
 abbrev pub AllGood : Types → Context → ℕ → List Record → Type 0
-AllGood pool c room rs = AllByRecursion (IsGood pool c room) rs
+AllGood pool c depth_left rs = AllByRecursion (IsGood pool c depth_left) rs
 
-pub all_good : (pool : Types) (c : Context) (room : ℕ) (rs : List Record) → AreInRange rs → AreWritable rs → AllSound (schema_of pool) c room rs → AllGood pool c room rs
-all_good pool c room [] h w AllSound.none = tt
-all_good pool c room (r ∷ rs) h w (AllSound.one s ss) = (record { number = w.0; in_range = h.0; writable = w.1; sound = s }, all_good pool c room rs h.1 w.2 ss)
+pub all_good : (pool : Types) (c : Context) (depth_left : ℕ) (rs : List Record) → AreInRange rs → AreWritable rs → AllSound (schema_of pool) c depth_left rs → AllGood pool c depth_left rs
+all_good pool c depth_left [] h w AllSound.none = tt
+all_good pool c depth_left (r ∷ rs) h w (AllSound.one s ss) = (record { number = w.0; in_range = h.0; writable = w.1; sound = s }, all_good pool c depth_left rs h.1 w.2 ss)
 
 -- a good record that fits a field of this shape and kind, and is read as one of it
-pub record CountsFor (pool : Types) (c : Context) (room : ℕ) (s : Shape) (k : Kind) (r : Record) : Type 0 where
-  pub good : IsGood pool c room r
+pub record CountsFor (pool : Types) (c : Context) (depth_left : ℕ) (s : Shape) (k : Kind) (r : Record) : Type 0 where
+  pub good : IsGood pool c depth_left r
   pub fitting : fits_shape s k (wire_type r.payload) ≡ true
   pub reading : read_field c (field_numbered r.number (fields_in pool c)) ≡ read_shaped c s k
   pub grouping : group_of_field (field_numbered r.number (fields_in pool c)) ≡ group_shaped s k
 
 abbrev pub AllCount : Types → Context → ℕ → Shape → Kind → List Record → Type 0
-AllCount pool c room s k rs = AllByRecursion (CountsFor pool c room s k) rs
+AllCount pool c depth_left s k rs = AllByRecursion (CountsFor pool c depth_left s k) rs
 
 -- READING
 
@@ -64,8 +64,8 @@ same_number f r e = same r.number f.number (both (r.number == f.number) (fits_sh
     same : (a b : ℕ) → (a == b) ≡ true → a ≡ b
     same a b q = grind (arith, nat_tests)
 
-counted : (pool : Types) (c : Context) (room : ℕ) (f : FieldView) → field_numbered f.number (fields_in pool c) ≡ Some f → (r : Record) → IsGood pool c room r → fits f r ≡ true → CountsFor pool c room f.shape f.kind r
-counted pool c room f found r good e = record {
+counted : (pool : Types) (c : Context) (depth_left : ℕ) (f : FieldView) → field_numbered f.number (fields_in pool c) ≡ Some f → (r : Record) → IsGood pool c depth_left r → fits f r ≡ true → CountsFor pool c depth_left f.shape f.kind r
+counted pool c depth_left f found r good e = record {
   good = good;
   fitting = (both (r.number == f.number) (fits_shape f.shape f.kind (wire_type r.payload)) e).1;
   reading = ap (λ (n : ℕ). read_field c (field_numbered n (fields_in pool c))) (same_number f r e) ∙ ap (read_field c) found;
@@ -74,9 +74,9 @@ counted pool c room f found r good e = record {
 
 -- the good records that fit a field count for it
 pub all_count :
-    (pool : Types) (c : Context) (room : ℕ) (f : FieldView) → field_numbered f.number (fields_in pool c) ≡ Some f → (rs : List Record)
-    → AllByRecursion (λ r. IsGood pool c room r × (fits f r ≡ true)) rs → AllCount pool c room f.shape f.kind rs
-all_count pool c room f found rs h = all_weaker _ (CountsFor pool c room f.shape f.kind) (λ r w. counted pool c room f found r w.0 w.1) rs h
+    (pool : Types) (c : Context) (depth_left : ℕ) (f : FieldView) → field_numbered f.number (fields_in pool c) ≡ Some f → (rs : List Record)
+    → AllByRecursion (λ r. IsGood pool c depth_left r × (fits f r ≡ true)) rs → AllCount pool c depth_left f.shape f.kind rs
+all_count pool c depth_left f found rs h = all_weaker _ (CountsFor pool c depth_left f.shape f.kind) (λ r w. counted pool c depth_left f found r w.0 w.1) rs h
 
 pub reads_text : (c : Context) (s : Shape) → key_of s ≡ None → read_shaped c s kind.Text ≡ wire.text
 reads_text c shape.Implicit e = refl
@@ -92,17 +92,17 @@ reads_message c (shape.OneofMember o) m e = refl
 reads_message c (shape.List p) m e = refl
 reads_message c (shape.Map k) m e = absurd (cc)
 
-text_for : (pool : Types) (c : Context) (room : ℕ) (s : Shape) (k : Kind) (n : ℕ) (p : Payload) → key_of s ≡ None → read_field c (field_numbered n (fields_in pool c)) ≡ read_shaped c s k → Sound (schema_of pool) c room n p → IsTextFor k p
-text_for pool c room s kind.Text n (len b) none reading sound = sound_text sound (reading ∙ reads_text c s none)
-text_for pool c room s k n p none reading sound = tt
+text_for : (pool : Types) (c : Context) (depth_left : ℕ) (s : Shape) (k : Kind) (n : ℕ) (p : Payload) → key_of s ≡ None → read_field c (field_numbered n (fields_in pool c)) ≡ read_shaped c s k → Sound (schema_of pool) c depth_left n p → IsTextFor k p
+text_for pool c depth_left s kind.Text n (len b) none reading sound = sound_text sound (reading ∙ reads_text c s none)
+text_for pool c depth_left s k n p none reading sound = tt
 
 -- the elements of the records that count for a field are of its kind
-pub all_elements-AreOfKind : (pool : Types) (c : Context) (room : ℕ) (s : Shape) (k : Kind) (rs : List Record) → key_of s ≡ None → AllCount pool c room s k rs → AllByRecursion (IsOfKind k) (all_elements k rs)
-all_elements-AreOfKind pool c room s k [] none h = tt
-all_elements-AreOfKind pool c room s k (r ∷ rs) none h =
+pub all_elements-AreOfKind : (pool : Types) (c : Context) (depth_left : ℕ) (s : Shape) (k : Kind) (rs : List Record) → key_of s ≡ None → AllCount pool c depth_left s k rs → AllByRecursion (IsOfKind k) (all_elements k rs)
+all_elements-AreOfKind pool c depth_left s k [] none h = tt
+all_elements-AreOfKind pool c depth_left s k (r ∷ rs) none h =
     all_append (IsOfKind k) (elements k r.payload) (all_elements k rs)
-    (elements-AreOfKind k r.payload h.0.good.in_range (text_for pool c room s k r.number r.payload none h.0.reading h.0.good.sound))
-    (all_elements-AreOfKind pool c room s k rs none h.1)
+    (elements-AreOfKind k r.payload h.0.good.in_range (text_for pool c depth_left s k r.number r.payload none h.0.reading h.0.good.sound))
+    (all_elements-AreOfKind pool c depth_left s k rs none h.1)
 
 -- WHAT STANDS INSIDE
 
@@ -117,10 +117,10 @@ len_of_map key k p e = absurd (cc)
 
 -- the records that sound bytes spell are good
 good_inside :
-    (pool : Types) (d : Context) (room : ℕ) (b : List ℕ) → AreBytes b → length b < 2 ^ 31 → SpellsSound (schema_of pool) d room b → AllGood pool d room (records_spelled b)
-good_inside pool d room b bytes short h =
+    (pool : Types) (d : Context) (depth_left : ℕ) (b : List ℕ) → AreBytes b → length b < 2 ^ 31 → SpellsSound (schema_of pool) d depth_left b → AllGood pool d depth_left (records_spelled b)
+good_inside pool d depth_left b bytes short h =
     let read : records_spelled b ≡ h.records = records_spelled-AreRecords h.records b h.spelled (omega (arith, short)) in
-    subst (AllGood pool d room) (sym read) (all_good pool d room h.records (spelled_in_range h.records b h.spelled bytes) (spelled_writable h.records b h.spelled) h.sound)
+    subst (AllGood pool d depth_left) (sym read) (all_good pool d depth_left h.records (spelled_in_range h.records b h.spelled bytes) (spelled_writable h.records b h.spelled) h.sound)
 
 group_for : (s : Shape) (m : MessageId) (p : Payload) → fits_shape s (kind.Group m) (wire_type p) ≡ true → key_of s ≡ None → (g : Group) × (p ≡ group g)
 group_for s m (group g) e none = (g, refl)
@@ -139,11 +139,11 @@ grouped (shape.Map k) m e = absurd (cc)
 
 -- the records of a sound group that is a field are good, one level down
 inside_group :
-    (pool : Types) (t room : ℕ) (s : Shape) (m : MessageId) (r : Record) → key_of s ≡ None → CountsFor pool (a_message t) room s (kind.Group m) r
-    → (below : ℕ) × (room ≡ suc below) × AllGood pool (a_message m.0) below (records_inside r.payload)
-inside_group pool t room s m r none h =
+    (pool : Types) (t depth_left : ℕ) (s : Shape) (m : MessageId) (r : Record) → key_of s ≡ None → CountsFor pool (a_message t) depth_left s (kind.Group m) r
+    → (below : ℕ) × (depth_left ≡ suc below) × AllGood pool (a_message m.0) below (records_inside r.payload)
+inside_group pool t depth_left s m r none h =
     let g = group_for s m r.payload h.fitting none in
-    let sound : Sound (schema_of pool) (a_message t) room r.number (group g.0) = subst (λ (p : Payload). Sound (schema_of pool) (a_message t) room r.number p) g.1 h.good.sound in
+    let sound : Sound (schema_of pool) (a_message t) depth_left r.number (group g.0) = subst (λ (p : Payload). Sound (schema_of pool) (a_message t) depth_left r.number p) g.1 h.good.sound in
     let whole = sound_inside sound in
     let typed : group_of_field (field_numbered r.number (fields_in pool (a_message t))) ≡ a_message m.0 = h.grouping ∙ grouped s m none in
     let in_range : IsInRangeGroup (group_of whole.2) = subst IsInRangeGroup whole.3 (subst IsInRange g.1 h.good.in_range) in
@@ -158,11 +158,11 @@ inside_group pool t room s m r none h =
 
 -- of a field of messages that are no groups
 inside_len :
-    (pool : Types) (t room : ℕ) (s : Shape) (m : MessageId) (r : Record) → key_of s ≡ None → CountsFor pool (a_message t) room s (kind.Message m) r
-    → (below : ℕ) × (room ≡ suc below) × AllGood pool (a_message m.0) below (records_inside r.payload)
-inside_len pool t room s m r none h =
+    (pool : Types) (t depth_left : ℕ) (s : Shape) (m : MessageId) (r : Record) → key_of s ≡ None → CountsFor pool (a_message t) depth_left s (kind.Message m) r
+    → (below : ℕ) × (depth_left ≡ suc below) × AllGood pool (a_message m.0) below (records_inside r.payload)
+inside_len pool t depth_left s m r none h =
     let b = len_of s m r.payload h.fitting in
-    let sound : Sound (schema_of pool) (a_message t) room r.number (len b.0) = subst (λ (p : Payload). Sound (schema_of pool) (a_message t) room r.number p) b.1 h.good.sound in
+    let sound : Sound (schema_of pool) (a_message t) depth_left r.number (len b.0) = subst (λ (p : Payload). Sound (schema_of pool) (a_message t) depth_left r.number p) b.1 h.good.sound in
     let whole = sound_message sound (a_message m.0) (h.reading ∙ reads_message (a_message t) s m none) in (
       whole.0,
       whole.1,
@@ -172,36 +172,36 @@ inside_len pool t room s m r none h =
 
 -- of a field of messages in a message: its record is one level down
 pub inside_message :
-    (pool : Types) (t room : ℕ) (s : Shape) (k : Kind) (m : ℕ) (r : Record) → message_of_kind k ≡ Some m → key_of s ≡ None → CountsFor pool (a_message t) room s k r
-    → (below : ℕ) × (room ≡ suc below) × AllGood pool (a_message m) below (records_inside r.payload)
-inside_message pool t room s (kind.Message j) m r e none h =
+    (pool : Types) (t depth_left : ℕ) (s : Shape) (k : Kind) (m : ℕ) (r : Record) → message_of_kind k ≡ Some m → key_of s ≡ None → CountsFor pool (a_message t) depth_left s k r
+    → (below : ℕ) × (depth_left ≡ suc below) × AllGood pool (a_message m) below (records_inside r.payload)
+inside_message pool t depth_left s (kind.Message j) m r e none h =
     let same : j.0 ≡ m = cc in
-    let there = inside_len pool t room s j r none h in
+    let there = inside_len pool t depth_left s j r none h in
     (there.0, there.1, subst (λ (i : ℕ). AllGood pool (a_message i) there.0 (records_inside r.payload)) same there.2)
-inside_message pool t room s (kind.Group j) m r e none h =
+inside_message pool t depth_left s (kind.Group j) m r e none h =
     let same : j.0 ≡ m = cc in
-    let there = inside_group pool t room s j r none h in
+    let there = inside_group pool t depth_left s j r none h in
     (there.0, there.1, subst (λ (i : ℕ). AllGood pool (a_message i) there.0 (records_inside r.payload)) same there.2)
-inside_message pool t room s k m r e none h = absurd (cc)
+inside_message pool t depth_left s k m r e none h = absurd (cc)
 
 -- of a message in a map entry: its records are at the entry's level
 pub inside_entry :
-    (pool : Types) (key value : Kind) (room : ℕ) (s : Shape) (m : MessageId) (r : Record) → key_of s ≡ None → CountsFor pool (an_entry key value) room s (kind.Message m) r
-    → AllGood pool (a_message m.0) room (records_inside r.payload)
-inside_entry pool key value room s m r none h =
+    (pool : Types) (key value : Kind) (depth_left : ℕ) (s : Shape) (m : MessageId) (r : Record) → key_of s ≡ None → CountsFor pool (an_entry key value) depth_left s (kind.Message m) r
+    → AllGood pool (a_message m.0) depth_left (records_inside r.payload)
+inside_entry pool key value depth_left s m r none h =
     let b = len_of s m r.payload h.fitting in
-    let sound : Sound (schema_of pool) (an_entry key value) room r.number (len b.0) = subst (λ (p : Payload). Sound (schema_of pool) (an_entry key value) room r.number p) b.1 h.good.sound in
+    let sound : Sound (schema_of pool) (an_entry key value) depth_left r.number (len b.0) = subst (λ (p : Payload). Sound (schema_of pool) (an_entry key value) depth_left r.number p) b.1 h.good.sound in
     let whole = sound_value sound (a_message m.0) (h.reading ∙ reads_message (an_entry key value) s m none) in
-    subst (λ (p : Payload). AllGood pool (a_message m.0) room (records_inside p)) (sym b.1)
-    (good_inside pool (a_message m.0) room b.0 (subst IsInRange b.1 h.good.in_range) (subst IsWritable b.1 h.good.writable) whole)
+    subst (λ (p : Payload). AllGood pool (a_message m.0) depth_left (records_inside p)) (sym b.1)
+    (good_inside pool (a_message m.0) depth_left b.0 (subst IsInRange b.1 h.good.in_range) (subst IsWritable b.1 h.good.writable) whole)
 
 -- of a map: its record holds an entry, one level down
 pub inside_map :
-    (pool : Types) (t room : ℕ) (key k : Kind) (r : Record) → CountsFor pool (a_message t) room (shape.Map key) k r
-    → (below : ℕ) × (room ≡ suc below) × AllGood pool (an_entry key k) below (records_inside r.payload)
-inside_map pool t room key k r h =
+    (pool : Types) (t depth_left : ℕ) (key k : Kind) (r : Record) → CountsFor pool (a_message t) depth_left (shape.Map key) k r
+    → (below : ℕ) × (depth_left ≡ suc below) × AllGood pool (an_entry key k) below (records_inside r.payload)
+inside_map pool t depth_left key k r h =
     let b = len_of_map key k r.payload h.fitting in
-    let sound : Sound (schema_of pool) (a_message t) room r.number (len b.0) = subst (λ (p : Payload). Sound (schema_of pool) (a_message t) room r.number p) b.1 h.good.sound in
+    let sound : Sound (schema_of pool) (a_message t) depth_left r.number (len b.0) = subst (λ (p : Payload). Sound (schema_of pool) (a_message t) depth_left r.number p) b.1 h.good.sound in
     let whole = sound_message sound (an_entry key k) h.reading in (
       whole.0,
       whole.1,

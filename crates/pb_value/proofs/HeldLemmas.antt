@@ -111,7 +111,7 @@ module _ (pool : Types) where
 
 -- The values of records, where the values of records inside are well formed and as deep as soundness lets them be.
 module _ (pool : Types) (value : ℕ → List Record → Message) (levels : ℕ)
-    (inside : (m room : ℕ) (rs : List Record) → room < levels → AllGood pool (a_message m) room rs → IsBody pool m (value m rs) × (message_depth (value m rs) ≤ room)) where
+    (inside : (m depth_left : ℕ) (rs : List Record) → depth_left < levels → AllGood pool (a_message m) depth_left rs → IsBody pool m (value m rs) × (message_depth (value m rs) ≤ depth_left)) where
   -- ONE VALUE
 
   pub joined-good : (t below : ℕ) (s : Shape) (k : Kind) (m : ℕ) (rs : List Record) → message_of_kind k ≡ Some m → key_of s ≡ None → AllCount pool (a_message t) (suc below) s k rs → AllGood pool (a_message m) below (joined rs)
@@ -127,42 +127,42 @@ module _ (pool : Types) (value : ℕ → List Record → Message) (levels : ℕ)
       let w = inside m below rs l h in record { datum = subst (λ (o : Option ℕ). IsSomeAnd o (λ n. IsBody pool n (value m rs))) (sym e) w.0; declared = refl; depth = omega (arith, w.1) }
 
   one_value-message :
-      (t room : ℕ) (s : Shape) (k : Kind) (rs : List Record) → room ≤ levels → key_of s ≡ None → AllCount pool (a_message t) room s k rs → AllDeclared pool k (all_elements k rs)
-      → IfSome (one_value value k rs) (IsValue pool k room)
-  one_value-message t room s (kind.Message m) [] l none h declared = tt
+      (t depth_left : ℕ) (s : Shape) (k : Kind) (rs : List Record) → depth_left ≤ levels → key_of s ≡ None → AllCount pool (a_message t) depth_left s k rs → AllDeclared pool k (all_elements k rs)
+      → IfSome (one_value value k rs) (IsValue pool k depth_left)
+  one_value-message t depth_left s (kind.Message m) [] l none h declared = tt
   one_value-message t zero s (kind.Message m) (r ∷ rs) l none h declared = absurd (let e = (inside_message pool t zero s (kind.Message m) m.0 r refl none h.0).1 in omega (arith, e))
   one_value-message t (suc below) s (kind.Message m) (r ∷ rs) l none h declared =
       message_value (kind.Message m) m.0 below (joined (r ∷ rs)) refl (omega (arith, l)) (joined-good t below s (kind.Message m) m.0 (r ∷ rs) refl none h)
-  one_value-message t room s (kind.Group m) [] l none h declared = tt
+  one_value-message t depth_left s (kind.Group m) [] l none h declared = tt
   one_value-message t zero s (kind.Group m) (r ∷ rs) l none h declared = absurd (let e = (inside_message pool t zero s (kind.Group m) m.0 r refl none h.0).1 in omega (arith, e))
   one_value-message t (suc below) s (kind.Group m) (r ∷ rs) l none h declared =
       message_value (kind.Group m) m.0 below (joined (r ∷ rs)) refl (omega (arith, l)) (joined-good t below s (kind.Group m) m.0 (r ∷ rs) refl none h)
-  one_value-message t room s k rs l none h declared =
-      some_mapped (IsFine pool k) (IsValue pool k room) scalar (λ x w. scalar_value pool k room x w) (last_of (all_elements k rs))
-      (last_of-all (IsFine pool k) (all_elements k rs) (all_fine pool k (all_elements k rs) (all_elements-AreOfKind pool (a_message t) room s k rs none h) declared))
+  one_value-message t depth_left s k rs l none h declared =
+      some_mapped (IsFine pool k) (IsValue pool k depth_left) scalar (λ x w. scalar_value pool k depth_left x w) (last_of (all_elements k rs))
+      (last_of-all (IsFine pool k) (all_elements k rs) (all_fine pool k (all_elements k rs) (all_elements-AreOfKind pool (a_message t) depth_left s k rs none h) declared))
 
   -- LISTS
 
   listed_message :
-      (t room : ℕ) (s : Shape) (k : Kind) (m : ℕ) (r : Record) → message_of_kind k ≡ Some m → room ≤ levels → key_of s ≡ None → CountsFor pool (a_message t) room s k r
-      → IsValue pool k room (message (value m (records_inside r.payload)))
-  listed_message t room s k m r e l none h =
-      let here = inside_message pool t room s k m r e none h in
+      (t depth_left : ℕ) (s : Shape) (k : Kind) (m : ℕ) (r : Record) → message_of_kind k ≡ Some m → depth_left ≤ levels → key_of s ≡ None → CountsFor pool (a_message t) depth_left s k r
+      → IsValue pool k depth_left (message (value m (records_inside r.payload)))
+  listed_message t depth_left s k m r e l none h =
+      let here = inside_message pool t depth_left s k m r e none h in
       subst (λ (n : ℕ). IsValue pool k n (message (value m (records_inside r.payload)))) (sym here.1)
       (message_value k m here.0 (records_inside r.payload) e (omega (arith, l, here.1)) here.2)
 
   list_values-message :
-      (t room : ℕ) (s : Shape) (k : Kind) (rs : List Record) → room ≤ levels → key_of s ≡ None → AllCount pool (a_message t) room s k rs → AllDeclared pool k (all_elements k rs)
-      → AllByRecursion (IsValue pool k room) (list_values value k rs)
-  list_values-message t room s (kind.Message m) rs l none h declared =
-      all_map (CountsFor pool (a_message t) room s (kind.Message m)) (IsValue pool (kind.Message m) room) (λ r. message (value m.0 (records_inside r.payload)))
-      (λ r w. listed_message t room s (kind.Message m) m.0 r refl l none w) rs h
-  list_values-message t room s (kind.Group m) rs l none h declared =
-      all_map (CountsFor pool (a_message t) room s (kind.Group m)) (IsValue pool (kind.Group m) room) (λ r. message (value m.0 (records_inside r.payload)))
-      (λ r w. listed_message t room s (kind.Group m) m.0 r refl l none w) rs h
-  list_values-message t room s k rs l none h declared =
-      all_map (IsFine pool k) (IsValue pool k room) scalar (λ x w. scalar_value pool k room x w) (all_elements k rs)
-      (all_fine pool k (all_elements k rs) (all_elements-AreOfKind pool (a_message t) room s k rs none h) declared)
+      (t depth_left : ℕ) (s : Shape) (k : Kind) (rs : List Record) → depth_left ≤ levels → key_of s ≡ None → AllCount pool (a_message t) depth_left s k rs → AllDeclared pool k (all_elements k rs)
+      → AllByRecursion (IsValue pool k depth_left) (list_values value k rs)
+  list_values-message t depth_left s (kind.Message m) rs l none h declared =
+      all_map (CountsFor pool (a_message t) depth_left s (kind.Message m)) (IsValue pool (kind.Message m) depth_left) (λ r. message (value m.0 (records_inside r.payload)))
+      (λ r w. listed_message t depth_left s (kind.Message m) m.0 r refl l none w) rs h
+  list_values-message t depth_left s (kind.Group m) rs l none h declared =
+      all_map (CountsFor pool (a_message t) depth_left s (kind.Group m)) (IsValue pool (kind.Group m) depth_left) (λ r. message (value m.0 (records_inside r.payload)))
+      (λ r w. listed_message t depth_left s (kind.Group m) m.0 r refl l none w) rs h
+  list_values-message t depth_left s k rs l none h declared =
+      all_map (IsFine pool k) (IsValue pool k depth_left) scalar (λ x w. scalar_value pool k depth_left x w) (all_elements k rs)
+      (all_fine pool k (all_elements k rs) (all_elements-AreOfKind pool (a_message t) depth_left s k rs none h) declared)
 
   -- MAPS
 
@@ -172,28 +172,28 @@ module _ (pool : Types) (value : ℕ → List Record → Message) (levels : ℕ)
     depth : levels_in_entry d ≤ top
 
   pub joined-good_entry :
-      (key value_kind : Kind) (room : ℕ) (s : Shape) (m : MessageId) (rs : List Record) → key_of s ≡ None → AllCount pool (an_entry key value_kind) room s (kind.Message m) rs
-      → AllGood pool (a_message m.0) room (joined rs)
-  joined-good_entry key value_kind room s m [] none h = tt
-  joined-good_entry key value_kind room s m (r ∷ rs) none h =
-      all_append (IsGood pool (a_message m.0) room) (records_inside r.payload) (joined rs) (inside_entry pool key value_kind room s m r none h.0)
-      (joined-good_entry key value_kind room s m rs none h.1)
+      (key value_kind : Kind) (depth_left : ℕ) (s : Shape) (m : MessageId) (rs : List Record) → key_of s ≡ None → AllCount pool (an_entry key value_kind) depth_left s (kind.Message m) rs
+      → AllGood pool (a_message m.0) depth_left (joined rs)
+  joined-good_entry key value_kind depth_left s m [] none h = tt
+  joined-good_entry key value_kind depth_left s m (r ∷ rs) none h =
+      all_append (IsGood pool (a_message m.0) depth_left) (records_inside r.payload) (joined rs) (inside_entry pool key value_kind depth_left s m r none h.0)
+      (joined-good_entry key value_kind depth_left s m rs none h.1)
 
   one_value-entry :
-      (key value_kind : Kind) (room : ℕ) (s : Shape) (k : Kind) (rs : List Record) → room < levels → is_of_proto2 k ≡ false → key_of s ≡ None → AllCount pool (an_entry key value_kind) room s k rs
-      → IfSome (one_value value k rs) (IsEntryValue k room)
-  one_value-entry key value_kind room s (kind.Group m) rs l may none h = absurd (cc)
-  one_value-entry key value_kind room s (kind.Message m) [] l may none h = tt
-  one_value-entry key value_kind room s (kind.Message m) (r ∷ rs) l may none h =
-      let w = inside m.0 room (joined (r ∷ rs)) l (joined-good_entry key value_kind room s m (r ∷ rs) none h) in record { datum = w.0; depth = w.1 }
-  one_value-entry key value_kind room s k rs l may none h =
-      some_mapped (IsOfKind k) (IsEntryValue k room) scalar (λ x w. record { datum = w; depth = omega arith }) (last_of (all_elements k rs))
-      (last_of-all (IsOfKind k) (all_elements k rs) (all_elements-AreOfKind pool (an_entry key value_kind) room s k rs none h))
+      (key value_kind : Kind) (depth_left : ℕ) (s : Shape) (k : Kind) (rs : List Record) → depth_left < levels → is_of_proto2 k ≡ false → key_of s ≡ None → AllCount pool (an_entry key value_kind) depth_left s k rs
+      → IfSome (one_value value k rs) (IsEntryValue k depth_left)
+  one_value-entry key value_kind depth_left s (kind.Group m) rs l may none h = absurd (cc)
+  one_value-entry key value_kind depth_left s (kind.Message m) [] l may none h = tt
+  one_value-entry key value_kind depth_left s (kind.Message m) (r ∷ rs) l may none h =
+      let w = inside m.0 depth_left (joined (r ∷ rs)) l (joined-good_entry key value_kind depth_left s m (r ∷ rs) none h) in record { datum = w.0; depth = w.1 }
+  one_value-entry key value_kind depth_left s k rs l may none h =
+      some_mapped (IsOfKind k) (IsEntryValue k depth_left) scalar (λ x w. record { datum = w; depth = omega arith }) (last_of (all_elements k rs))
+      (last_of-all (IsOfKind k) (all_elements k rs) (all_elements-AreOfKind pool (an_entry key value_kind) depth_left s k rs none h))
 
-  missing-good : (k : Kind) (room : ℕ) → IsEntryValue k room (missing value k)
-  missing-good (kind.Message m) room = record { datum = (tt, tt, tt, tt); depth = omega arith }
-  missing-good (kind.Group m) room = record { datum = (tt, tt, tt, tt); depth = omega arith }
-  missing-good k room = record { datum = IsOfKind-default_of k refl; depth = omega arith }
+  missing-good : (k : Kind) (depth_left : ℕ) → IsEntryValue k depth_left (missing value k)
+  missing-good (kind.Message m) depth_left = record { datum = (tt, tt, tt, tt); depth = omega arith }
+  missing-good (kind.Group m) depth_left = record { datum = (tt, tt, tt, tt); depth = omega arith }
+  missing-good k depth_left = record { datum = IsOfKind-default_of k refl; depth = omega arith }
 
   key_is_scalar : (key : Kind) → IsTrue (is_key_kind key) → message_of_kind key ≡ None
   key_is_scalar (kind.Message m) h = absurd (cc)
@@ -219,11 +219,11 @@ module _ (pool : Types) (value : ℕ → List Record → Message) (levels : ℕ)
       }
 
   pub entries-good :
-      (t room : ℕ) (key k : Kind) (rs : List Record) → room ≤ levels → IsTrue (is_key_kind key) → is_of_proto2 k ≡ false → AllCount pool (a_message t) room (shape.Map key) k rs
-      → AllByRecursion (IsEntry pool key k room) (map (entry_of value key k) rs)
-  entries-good t room key k rs l can may h =
-      all_map (CountsFor pool (a_message t) room (shape.Map key) k) (IsEntry pool key k room) (entry_of value key k)
-      (λ r w. let here = inside_map pool t room key k r w in
+      (t depth_left : ℕ) (key k : Kind) (rs : List Record) → depth_left ≤ levels → IsTrue (is_key_kind key) → is_of_proto2 k ≡ false → AllCount pool (a_message t) depth_left (shape.Map key) k rs
+      → AllByRecursion (IsEntry pool key k depth_left) (map (entry_of value key k) rs)
+  entries-good t depth_left key k rs l can may h =
+      all_map (CountsFor pool (a_message t) depth_left (shape.Map key) k) (IsEntry pool key k depth_left) (entry_of value key k)
+      (λ r w. let here = inside_map pool t depth_left key k r w in
       subst (λ (n : ℕ). IsEntry pool key k n (entry_of value key k r)) (sym here.1) (entry-good key k here.0 (records_inside r.payload) (omega (arith, l, here.1)) can may here.2)) rs h
 
   -- ALL SHAPES
@@ -237,13 +237,13 @@ module _ (pool : Types) (value : ℕ → List Record → Message) (levels : ℕ)
 
   -- what a field holds
   pub held-stored :
-      (t room : ℕ) (s : Shape) (k : Kind) (rs : List Record) → room ≤ levels → HasKeyKind s → MayBeValue s k → AllCount pool (a_message t) room s k rs → AllDeclared pool k (all_elements k rs)
-      → IfSome (held_as value s k rs) (IsStored pool s k room)
-  held-stored t room shape.Implicit k rs l can may h declared = kept k room (one_value value k rs) (one_value-message t room shape.Implicit k rs l refl h declared)
-  held-stored t room shape.Explicit k rs l can may h declared = one-stored shape.Explicit k room (λ d. tt) (one_value value k rs) (one_value-message t room shape.Explicit k rs l refl h declared)
-  held-stored t room (shape.OneofMember o) k rs l can may h declared =
-      one-stored (shape.OneofMember o) k room (λ d. tt) (one_value value k rs) (one_value-message t room (shape.OneofMember o) k rs l refl h declared)
-  held-stored t room (shape.List p) k rs l can may h declared =
-      kept_unless_empty pool p k room (list_values value k rs) (list_values-message t room (shape.List p) k rs l refl h declared)
-  held-stored t room (shape.Map key) k rs l can may h declared =
-      kept_unless_no_entries pool key k room (map (entry_of value key k) rs) (entries-good t room key k rs l can may h)
+      (t depth_left : ℕ) (s : Shape) (k : Kind) (rs : List Record) → depth_left ≤ levels → HasKeyKind s → MayBeValue s k → AllCount pool (a_message t) depth_left s k rs → AllDeclared pool k (all_elements k rs)
+      → IfSome (held_as value s k rs) (IsStored pool s k depth_left)
+  held-stored t depth_left shape.Implicit k rs l can may h declared = kept k depth_left (one_value value k rs) (one_value-message t depth_left shape.Implicit k rs l refl h declared)
+  held-stored t depth_left shape.Explicit k rs l can may h declared = one-stored shape.Explicit k depth_left (λ d. tt) (one_value value k rs) (one_value-message t depth_left shape.Explicit k rs l refl h declared)
+  held-stored t depth_left (shape.OneofMember o) k rs l can may h declared =
+      one-stored (shape.OneofMember o) k depth_left (λ d. tt) (one_value value k rs) (one_value-message t depth_left (shape.OneofMember o) k rs l refl h declared)
+  held-stored t depth_left (shape.List p) k rs l can may h declared =
+      kept_unless_empty pool p k depth_left (list_values value k rs) (list_values-message t depth_left (shape.List p) k rs l refl h declared)
+  held-stored t depth_left (shape.Map key) k rs l can may h declared =
+      kept_unless_no_entries pool key k depth_left (map (entry_of value key k) rs) (entries-good t depth_left key k rs l can may h)

@@ -120,14 +120,14 @@ settled-same fs (r ∷ rs) h =
     ∙ ap (λ (l : List Record). r ∷ l) (settled-same fs rs h.1)
 
 -- settled records of good ones are good
-pub settled-good : (pool : Types) (t room : ℕ) (fs : List FieldView) (rs : List Record) → AllGood pool (a_message t) room rs → AllGood pool (a_message t) room (settled fs rs)
-settled-good pool t room fs rs h =
-    settled_each (IsGood pool (a_message t) room) (IsGood pool (a_message t) room) fs (λ r g w. g)
+pub settled-good : (pool : Types) (t depth_left : ℕ) (fs : List FieldView) (rs : List Record) → AllGood pool (a_message t) depth_left rs → AllGood pool (a_message t) depth_left (settled fs rs)
+settled-good pool t depth_left fs rs h =
+    settled_each (IsGood pool (a_message t) depth_left) (IsGood pool (a_message t) depth_left) fs (λ r g w. g)
     (λ r i g l. record { number = g.number; in_range = l; writable = tt; sound = Sound.is_varint }) rs h
 
-pub known-good : (pool : Types) (t room : ℕ) (fs : List FieldView) (rs : List Record) → AllGood pool (a_message t) room rs → AllGood pool (a_message t) room (known pool fs rs)
-known-good pool t room fs rs h =
-    all_weaker _ (IsGood pool (a_message t) room) (λ r w. w.0) (known pool fs rs) (all_filter (IsGood pool (a_message t) room) (counts pool fs) (settled fs rs) (settled-good pool t room fs rs h))
+pub known-good : (pool : Types) (t depth_left : ℕ) (fs : List FieldView) (rs : List Record) → AllGood pool (a_message t) depth_left rs → AllGood pool (a_message t) depth_left (known pool fs rs)
+known-good pool t depth_left fs rs h =
+    all_weaker _ (IsGood pool (a_message t) depth_left) (λ r w. w.0) (known pool fs rs) (all_filter (IsGood pool (a_message t) depth_left) (counts pool fs) (settled fs rs) (settled-good pool t depth_left fs rs h))
 
 -- a record that counts, and is no packed list of a closed enum
 pub record IsKnown (pool : Types) (fs : List FieldView) (r : Record) : Type 0 where
@@ -174,14 +174,14 @@ mutual
   IsNumberedGroup-IsWritableGroup no_more w = tt
   IsNumberedGroup-IsWritableGroup (more k p g) w = (w.0, IsNumbered-IsWritable p w.1, IsNumberedGroup-IsWritableGroup g w.2)
 
-pub unknown-good : (pool : Types) (t room : ℕ) (fs : List FieldView) (rs : List Record) → AllGood pool (a_message t) room rs → AreUnknown pool fs (unknown pool fs rs) × (records_depth (unknown pool fs rs) ≤ room)
-unknown-good pool t room fs rs h = each (unknown pool fs rs) (all_filter (IsGood pool (a_message t) room) (λ (r : Record). not (counts pool fs r)) (settled fs rs) (settled-good pool t room fs rs h))
+pub unknown-good : (pool : Types) (t depth_left : ℕ) (fs : List FieldView) (rs : List Record) → AllGood pool (a_message t) depth_left rs → AreUnknown pool fs (unknown pool fs rs) × (records_depth (unknown pool fs rs) ≤ depth_left)
+unknown-good pool t depth_left fs rs h = each (unknown pool fs rs) (all_filter (IsGood pool (a_message t) depth_left) (λ (r : Record). not (counts pool fs r)) (settled fs rs) (settled-good pool t depth_left fs rs h))
   where
     fails : (b : Bool) → not b ≡ true → b ≡ false
     fails true e = absurd (cc)
     fails false e = refl
 
-    each : (us : List Record) → AllByRecursion (λ r. IsGood pool (a_message t) room r × (not (counts pool fs r) ≡ true)) us → AreUnknown pool fs us × (records_depth us ≤ room)
+    each : (us : List Record) → AllByRecursion (λ r. IsGood pool (a_message t) depth_left r × (not (counts pool fs r) ≡ true)) us → AreUnknown pool fs us × (records_depth us ≤ depth_left)
     each [] w = (tt, omega arith)
     each (u ∷ us) w =
         let good = w.0.0 in

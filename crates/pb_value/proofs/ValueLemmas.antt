@@ -31,15 +31,15 @@ use Rattle.pb_value.proofs.OneMember.{last_number, member_last}
 module _ (pool : Types) (inner : ℕ → List Record → Message) where
   -- the records that count for a field are good and fit it
   pub counting_as-good :
-      (t room : ℕ) (s : Shape) (all : List FieldView) (f : FieldView) (rs : List Record) → AllGood pool (a_message t) room rs
-      → AllByRecursion (λ r. IsGood pool (a_message t) room r × (fits f r ≡ true)) (counting_as inner s all f rs)
-  counting_as-good t room (shape.OneofMember o) all f rs h =
-      all_last_run (IsGood pool (a_message t) room) (fits f) (filter (fits_any (members o all)) rs)
-      (all_weaker _ (IsGood pool (a_message t) room) (λ r w. w.0) (filter (fits_any (members o all)) rs) (all_filter (IsGood pool (a_message t) room) (fits_any (members o all)) rs h))
-  counting_as-good t room shape.Implicit all f rs h = all_filter (IsGood pool (a_message t) room) (fits f) rs h
-  counting_as-good t room shape.Explicit all f rs h = all_filter (IsGood pool (a_message t) room) (fits f) rs h
-  counting_as-good t room (shape.List p) all f rs h = all_filter (IsGood pool (a_message t) room) (fits f) rs h
-  counting_as-good t room (shape.Map k) all f rs h = all_filter (IsGood pool (a_message t) room) (fits f) rs h
+      (t depth_left : ℕ) (s : Shape) (all : List FieldView) (f : FieldView) (rs : List Record) → AllGood pool (a_message t) depth_left rs
+      → AllByRecursion (λ r. IsGood pool (a_message t) depth_left r × (fits f r ≡ true)) (counting_as inner s all f rs)
+  counting_as-good t depth_left (shape.OneofMember o) all f rs h =
+      all_last_run (IsGood pool (a_message t) depth_left) (fits f) (filter (fits_any (members o all)) rs)
+      (all_weaker _ (IsGood pool (a_message t) depth_left) (λ r w. w.0) (filter (fits_any (members o all)) rs) (all_filter (IsGood pool (a_message t) depth_left) (fits_any (members o all)) rs h))
+  counting_as-good t depth_left shape.Implicit all f rs h = all_filter (IsGood pool (a_message t) depth_left) (fits f) rs h
+  counting_as-good t depth_left shape.Explicit all f rs h = all_filter (IsGood pool (a_message t) depth_left) (fits f) rs h
+  counting_as-good t depth_left (shape.List p) all f rs h = all_filter (IsGood pool (a_message t) depth_left) (fits f) rs h
+  counting_as-good t depth_left (shape.Map k) all f rs h = all_filter (IsGood pool (a_message t) depth_left) (fits f) rs h
 
   -- of a closed enum their values are declared
   pub counting-declared :
@@ -118,19 +118,19 @@ module _ (pool : Types) (all : List FieldView) (top : ℕ) (last : ℕ → Optio
 -- ONE LEVEL
 
 module _ (pool : Types) (rules : IsPool pool) (inner : ℕ → List Record → Message) (levels : ℕ)
-    (inside : (m room : ℕ) (rs : List Record) → room < levels → AllGood pool (a_message m) room rs → IsBody pool m (inner m rs) × (message_depth (inner m rs) ≤ room)) where
+    (inside : (m depth_left : ℕ) (rs : List Record) → depth_left < levels → AllGood pool (a_message m) depth_left rs → IsBody pool m (inner m rs) × (message_depth (inner m rs) ≤ depth_left)) where
   held-stands :
-      (t room : ℕ) (f : FieldView) (rs : List Record) → room ≤ levels → field_numbered f.number (message_fields pool t) ≡ Some f → HasKeyKind f.shape × MayBeValue f.shape f.kind → AllGood pool (a_message t) room rs
+      (t depth_left : ℕ) (f : FieldView) (rs : List Record) → depth_left ≤ levels → field_numbered f.number (message_fields pool t) ≡ Some f → HasKeyKind f.shape × MayBeValue f.shape f.kind → AllGood pool (a_message t) depth_left rs
       → AllByRecursion (IsKnown pool (message_fields pool t)) rs
-      → IfSome (held inner f (counting inner (message_fields pool t) f rs)) (Stands pool (message_fields pool t) room (last_number (message_fields pool t) rs) f.number)
-  held-stands t room f rs l found key h is_known =
+      → IfSome (held inner f (counting inner (message_fields pool t) f rs)) (Stands pool (message_fields pool t) depth_left (last_number (message_fields pool t) rs) f.number)
+  held-stands t depth_left f rs l found key h is_known =
       let all = message_fields pool t in
       let cs = counting inner all f rs in
-      let count : AllCount pool (a_message t) room f.shape f.kind cs = all_count pool (a_message t) room f found cs (counting_as-good pool inner t room f.shape all f rs h) in
-      let stored : IfSome (held inner f cs) (IsStored pool f.shape f.kind room) = held-stored pool inner levels inside t room f.shape f.kind cs l key.0 key.1 count (counting-declared pool inner all f found key.1 rs is_known) in
-      if_some (held inner f cs) (Stands pool all room (last_number all rs) f.number)
+      let count : AllCount pool (a_message t) depth_left f.shape f.kind cs = all_count pool (a_message t) depth_left f found cs (counting_as-good pool inner t depth_left f.shape all f rs h) in
+      let stored : IfSome (held inner f cs) (IsStored pool f.shape f.kind depth_left) = held-stored pool inner levels inside t depth_left f.shape f.kind cs l key.0 key.1 count (counting-declared pool inner all f found key.1 rs is_known) in
+      if_some (held inner f cs) (Stands pool all depth_left (last_number all rs) f.number)
       (λ g e.
-      let w : IsStored pool f.shape f.kind room g = at_some (held inner f cs) (IsStored pool f.shape f.kind room) g stored e in
+      let w : IsStored pool f.shape f.kind depth_left g = at_some (held inner f cs) (IsStored pool f.shape f.kind depth_left) g stored e in
       record {
         allowed = subst (λ (o : Option FieldView). IsSomeAnd o (λ x. IsOfShape x.shape g × IsHeld pool x.shape x.kind g × (holds_declared pool x.kind g ≡ true))) (sym found) (w.shaped, w.held, w.declared);
         depth = w.depth;
@@ -138,42 +138,42 @@ module _ (pool : Types) (rules : IsPool pool) (inner : ℕ → List Record → M
       })
 
   fields_held-stand :
-      (t room : ℕ) (fs : List FieldView) (rs : List Record) → room ≤ levels → AllByRecursion (λ f. field_numbered f.number (message_fields pool t) ≡ Some f) fs
-      → AllByRecursion (λ f. HasKeyKind f.shape × MayBeValue f.shape f.kind) fs → AllGood pool (a_message t) room rs → AllByRecursion (IsKnown pool (message_fields pool t)) rs
-      → EachField (Stands pool (message_fields pool t) room (last_number (message_fields pool t) rs)) (fields_held inner (message_fields pool t) fs rs)
+      (t depth_left : ℕ) (fs : List FieldView) (rs : List Record) → depth_left ≤ levels → AllByRecursion (λ f. field_numbered f.number (message_fields pool t) ≡ Some f) fs
+      → AllByRecursion (λ f. HasKeyKind f.shape × MayBeValue f.shape f.kind) fs → AllGood pool (a_message t) depth_left rs → AllByRecursion (IsKnown pool (message_fields pool t)) rs
+      → EachField (Stands pool (message_fields pool t) depth_left (last_number (message_fields pool t) rs)) (fields_held inner (message_fields pool t) fs rs)
       × RisesFrom 0 (fields_held inner (message_fields pool t) fs rs)
-  fields_held-stand t room [] rs l found keys h is_known = (tt, tt)
-  fields_held-stand t room (f ∷ fs) rs l found keys h is_known =
+  fields_held-stand t depth_left [] rs l found keys h is_known = (tt, tt)
+  fields_held-stand t depth_left (f ∷ fs) rs l found keys h is_known =
       let all = message_fields pool t in
-      let more = fields_held-stand t room fs rs l found.1 keys.1 h is_known in (
-        EachField-put_some (Stands pool all room (last_number all rs)) f.number (held inner f (counting inner all f rs)) (fields_held inner all fs rs) (held-stands t room f rs l found.0 keys.0 h is_known) more.0,
+      let more = fields_held-stand t depth_left fs rs l found.1 keys.1 h is_known in (
+        EachField-put_some (Stands pool all depth_left (last_number all rs)) f.number (held inner f (counting inner all f rs)) (fields_held inner all fs rs) (held-stands t depth_left f rs l found.0 keys.0 h is_known) more.0,
         RisesFrom-put_some f.number (held inner f (counting inner all f rs)) (fields_held inner all fs rs) more.1,
       )
 
   body-good :
-      (t room : ℕ) (rs : List Record) → room ≤ levels → AllGood pool (a_message t) room rs
-      → IsBody pool t (body_of inner pool (message_fields pool t) rs) × (message_depth (body_of inner pool (message_fields pool t) rs) ≤ room)
-  body-good t room rs l h =
+      (t depth_left : ℕ) (rs : List Record) → depth_left ≤ levels → AllGood pool (a_message t) depth_left rs
+      → IsBody pool t (body_of inner pool (message_fields pool t) rs) × (message_depth (body_of inner pool (message_fields pool t) rs) ≤ depth_left)
+  body-good t depth_left rs l h =
       let all = message_fields pool t in
       let ks = known pool all rs in
       let last = last_number all ks in
       let fs = fields_held inner all all ks in
-      let w = fields_held-stand t room all ks l (found_each all (differ_at pool pool.messages t rules.fields.numbers_differ)) (keys_and_values pool t rules) (known-good pool t room all rs h) (known-known pool all rs) in
-      let us = unknown-good pool t room all rs h in
-      let deep = fields_depth-each pool all room last fs w.0 in (
-        (AreFields-each pool all room last fs w.0, w.1, HasOneMemberEach-each pool all room last 0 fs w.1 w.0, us.0),
+      let w = fields_held-stand t depth_left all ks l (found_each all (differ_at pool pool.messages t rules.fields.numbers_differ)) (keys_and_values pool t rules) (known-good pool t depth_left all rs h) (known-known pool all rs) in
+      let us = unknown-good pool t depth_left all rs h in
+      let deep = fields_depth-each pool all depth_left last fs w.0 in (
+        (AreFields-each pool all depth_left last fs w.0, w.1, HasOneMemberEach-each pool all depth_left last 0 fs w.1 w.0, us.0),
         omega (arith, deep, us.1),
       )
 
 -- ALL LEVELS
 
 pub within-good :
-    (pool : Types) → IsPool pool → (levels m room : ℕ) (rs : List Record) → room < levels → AllGood pool (a_message m) room rs
-    → IsBody pool m (value_within pool levels m rs) × (message_depth (value_within pool levels m rs) ≤ room)
+    (pool : Types) → IsPool pool → (levels m depth_left : ℕ) (rs : List Record) → depth_left < levels → AllGood pool (a_message m) depth_left rs
+    → IsBody pool m (value_within pool levels m rs) × (message_depth (value_within pool levels m rs) ≤ depth_left)
 unfolding value_within
-within-good pool rules zero m room rs l h = absurd (omega (arith, l))
-within-good pool rules (suc levels) m room rs l h =
-    body-good pool rules (value_within pool levels) levels (λ n r ss. within-good pool rules levels n r ss) m room rs (omega (arith, l)) h
+within-good pool rules zero m depth_left rs l h = absurd (omega (arith, l))
+within-good pool rules (suc levels) m depth_left rs l h =
+    body-good pool rules (value_within pool levels) levels (λ n r ss. within-good pool rules levels n r ss) m depth_left rs (omega (arith, l)) h
 
 pub value_is_well_formed : (pool : Types) → IsPool pool → ValueIsWellFormed pool
 unfolding value

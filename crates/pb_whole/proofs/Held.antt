@@ -11,14 +11,14 @@ use Rattle.pb_schema.specs.Scalar.{Scalar}
 use Rattle.pb_schema.specs.Context.{Context}
 use Rattle.pb_value.specs.Data.{Datum}
 use Rattle.pb_building.specs.declared.open.part.Slot.{Slot}
-use Rattle.pb_building.specs.Open.Parents.{Part, message_part, entry_part, group_part, CanHold, Scope, Parent, Held, inside, Stands}
+use Rattle.pb_building.specs.Open.Parents.{Part, message_part, entry_part, group_part, CanHold, Scope, Parent, Held, inside, Reached}
 use Rattle.pb_building.specs.Close.Closing.{FitsSlot, CanGoInto}
 use Rattle.pb_building.proofs.WellLemmas.{can_hold, fits_keys}
 use Rattle.pb_building.specs.declared.open.part.Slot.TheVariants as slot
 
 -- THE PARENT may be changed
 pub parent_can_hold :
-    {pool : Types} {m depth levels : ℕ} {base : List Record} {p0 : Place} {parent : Parent} {parents : List Parent} {scope : Scope} {now : Part} {q : Place} → Stands pool m depth levels base p0 (parent ∷ parents) now scope q → CanHold pool parent.part
+    {pool : Types} {m depth levels : ℕ} {base : List Record} {p0 : Place} {parent : Parent} {parents : List Parent} {scope : Scope} {now : Part} {q : Place} → Reached pool m depth levels base p0 (parent ∷ parents) now scope q → CanHold pool parent.part
 parent_can_hold {pool} {m} {depth} {levels} {base} {p0} {parent} {parents} {scope} {now} {q} s = from_held s.held
   where
     from_held : {o : Open Context} {depth_left inner : ℕ} {path : List PathStep} {p : Place} {earlier : List Record} → Held pool m depth levels base p0 (parent ∷ parents) now o depth_left inner path p earlier → CanHold pool parent.part
@@ -27,7 +27,7 @@ parent_can_hold {pool} {m} {depth} {levels} {base} {p0} {parent} {parents} {scop
 -- its map has keys of the kind of the entry's key
 pub entry_fits :
     {pool : Types} {m depth levels : ℕ} {base : List Record} {p0 : Place} {parent : Parent} {parents : List Parent} {scope : Scope} {q : Place} (ok : IsPool pool) (key kd : Kind) (x : Option Scalar) (d : Option Datum)
-    → Stands pool m depth levels base p0 (parent ∷ parents) (entry_part key kd x d) scope q → FitsSlot parent.slot parent.part key x
+    → Reached pool m depth levels base p0 (parent ∷ parents) (entry_part key kd x d) scope q → FitsSlot parent.slot parent.part key x
 entry_fits {pool} {m} {depth} {levels} {base} {p0} {parent} {parents} {scope} {q} ok key kd x d s = by_slot parent.slot parent.part refl refl
   where
     by_slot : (t : Slot) (p : Part) → parent.slot ≡ t → parent.part ≡ p → FitsSlot t p key x
@@ -42,7 +42,7 @@ entry_fits {pool} {m} {depth} {levels} {base} {p0} {parent} {parents} {scope} {q
 -- and any part goes into its slot of its parent
 pub part_fits :
     {pool : Types} {m depth levels : ℕ} {base : List Record} {p0 : Place} {parent : Parent} {parents : List Parent} {scope : Scope} {q : Place} (ok : IsPool pool) (now : Part)
-    → Stands pool m depth levels base p0 (parent ∷ parents) now scope q → CanGoInto parent.slot parent.part now
+    → Reached pool m depth levels base p0 (parent ∷ parents) now scope q → CanGoInto parent.slot parent.part now
 part_fits ok (message_part m v) s = tt
 part_fits ok (entry_part key kd x d) s = (can_hold ok (entry_part key kd x d) s, entry_fits ok key kd x d s)
 part_fits ok (group_part us) s = tt

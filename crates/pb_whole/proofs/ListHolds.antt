@@ -25,14 +25,14 @@ use Rattle.pb_building.specs.declared.tokens.step.Step.TheVariants as step
 members_in :
     {pool : Types} {m depth levels : ℕ} {base : List Record} {p0 : Place} {parents : List Parent} {scope : Scope} {now : Part} {u : Place} (k : ℕ) (kd : Kind) (outer : Option ℕ)
     (list : AtList pool m depth levels base p0 parents now scope k kd outer u) → AllDiffer (map (λ (f : FieldView). f.number) (message_fields pool list.message_type)) → (i : ℕ) → scope.depth_left < i
-    → list.before ≡ value_within pool i list.message_type (list.stands.earlier ++ list.stands.records_so_far)
+    → list.before ≡ value_within pool i list.message_type (list.reached.earlier ++ list.reached.records_so_far)
     → HasOneMemberEach (message_fields pool list.message_type) (fields_of (with_elements pool k kd list.front list.before))
 members_in k kd outer list differ zero deep w = absurd (omega (arith, deep))
 members_in {pool} k kd outer list differ (suc i) deep w =
     let (f, found, e, is_kind, (p, is_shape), none, packable) = packed_field (field_numbered k (message_fields pool list.message_type)) k 2 kd list.means in
     let own : f.number ≡ k = found_number k (message_fields pool list.message_type) f found in
     let there : field_numbered f.number (message_fields pool list.message_type) ≡ Some f = ap (λ (z : ℕ). field_numbered z (message_fields pool list.message_type)) own ∙ found in
-    let before : List Record = list.stands.earlier ++ list.stands.records_so_far in
+    let before : List Record = list.reached.earlier ++ list.reached.records_so_far in
     let r : Record = record { number = f.number; payload = len list.front } in
     let is : with_elements pool k kd list.front list.before ≡ value_within pool (suc i) list.message_type (before ++ r ∷ []) =
     ap (λ (z : Kind). with_elements pool k z list.front list.before) (sym is_kind) ∙ ap (λ (z : ℕ). with_elements pool z f.kind list.front list.before) (sym own)
@@ -45,6 +45,6 @@ pub list_can_hold :
     → After pool m depth levels base p0 parents (step.Elements k kd outer) now scope u → CanHold pool now
 list_can_hold {pool} k kd outer ok begun =
     let list = at_list k kd outer begun in
-    let within = type_in_pool list.message_type list.before list.stands in
+    let within = type_in_pool list.message_type list.before list.reached in
     subst (CanHold pool) (sym list.now_is)
-    (within, members_in k kd outer list (pool_differ pool list.message_type ok within) list.stands.inner list.stands.deep list.stands.worth)
+    (within, members_in k kd outer list (pool_differ pool list.message_type ok within) list.reached.inner list.reached.deep list.reached.worth)

@@ -17,10 +17,10 @@ use Rattle.pb_value.specs.View.{key_view, value_view}
 use Rattle.pb_value.specs.declared.body.MapKey.{MapKey}
 use Rattle.pb_value.specs.declared.body.Value.{Value}
 use Rattle.pb_building.specs.Close.Mapped.{pairs_view, put_mapped, put_all_mapped, FitsMapped, FitMapped, RisesIn}
-use Rattle.pb_building.specs.Open.Parents.{Part, message_part, entry_part, group_part, put_entry, Scope, Parent, parent_of, one_more_in, EndsAt, up_to, Stands}
+use Rattle.pb_building.specs.Open.Parents.{Part, message_part, entry_part, group_part, put_entry, Scope, Parent, parent_of, one_more_in, EndsAt, up_to, Reached}
 use Rattle.pb_building.specs.Open.Targets.{Means, part_context}
 use Rattle.pb_building.specs.Close.Closing.{FitsSlot}
-use Rattle.pb_whole.specs.Reads.{StandsIn, IsOpen, HasTagAt, Begins}
+use Rattle.pb_whole.specs.Reads.{ReachedIn, IsOpen, HasTagAt, Begins}
 use Rattle.pb_whole.specs.declared.reader.AtTag.{AtTag}
 use Rattle.pb_whole.specs.declared.reader.Left.{Left}
 use Rattle.pb_whole.specs.Entries.{more_in, IsMapOpen, IsAtEntry, IsEntry, AreEntries}
@@ -50,7 +50,7 @@ after_payload at None bytes start size None ends =
     ∙ ap (λ (z : ℕ). given_at z None (drop (start + size) bytes)) at_is
 
 -- THE PART THAT IS OPEN
-pub rises_in : {pool : Types} {m depth levels : ℕ} {base : List Record} {p0 : Place} {parents : List Parent} {scope : Scope} {q : Place} (ok : IsPool pool) (now : Part) → Stands pool m depth levels base p0 parents now scope q → RisesIn now
+pub rises_in : {pool : Types} {m depth levels : ℕ} {base : List Record} {p0 : Place} {parents : List Parent} {scope : Scope} {q : Place} (ok : IsPool pool) (now : Part) → Reached pool m depth levels base p0 parents now scope q → RisesIn now
 rises_in {pool} ok (message_part c v) s = rises pool c v (message_good ok c v s).0
   where
     rises : (pool : Types) (c : ℕ) (v : Message) → IsBody pool c v → RisesFrom 0 (fields_of v)
@@ -70,7 +70,7 @@ entry_in_map bytes left number tag_size start size depth_left key kd ok from has
   base = from.base;
   p0 = from.p0;
   parents = parent_of from.now number (slot.Map number) false from.scope ∷ from.parents;
-  stands = entry_begun from.at left bytes number tag_size start size depth_left key kd ok from.stands from.level (has from.at) (l from.at) from.means some;
+  reached = entry_begun from.at left bytes number tag_size start size depth_left key kd ok from.reached from.level (has from.at) (l from.at) from.means some;
 }
 
 mapped_is : (n : ℕ) (p : Part) (key kd : Kind) (x : Option Scalar) (d : Option Datum) (y : Scalar) (e : Datum) → y ≡ unwrap_or x (default_of key) → e ≡ unwrap_or d (missing (λ _ _. empty) kd) → put_mapped n (y, e) p ≡ put_entry (slot.Map n) p key kd x d
@@ -87,13 +87,13 @@ fits_mapped n (group_part us) key x y a h = tt
 
 pub entry_taken :
     {pool : Types} {m depth levels : ℕ} {base : List Record} {p0 : Place} {parents : List Parent} {scope : Scope} {now : Part} (at : ℕ) (left : Option ℕ) (bytes : List ℕ) (number start size inner : ℕ) (key kd : Kind) (x : Option Scalar) (d : Option Datum) (y : Scalar) (e : Datum) → IsPool pool
-    → Stands pool m depth levels base p0 parents now scope (given_at at left bytes)
-    → StandsIn pool m depth levels base p0 (parent_of now number (slot.Map number) false scope ∷ parents) inner (entry_part key kd x d) (passed (payload_place at bytes start size) size)
+    → Reached pool m depth levels base p0 parents now scope (given_at at left bytes)
+    → ReachedIn pool m depth levels base p0 (parent_of now number (slot.Map number) false scope ∷ parents) inner (entry_part key kd x d) (passed (payload_place at bytes start size) size)
     → y ≡ unwrap_or x (default_of key) → e ≡ unwrap_or d (missing (λ _ _. empty) kd)
-    → FitsMapped number y now × Stands pool m depth levels base p0 parents (put_mapped number (y, e) now) (one_more_in number scope) (passed (given_at at left bytes) (start + size))
+    → FitsMapped number y now × Reached pool m depth levels base p0 parents (put_mapped number (y, e) now) (one_more_in number scope) (passed (given_at at left bytes) (start + size))
 entry_taken {pool} {m} {depth} {levels} {base} {p0} {parents} {scope} {now} at left bytes number start size inner key kd x d y e ok s read a b = (
   fits_mapped number now key x y a (entry_fits ok key kd x d read.1),
-  subst (Stands pool m depth levels base p0 parents (put_mapped number (y, e) now) (one_more_in number scope)) (after_payload at left bytes start size scope.end s.ends)
+  subst (Reached pool m depth levels base p0 parents (put_mapped number (y, e) now) (one_more_in number scope)) (after_payload at left bytes start size scope.end s.ends)
       (part_closes (put_mapped number (y, e) now) read.1 (none_left size, refl) (mapped_is number now key kd x d y e a b)),
 )
 
@@ -107,18 +107,18 @@ map_open_in {pool} {now} bytes left depth_left number key kd from means = record
   base = from.base;
   p0 = from.p0;
   parents = from.parents;
-  scope = from.stands.0;
+  scope = from.reached.0;
   now = now;
-  stands = from.stands.1;
-  level = from.stands.2;
+  reached = from.reached.1;
+  level = from.reached.2;
   means = means;
 }
 
 pub run_filled :
     {pool : Types} {m depth levels : ℕ} {base : List Record} {p0 : Place} {parents : List Parent} {new : Part} {q : Place} (scope : Scope) (now : Part) (number depth_left : ℕ) (items : List (MapKey × Value)) → scope.depth_left ≡ depth_left → new ≡ put_all_mapped number (pairs_view items) now
-    → Stands pool m depth levels base p0 parents (put_all_mapped number (pairs_view items) now) (more_in number (length items) scope) q → StandsIn pool m depth levels base p0 parents depth_left new q
+    → Reached pool m depth levels base p0 parents (put_all_mapped number (pairs_view items) now) (more_in number (length items) scope) q → ReachedIn pool m depth levels base p0 parents depth_left new q
 run_filled {pool} {m} {depth} {levels} {base} {p0} {parents} {new} {q} scope now number depth_left items level is there =
-    (more_in number (length items) scope, subst (λ (z : Part). Stands pool m depth levels base p0 parents z (more_in number (length items) scope) q) (sym is) there, more_depth number (length items) scope ∙ level)
+    (more_in number (length items) scope, subst (λ (z : Part). Reached pool m depth levels base p0 parents z (more_in number (length items) scope) q) (sym is) there, more_depth number (length items) scope ∙ level)
 
 -- ONE MORE ENTRY
 pub means_along : (pool : Types) (number k : ℕ) (xs : List (Scalar × Datum)) (now : Part) (key kd : Kind) → Means pool (part_context now) k 2 (target.Entry key kd) → Means pool (part_context (put_all_mapped number xs now)) k 2 (target.Entry key kd)
@@ -127,20 +127,20 @@ means_along pool number k xs now key kd means = subst (λ z. Means pool z k 2 (t
 pub run_further :
     {pool : Types} {m depth levels : ℕ} {base : List Record} {p0 : Place} {parents : List Parent} (scope : Scope) (now : Part) (p : Place) (here size number : ℕ) (items new : List (MapKey × Value)) (e : MapKey × Value) → new ≡ items ++ e ∷ []
     → FitMapped number (pairs_view items) now → FitsMapped number (key_view e.0) (put_all_mapped number (pairs_view items) now)
-    → Stands pool m depth levels base p0 parents (put_mapped number (key_view e.0, value_view e.1) (put_all_mapped number (pairs_view items) now)) (one_more_in number (more_in number (length items) scope)) (passed (passed p here) size)
-    → FitMapped number (pairs_view new) now × Stands pool m depth levels base p0 parents (put_all_mapped number (pairs_view new) now) (more_in number (length new) scope) (passed p (here + size))
+    → Reached pool m depth levels base p0 parents (put_mapped number (key_view e.0, value_view e.1) (put_all_mapped number (pairs_view items) now)) (one_more_in number (more_in number (length items) scope)) (passed (passed p here) size)
+    → FitMapped number (pairs_view new) now × Reached pool m depth levels base p0 parents (put_all_mapped number (pairs_view new) now) (more_in number (length new) scope) (passed p (here + size))
 run_further {pool} {m} {depth} {levels} {base} {p0} {parents} scope now p here size number items new e is fit one there =
-    subst (λ (l : List (MapKey × Value)). FitMapped number (pairs_view l) now × Stands pool m depth levels base p0 parents (put_all_mapped number (pairs_view l) now) (more_in number (length l) scope) (passed p (here + size))) (sym is) (
+    subst (λ (l : List (MapKey × Value)). FitMapped number (pairs_view l) now × Reached pool m depth levels base p0 parents (put_all_mapped number (pairs_view l) now) (more_in number (length l) scope) (passed p (here + size))) (sym is) (
       subst (λ (xs : List (Scalar × Datum)). FitMapped number xs now) (sym (pairs_next items e)) (fit_next number (pairs_view items) (key_view e.0, value_view e.1) now fit one),
-      subst (λ (z : Part). Stands pool m depth levels base p0 parents z (more_in number (length (items ++ e ∷ [])) scope) (passed p (here + size)))
+      subst (λ (z : Part). Reached pool m depth levels base p0 parents z (more_in number (length (items ++ e ∷ [])) scope) (passed p (here + size)))
           (sym (ap (λ (xs : List (Scalar × Datum)). put_all_mapped number xs now) (pairs_next items e) ∙ mapped_next number (pairs_view items) (key_view e.0, value_view e.1) now))
-          (subst (λ (n : ℕ). Stands pool m depth levels base p0 parents (put_mapped number (key_view e.0, value_view e.1) (put_all_mapped number (pairs_view items) now)) (more_in number n scope) (passed p (here + size))) (sym (size_next items e))
-          (subst (Stands pool m depth levels base p0 parents (put_mapped number (key_view e.0, value_view e.1) (put_all_mapped number (pairs_view items) now)) (one_more_in number (more_in number (length items) scope))) (passed_twice p here size) there)),
+          (subst (λ (n : ℕ). Reached pool m depth levels base p0 parents (put_mapped number (key_view e.0, value_view e.1) (put_all_mapped number (pairs_view items) now)) (more_in number n scope) (passed p (here + size))) (sym (size_next items e))
+          (subst (Reached pool m depth levels base p0 parents (put_mapped number (key_view e.0, value_view e.1) (put_all_mapped number (pairs_view items) now)) (one_more_in number (more_in number (length items) scope))) (passed_twice p here size) there)),
     )
 
 pub open_further :
     {pool : Types} {number : ℕ} {key kd : Kind} {bytes : List ℕ} {left : Option ℕ} {depth_left : ℕ} (from : IsMapOpen pool number key kd bytes left depth_left) (here : ℕ) (after : Option ℕ) (items : List (MapKey × Value)) → after ≡ option_map (λ (e : ℕ). e - here) left
-    → Stands pool from.m from.depth from.levels from.base from.p0 from.parents (put_all_mapped number (pairs_view items) from.now) (more_in number (length items) from.scope) (passed (given_at from.at left bytes) here)
+    → Reached pool from.m from.depth from.levels from.base from.p0 from.parents (put_all_mapped number (pairs_view items) from.now) (more_in number (length items) from.scope) (passed (given_at from.at left bytes) here)
     → IsMapOpen pool number key kd (take (length bytes - here) (drop here bytes)) after depth_left
 open_further {pool} {number} {key} {kd} {bytes} {left} from here after items is there = record {
   m = from.m;
@@ -152,8 +152,8 @@ open_further {pool} {number} {key} {kd} {bytes} {left} from here after items is 
   parents = from.parents;
   scope = more_in number (length items) from.scope;
   now = put_all_mapped number (pairs_view items) from.now;
-  stands =
-      subst (Stands pool from.m from.depth from.levels from.base from.p0 from.parents (put_all_mapped number (pairs_view items) from.now) (more_in number (length items) from.scope))
+  reached =
+      subst (Reached pool from.m from.depth from.levels from.base from.p0 from.parents (put_all_mapped number (pairs_view items) from.now) (more_in number (length items) from.scope))
       (place_after from.at left after bytes here is) there;
   level = more_depth number (length items) from.scope ∙ from.level;
   means = means_along pool number number (pairs_view items) from.now key kd from.means;
@@ -161,11 +161,11 @@ open_further {pool} {number} {key} {kd} {bytes} {left} from here after items is 
 
 pub none_read :
     {pool : Types} {m depth levels : ℕ} {base : List Record} {p0 : Place} {parents : List Parent} {scope : Scope} {now : Part} (at : ℕ) (left : Option ℕ) (bytes : List ℕ) (number : ℕ) (items : List (MapKey × Value)) → items ≡ []
-    → Stands pool m depth levels base p0 parents now scope (given_at at left bytes)
-    → FitMapped number (pairs_view items) now × Stands pool m depth levels base p0 parents (put_all_mapped number (pairs_view items) now) (more_in number (length items) scope) (passed (given_at at left bytes) 0)
+    → Reached pool m depth levels base p0 parents now scope (given_at at left bytes)
+    → FitMapped number (pairs_view items) now × Reached pool m depth levels base p0 parents (put_all_mapped number (pairs_view items) now) (more_in number (length items) scope) (passed (given_at at left bytes) 0)
 none_read {pool} {m} {depth} {levels} {base} {p0} {parents} {scope} {now} at left bytes number items none there =
-    subst (λ (l : List (MapKey × Value)). FitMapped number (pairs_view l) now × Stands pool m depth levels base p0 parents (put_all_mapped number (pairs_view l) now) (more_in number (length l) scope) (passed (given_at at left bytes) 0)) (sym none)
-    (tt, subst (Stands pool m depth levels base p0 parents now scope) (place_before (given_at at left bytes)) there)
+    subst (λ (l : List (MapKey × Value)). FitMapped number (pairs_view l) now × Reached pool m depth levels base p0 parents (put_all_mapped number (pairs_view l) now) (more_in number (length l) scope) (passed (given_at at left bytes) 0)) (sym none)
+    (tt, subst (Reached pool m depth levels base p0 parents now scope) (place_before (given_at at left bytes)) there)
 
 -- the next entry may be read
 pub entry_next :
@@ -182,7 +182,7 @@ entry_next {pool} {key} {kd} {at} {next} items here from so_far is_after own beg
           subst (λ (n : ℕ). IsMapOpen pool n key kd next.bytes.now (Some next.left.remaining) next.left.depth_left) (sym own.0)
           (subst (λ (z : List ℕ). IsMapOpen pool at.tag.number key kd z (Some next.left.remaining) next.left.depth_left) (sym begins.same_bytes)
           (subst (λ (z : Left). IsMapOpen pool at.tag.number key kd (take (length at.bytes.now - here) (drop here at.bytes.now)) (Some z.remaining) z.depth_left) (sym is_left)
-          (open_further o here (Some (at.left.remaining - here)) items refl (so_far o.m o.depth o.levels o.at o.base o.p0 o.parents o.scope o.now o.stands o.level o.means).1)));
+          (open_further o here (Some (at.left.remaining - here)) items refl (so_far o.m o.depth o.levels o.at o.base o.p0 o.parents o.scope o.now o.reached o.level o.means).1)));
       level = subst (λ (z : Left). 0 < z.depth_left) (sym is_left) from.level;
       small = omega (arith, size, small);
       bytes = own.1 ∙ from.bytes;

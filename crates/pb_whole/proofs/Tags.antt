@@ -1,9 +1,9 @@
 -- What comes after a tag.
-use Rattle.std.proofs.Common.{◌≡◌, inl, inr, ℕ, ◌+◌, ◌-◌, ◌≤◌, ◌∙◌, List, take, drop, length, refl, sym, ap, subst, arith, length-drop, Option, Some, None, option_map}
+use Rattle.std.proofs.Common.{◌≡◌, inl, inr, ℕ, ◌+◌, ◌-◌, ◌≤◌, ◌∙◌, List, take, drop, length, refl, sym, ap, subst, arith, length-drop, Option, Some, option_map}
 use Rattle.std.specs.Prelude.{true}
 use Rattle.std.proofs.lemmas.Bool.{false≢true}
 use Rattle.pb_wire.specs.Record.{Record}
-use Rattle.pb_wire.specs.Fault.{Place, Moves, Reads as ReadsNumber, HasTag, HasLength}
+use Rattle.pb_wire.specs.Fault.{Place, Moves, HasTag, HasLength}
 use Rattle.pb_wire.specs.Scan.{given_at, passed}
 use Rattle.pb_wire.proofs.ScanLemmas.{moves_passed}
 use Rattle.pb_schema.specs.Types.{Types}
@@ -11,7 +11,7 @@ use Rattle.pb_building.specs.declared.open.target.Target.{Target}
 use Rattle.pb_building.specs.declared.tokens.step.Step.{Step}
 use Rattle.pb_building.specs.Values.PayloadValue.{IsBytesTarget}
 use Rattle.pb_building.specs.Open.Targets.{Means, part_context}
-use Rattle.pb_building.specs.Open.Parents.{Part, Scope, Parent, EndsAt, Stands}
+use Rattle.pb_building.specs.Open.Parents.{Part, Scope, Parent, Reached}
 use Rattle.pb_building.specs.Tokens.After.{tag, awaited, goes_down, HasLevelFor, After}
 use Rattle.pb_building.specs.Tokens.Number.{IsNumberType}
 use Rattle.pb_building.proofs.AfterLemmas.{after_tag, after_length}
@@ -36,7 +36,7 @@ there_after P at left after rest used more is h =
 -- A TAG of a record that opens nothing: its value or its length comes next
 pub tag_next :
     {pool : Types} {m depth levels : ℕ} {base : List Record} {p0 : Place} {parents : List Parent} {scope : Scope} {now : Part} {q u : Place} (next : Step) (k w : ℕ) (meant : Target)
-    → Stands pool m depth levels base p0 parents now scope q → awaited next ≡ Some (tag k w meant) → HasTag q k w u → Means pool (part_context now) k w meant → (goes_down meant ≡ true → ⊥) → After pool m depth levels base p0 parents next now scope u
+    → Reached pool m depth levels base p0 parents now scope q → awaited next ≡ Some (tag k w meant) → HasTag q k w u → Means pool (part_context now) k w meant → (goes_down meant ≡ true → ⊥) → After pool m depth levels base p0 parents next now scope u
 tag_next next k w meant s is has means stays = after_tag next (tag k w meant) s is has means (λ deep. absurd (stays deep))
 
 pub number_stays : (pool : Types) (now : Part) (k w : ℕ) (meant : Target) → Means pool (part_context now) k w meant → IsNumberType w → goes_down meant ≡ true → ⊥
@@ -65,7 +65,7 @@ bytes_stay (target.Entry key k) bytes deep = bytes
 -- after the tag of a number
 pub number_next :
     {pool : Types} {m depth levels : ℕ} {base : List Record} {p0 : Place} {parents : List Parent} {scope : Scope} {now : Part} {q u : Place} (k w : ℕ) (meant : Target) → IsNumberType w
-    → Stands pool m depth levels base p0 parents now scope q → HasTag q k w u → Means pool (part_context now) k w meant → (next : Step) × (awaited next ≡ Some (tag k w meant)) × After pool m depth levels base p0 parents next now scope u
+    → Reached pool m depth levels base p0 parents now scope q → HasTag q k w u → Means pool (part_context now) k w meant → (next : Step) × (awaited next ≡ Some (tag k w meant)) × After pool m depth levels base p0 parents next now scope u
 number_next {pool} {m} {depth} {levels} {base} {p0} {parents} {scope} {now} {q} {u} k w meant type s has means = by_type type
   where
     by_step : (next : Step) → awaited next ≡ Some (tag k w meant) → (next : Step) × (awaited next ≡ Some (tag k w meant)) × After pool m depth levels base p0 parents next now scope u
@@ -79,38 +79,13 @@ number_next {pool} {m} {depth} {levels} {base} {p0} {parents} {scope} {now} {q} 
 -- after the tag of a record that opens something, where a level is left for it
 pub opening_next :
     {pool : Types} {m depth levels : ℕ} {base : List Record} {p0 : Place} {parents : List Parent} {scope : Scope} {now : Part} {q u : Place} (k : ℕ) (meant : Target)
-    → Stands pool m depth levels base p0 parents now scope q → HasTag q k 2 u → Means pool (part_context now) k 2 meant → HasLevelFor scope.depth_left meant → After pool m depth levels base p0 parents (step.Length k meant) now scope u
+    → Reached pool m depth levels base p0 parents now scope q → HasTag q k 2 u → Means pool (part_context now) k 2 meant → HasLevelFor scope.depth_left meant → After pool m depth levels base p0 parents (step.Length k meant) now scope u
 opening_next k meant s has means depth_left = after_tag (step.Length k meant) (tag k 2 meant) s refl has means depth_left
 
 -- A PAYLOAD of bytes after its tag and its length
--- a tag and a length end before the known end
-before_end : (at e : ℕ) (rest : List ℕ) (used start : ℕ) {k w n : ℕ} → HasTag (given_at at (Some e) rest) k w (passed (given_at at (Some e) rest) used)
-    → ReadsNumber (passed (given_at at (Some e) rest) used) n (passed (given_at at (Some e) rest) start) → start ≤ e
-before_end at e rest used start has h =
-    let tag = has.tag.2.within in
-    let tag_at = has.tag.2.at in
-    let size = h.2.within in
-    let size_at = h.2.at in
-    omega (arith, tag, tag_at, size, size_at)
-
--- a length that fits where the tag begins at 0 fits anywhere
-pub length_there :
-    (at : ℕ) (left : Option ℕ) (rest : List ℕ) (used start : ℕ) {k w n size : ℕ} → HasTag (given_at at left rest) k w (passed (given_at at left rest) used)
-    → ((at : ℕ) → ReadsNumber (passed (given_at at left rest) used) n (passed (given_at at left rest) start)) → size ≡ n
-    → ((u t : Place) → ReadsNumber u n t → t.at ≡ start → EndsAt t left → HasLength u size t) → HasLength (passed (given_at at left rest) used) size (passed (given_at at left rest) start)
-length_there at left rest used start {n = n} has reads is fits =
-    let from_front : 0 + start ≡ start = omega arith in
-    let there = fits (passed (given_at 0 left rest) used) (passed (given_at 0 left rest) start) (reads 0) from_front (ends left has (reads at)) in
-    record { length_is = subst (λ (z : ℕ). ReadsNumber (passed (given_at at left rest) used) z (passed (given_at at left rest) start)) (sym is) (reads at); small = there.small; within = there.within }
-  where
-    ends : (e : Option ℕ) {k w : ℕ} → HasTag (given_at at e rest) k w (passed (given_at at e rest) used) → ReadsNumber (passed (given_at at e rest) used) n (passed (given_at at e rest) start)
-        → EndsAt (passed (given_at 0 e rest) start) e
-    ends None has h = refl
-    ends (Some e) has h = let before = before_end at e rest used start has h in (e - start, refl, omega (arith, before))
-
 pub bytes_next :
     {pool : Types} {m depth levels : ℕ} {base : List Record} {p0 : Place} {parents : List Parent} {scope : Scope} {now : Part} {q u t : Place} (k n : ℕ) (meant : Target)
-    → Stands pool m depth levels base p0 parents now scope q → HasTag q k 2 u → Means pool (part_context now) k 2 meant → IsBytesTarget meant → HasLength u n t → After pool m depth levels base p0 parents (step.Payload k meant n) now scope t
+    → Reached pool m depth levels base p0 parents now scope q → HasTag q k 2 u → Means pool (part_context now) k 2 meant → IsBytesTarget meant → HasLength u n t → After pool m depth levels base p0 parents (step.Payload k meant n) now scope t
 bytes_next k n meant s has means bytes l = after_length k meant n (tag_next (step.Length k meant) k 2 meant s refl has means (bytes_stay meant bytes)) refl bytes l
 
 pub payload_leads : (p : Place) (start size : ℕ) (u : Place) → start + size ≤ length p.rest → HasLength u size (passed p start) → Moves (passed p start) (take ((start + size) - start) (drop start p.rest)) (passed p (start + size))

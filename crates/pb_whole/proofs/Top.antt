@@ -10,7 +10,7 @@ use Rattle.pb_schema.specs.Types.{Types}
 use Rattle.pb_schema.specs.Context.{Context, a_message as in_message, schema_of}
 use Rattle.pb_value.specs.Data.{Message, empty}
 use Rattle.pb_value.specs.Derives.{Text}
-use Rattle.pb_building.specs.Open.Parents.{Part, message_part, entry_part, group_part, Parent, Scope, Held, at_top, inside, IsSameForm, Stands}
+use Rattle.pb_building.specs.Open.Parents.{Part, message_part, entry_part, group_part, Parent, Scope, Held, at_top, inside, IsSameForm, Reached}
 use Rattle.pb_wire.specs.Sound.{AllSound}
 use Rattle.pb_wire.specs.declared.fault.PathStep.{PathStep}
 use Rattle.pb_wire.specs.Scan.{given_at, passed}
@@ -19,11 +19,11 @@ use Rattle.pb_value.specs.Value.{value, value_within}
 use Rattle.pb_value.proofs.MessageSteps.{value_of_nothing}
 use Rattle.pb_value.specs.WellFormed.{IsBody, IsWellFormed}
 use Rattle.pb_building.specs.Open.Opened.{SoFar}
-use Rattle.pb_building.proofs.ParentLemmas.{stands_at_start}
+use Rattle.pb_building.proofs.ParentLemmas.{reached_at_start}
 use Rattle.pb_building.proofs.WellLemmas.{message_good}
 use Rattle.pb_wire.specs.Spell.{AreRecords}
 use Rattle.std.proofs.Math.Seq.{drop-length}
-use Rattle.pb_whole.specs.Reads.{StandsIn, IsOpen, ReadsTo}
+use Rattle.pb_whole.specs.Reads.{ReachedIn, IsOpen, ReadsTo}
 
 -- NOTHING IS OPEN BUT THE TOP: the part is the message, and no end is known
 pub is_top :
@@ -46,12 +46,12 @@ top_inner (at_top v form is_open is_depth is_inner is_path is_place is_base goes
 
 -- what there is of the top is well formed
 pub top_well_formed :
-    {pool : Types} {m depth : ℕ} {base : List Record} {p0 : Place} {scope : Scope} {q : Place} (k : ℕ) (w : Message) → IsPool pool → Stands pool m depth 101 base p0 [] (message_part k w) scope q → IsWellFormed pool m w
-top_well_formed {pool} {m} k w ok stands =
-    let good = message_good ok k w stands in
-    let (v, form) = is_top refl stands.held in
+    {pool : Types} {m depth : ℕ} {base : List Record} {p0 : Place} {scope : Scope} {q : Place} (k : ℕ) (w : Message) → IsPool pool → Reached pool m depth 101 base p0 [] (message_part k w) scope q → IsWellFormed pool m w
+top_well_formed {pool} {m} k w ok reached =
+    let good = message_good ok k w reached in
+    let (v, form) = is_top refl reached.held in
     let same : k ≡ m = (let e : message_part k w ≡ message_part m v = form in cc) in
-    let inner = top_inner stands.held in
+    let inner = top_inner reached.held in
     let low = good.1 in
     record { parts = subst (λ (z : ℕ). IsBody pool z w) same good.0; depth = omega (arith, low, inner) }
 
@@ -62,7 +62,7 @@ nothing_good pool m v none = subst (IsWellFormed pool m) (sym none) (record { pa
 -- A WHOLE MESSAGE: nothing is open but the message, and no byte is left
 pub text_read :
     (pool : Types) (m : ℕ) (limits : Bounds) (b : List ℕ) (p0 : Place) (k : ℕ) (v : Message) (scope : Scope) (q : Place) → p0.rest ≡ b → length b ≤ limits.bytes
-    → Stands pool m limits.depth 101 [] p0 [] (message_part k v) scope q → q.rest ≡ [] → Text pool m limits b v
+    → Reached pool m limits.depth 101 [] p0 [] (message_part k v) scope q → q.rest ≡ [] → Text pool m limits b v
 unfolding value
 text_read pool m limits b p0 k v scope q from size s none = from_held s.held s.so_far s.worth
   where
@@ -91,12 +91,12 @@ top_scope depth size = record { depth_left = depth; end = Some size; counts = λ
 -- NO RECORD IS READ YET of a message that is empty so far
 at_start :
     (pool : Types) (k depth : ℕ) (b : List ℕ) (v : Message) → v ≡ empty → depth ≤ 100 → k < length pool.messages → AreBytes b
-    → StandsIn pool k depth 101 [] (given_at 0 (Some (length b)) b) [] depth (message_part k v) (given_at 0 (Some (length b)) b)
+    → ReachedIn pool k depth 101 [] (given_at 0 (Some (length b)) b) [] depth (message_part k v) (given_at 0 (Some (length b)) b)
 unfolding top_scope
 at_start pool k depth b v none deep within bytes =
     let good = nothing_good pool k v none in (
       top_scope depth (length b),
-      stands_at_start pool k depth 101 [] (given_at 0 (Some (length b)) b) (top_scope depth (length b)) v (omega (arith, deep)) (none ∙ sym (value_of_nothing pool 101 k)) within good.parts
+      reached_at_start pool k depth 101 [] (given_at 0 (Some (length b)) b) (top_scope depth (length b)) v (omega (arith, deep)) (none ∙ sym (value_of_nothing pool 101 k)) within good.parts
           (let low = good.depth in omega (arith, low)) bytes refl (λ n. refl) (length b, refl, omega arith),
       refl,
     )
@@ -110,7 +110,7 @@ text_open pool k depth b v none deep within bytes = record {
   base = [];
   p0 = given_at 0 (Some (length b)) b;
   parents = [];
-  stands = at_start pool k depth b v none deep within bytes;
+  reached = at_start pool k depth b v none deep within bytes;
 }
 
 -- ALL ARE READ
@@ -119,10 +119,10 @@ pub text_filled :
     → IsPool pool → v ≡ empty → depth_left ≡ limits.depth → depth_left ≤ 100 → length b ≤ limits.bytes → k < length pool.messages → AreBytes b
     → new ≡ message_part j w → ReadsTo pool (message_part k v) new b (length b) depth_left (length b) → Text pool k limits b w × IsWellFormed pool k w
 text_filled pool k depth_left limits b v new j w rules none same deep size within bytes is filled =
-    let (scope, stands, level) = filled k depth_left 101 0 [] (given_at 0 (Some (length b)) b) [] (at_start pool k depth_left b v none deep within bytes) in
-    let there : Stands pool k limits.depth 101 [] (given_at 0 (Some (length b)) b) [] (message_part j w) scope (passed (given_at 0 (Some (length b)) b) (length b)) =
-    subst (λ (z : ℕ). Stands pool k z 101 [] (given_at 0 (Some (length b)) b) [] (message_part j w) scope (passed (given_at 0 (Some (length b)) b) (length b))) same
-    (subst (λ (z : Part). Stands pool k depth_left 101 [] (given_at 0 (Some (length b)) b) [] z scope (passed (given_at 0 (Some (length b)) b) (length b))) is stands) in (
+    let (scope, reached, level) = filled k depth_left 101 0 [] (given_at 0 (Some (length b)) b) [] (at_start pool k depth_left b v none deep within bytes) in
+    let there : Reached pool k limits.depth 101 [] (given_at 0 (Some (length b)) b) [] (message_part j w) scope (passed (given_at 0 (Some (length b)) b) (length b)) =
+    subst (λ (z : ℕ). Reached pool k z 101 [] (given_at 0 (Some (length b)) b) [] (message_part j w) scope (passed (given_at 0 (Some (length b)) b) (length b))) same
+    (subst (λ (z : Part). Reached pool k depth_left 101 [] (given_at 0 (Some (length b)) b) [] z scope (passed (given_at 0 (Some (length b)) b) (length b))) is reached) in (
       text_read pool k limits b (given_at 0 (Some (length b)) b) j w scope (passed (given_at 0 (Some (length b)) b) (length b)) refl size there (drop-length b),
       top_well_formed j w rules there,
     )

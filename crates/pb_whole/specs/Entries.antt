@@ -11,7 +11,7 @@ use Rattle.pb_value.specs.declared.body.MapKey.{MapKey}
 use Rattle.pb_value.specs.declared.body.Value.{Value}
 use Rattle.pb_value.specs.View.{key_view, value_view}
 use Rattle.pb_building.specs.declared.open.target.Target.TheVariants.{Entry}
-use Rattle.pb_building.specs.Open.Parents.{Part, Scope, Parent, one_more_in, Stands}
+use Rattle.pb_building.specs.Open.Parents.{Part, Scope, Parent, one_more_in, Reached}
 use Rattle.pb_building.specs.Open.Targets.{Means, part_context}
 use Rattle.pb_building.specs.Close.Mapped.{pairs_view, put_mapped, put_all_mapped, FitsMapped, FitMapped}
 use Rattle.pb_whole.specs.declared.reader.AtTag.{AtTag}
@@ -33,7 +33,7 @@ pub record IsMapOpen (pool : Types) (number : ℕ) (key kd : Kind) (bytes : List
   pub parents : List Parent
   pub scope : Scope
   pub now : Part
-  pub stands : Stands pool m depth levels base p0 parents now scope (given_at at left bytes)
+  pub reached : Reached pool m depth levels base p0 parents now scope (given_at at left bytes)
   pub level : scope.depth_left ≡ depth_left
   pub means : Means pool (part_context now) number 2 (Entry key kd)
 
@@ -52,18 +52,18 @@ pub record IsAtEntry (pool : Types) (key kd : Kind) (at : AtTag) : Type 0 where
 abbrev pub IsEntry : Types → ℕ → Kind → Kind → List ℕ → Option ℕ → ℕ → MapKey × Value → ℕ → Type 0
 IsEntry pool number key kd bytes left depth_left e used =
     (m depth levels at : ℕ) (base : List Record) (p0 : Place) (parents : List Parent) (scope : Scope) (now : Part)
-    → Stands pool m depth levels base p0 parents now scope (given_at at left bytes) → scope.depth_left ≡ depth_left → Means pool (part_context now) number 2 (Entry key kd)
+    → Reached pool m depth levels base p0 parents now scope (given_at at left bytes) → scope.depth_left ≡ depth_left → Means pool (part_context now) number 2 (Entry key kd)
     → FitsMapped number (key_view e.0) now
-    × Stands pool m depth levels base p0 parents (put_mapped number (key_view e.0, value_view e.1) now) (one_more_in number scope)
+    × Reached pool m depth levels base p0 parents (put_mapped number (key_view e.0, value_view e.1) now) (one_more_in number scope)
     (passed (given_at at left bytes) used)
 
 -- the same of several
 abbrev pub AreEntries : Types → ℕ → Kind → Kind → List ℕ → Option ℕ → ℕ → List (MapKey × Value) → ℕ → Type 0
 AreEntries pool number key kd bytes left depth_left es used =
     (m depth levels at : ℕ) (base : List Record) (p0 : Place) (parents : List Parent) (scope : Scope) (now : Part)
-    → Stands pool m depth levels base p0 parents now scope (given_at at left bytes) → scope.depth_left ≡ depth_left → Means pool (part_context now) number 2 (Entry key kd)
+    → Reached pool m depth levels base p0 parents now scope (given_at at left bytes) → scope.depth_left ≡ depth_left → Means pool (part_context now) number 2 (Entry key kd)
     → FitMapped number (pairs_view es) now
-    × Stands pool m depth levels base p0 parents (put_all_mapped number (pairs_view es) now) (more_in number (length es) scope)
+    × Reached pool m depth levels base p0 parents (put_all_mapped number (pairs_view es) now) (more_in number (length es) scope)
     (passed (given_at at left bytes) used)
 
 -- where they are read, and their size

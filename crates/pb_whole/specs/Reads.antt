@@ -8,16 +8,16 @@ use Rattle.pb_schema.specs.Types.{Types}
 use Rattle.pb_schema.specs.Rules.{IsPool}
 use Rattle.pb_building.specs.declared.open.part.Part.{Part as PartKept}
 use Rattle.pb_building.specs.declared.open.target.Target.{Target}
-use Rattle.pb_building.specs.Open.Parents.{Part, Scope, Parent, Stands}
+use Rattle.pb_building.specs.Open.Parents.{Part, Scope, Parent, Reached}
 use Rattle.pb_building.specs.Open.PartView.{part_view}
 use Rattle.pb_building.specs.Open.Targets.{Means, part_context}
 use Rattle.pb_whole.specs.declared.reader.Left.{Left}
 use Rattle.pb_whole.specs.declared.reader.AtTag.{AtTag}
 
 -- with some scope that has this many levels left, whole records of a part end at a place
-abbrev pub StandsIn : Types → ℕ → ℕ → ℕ → List Record → Place → List Parent → ℕ → Part → Place → Type 0
-StandsIn pool m depth levels base p0 parents depth_left now q =
-    (scope : Scope) × Stands pool m depth levels base p0 parents now scope q × (scope.depth_left ≡ depth_left)
+abbrev pub ReachedIn : Types → ℕ → ℕ → ℕ → List Record → Place → List Parent → ℕ → Part → Place → Type 0
+ReachedIn pool m depth levels base p0 parents depth_left now q =
+    (scope : Scope) × Reached pool m depth levels base p0 parents now scope q × (scope.depth_left ≡ depth_left)
 
 -- somewhere the part is open, and these bytes come next in it, of which some are before its known end
 pub record IsOpen (pool : Types) (now : Part) (bytes : List ℕ) (left depth_left : ℕ) : Type 0 where
@@ -28,7 +28,7 @@ pub record IsOpen (pool : Types) (now : Part) (bytes : List ℕ) (left depth_lef
   pub base : List Record
   pub p0 : Place
   pub parents : List Parent
-  pub stands : StandsIn pool m depth levels base p0 parents depth_left now (given_at at (Some left) bytes)
+  pub reached : ReachedIn pool m depth levels base p0 parents depth_left now (given_at at (Some left) bytes)
 
 -- the pool meets its rules, somewhere the part is open, and the bytes that come next in it are fewer than 2 GiB
 pub record CanRead (pool : Types) (now : PartKept) (bytes : List ℕ) (left : Left) : Type 0 where
@@ -63,8 +63,8 @@ MeansIn pool part number type meant = Means pool (part_context (part_view part))
 abbrev pub ReadsTo : Types → Part → Part → List ℕ → ℕ → ℕ → ℕ → Type 0
 ReadsTo pool old new bytes left depth_left used =
     (m depth levels at : ℕ) (base : List Record) (p0 : Place) (parents : List Parent)
-    → StandsIn pool m depth levels base p0 parents depth_left old (given_at at (Some left) bytes)
-    → StandsIn pool m depth levels base p0 parents depth_left new (passed (given_at at (Some left) bytes) used)
+    → ReachedIn pool m depth levels base p0 parents depth_left old (given_at at (Some left) bytes)
+    → ReachedIn pool m depth levels base p0 parents depth_left new (passed (given_at at (Some left) bytes) used)
 
 -- a record is read: it takes its tag at least, and no more than there is
 pub record TakesOne (pool : Types) (old new : PartKept) (at : AtTag) (used : ℕ) : Type 0 where

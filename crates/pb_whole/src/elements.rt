@@ -1,6 +1,6 @@
 //! Elements of lists that are not packed. Those of one list that follow each other go to its end at once: the list is looked up once for all of them.
 
-ghost use Rattle.std.specs.Prelude.{◌≡◌, ◌⊎◌, ◌≤◌, ◌<◌, ◌∷◌, [], length, IfOk, IfSome};
+ghost use Rattle.std.specs.Prelude.{◌≤◌, ◌<◌, ◌∷◌, [], length, IfOk, IfSome};
 ghost use Rattle.pb_value.specs.View.{value_view};
 ghost use Rattle.pb_building.specs.declared.open.target.Target.TheVariants as targets;
 ghost use Rattle.pb_building.specs.Tokens.Number.{IsNumberType};
@@ -9,12 +9,10 @@ ghost use Rattle.pb_whole.specs.Listed.{ReadsList, IsAtElement, IsElement, AreEl
 
 use crate::reader::{AtTag, Read, Reader, Used};
 use crate::tokens::tag_again;
-use pb_building::{
-    NumberToken, Part, Target, is_undeclared, left_after, number_at, number_value, put_elements,
-    put_scalar,
-};
+use pb_building::{Part, Target, is_undeclared, number_at, number_value, put_elements, put_scalar};
 use pb_schema::Kind;
 use pb_value::Value;
+use pb_wire::{Scanned, left_after};
 
 /// Says that the byte after this many is the first one, as it is where the same tag comes again.
 fn begins_again(bytes: &[u8], used: usize) -> bool {
@@ -31,7 +29,7 @@ impl Reader<'_> {
     {
         let after = left_after(Some(at.left.remaining), at.tag.size);
         match number_at(at.tag.wire_type, &at.bytes[at.tag.size..], after) {
-            NumberToken::Whole(number, size) => {
+            Scanned::Whole(number, size) => {
                 if is_undeclared(self.pool, kind, number) {
                     return None;
                 }

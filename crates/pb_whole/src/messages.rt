@@ -1,6 +1,6 @@
 //! Messages and groups of a list. Those that follow each other go to its end at once.
 
-ghost use Rattle.std.specs.Prelude.{◌≡◌, ◌≤◌, ◌<◌, length, IfOk};
+ghost use Rattle.std.specs.Prelude.{◌≤◌, ◌<◌, length, IfOk};
 ghost use Rattle.pb_building.specs.declared.open.part.Slot.TheVariants.{List as ListSlot};
 ghost use Rattle.pb_building.specs.declared.open.target.Target.TheVariants as targets;
 ghost use Rattle.pb_whole.specs.Reads.{IsAtTag, MeansIn, ReadsOne};

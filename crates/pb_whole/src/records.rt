@@ -106,7 +106,14 @@ impl Reader<'_> {
 
     /// Reads a message into its slot. It goes on from what the slot holds.
     #[cycle(read)]
-    fn read_message(&self, part: &mut Part, at: AtTag, of_type: MessageId, slot: Slot) -> Used
+    #[inline(always)]
+    pub(crate) fn read_message(
+        &self,
+        part: &mut Part,
+        at: AtTag,
+        of_type: MessageId,
+        slot: Slot,
+    ) -> Used
         requires at_tag { IsAtTag self.now.pool.now part.old at }
         requires bytes { at.tag.wire_type ≡ 2 }
         requires means { MeansIn self.now.pool.now part.old at.tag.number 2 (targets.Message of_type slot) }

@@ -9,10 +9,11 @@ ghost use Rattle.pb_whole.specs.Reads.{IsAtTag, MeansIn, ReadsOne};
 use crate::reader::{AtTag, Reader, Used};
 use crate::tokens::payload_at;
 use pb_building::{
-    NoMemory, NumberToken, Part, Target, left_after, number_at, put_elements, put_number,
-    put_payload, put_run, read_list, read_run, target_of,
+    NoMemory, Part, Target, put_elements, put_number, put_payload, put_run, read_list, read_run,
+    target_of,
 };
 use pb_schema::Kind;
+use pb_wire::{Scanned, left_after, scan_number};
 
 impl Reader<'_> {
     /// Reads a number for this target.
@@ -24,8 +25,8 @@ impl Reader<'_> {
         ensures { ReadsOne self.now.pool.now part.old part.new at.entry result }
     {
         let after = left_after(Some(at.left.remaining), at.tag.size);
-        match number_at(at.tag.wire_type, &at.bytes[at.tag.size..], after) {
-            NumberToken::Whole(value, size) => {
+        match scan_number(at.tag.wire_type, &at.bytes[at.tag.size..], after) {
+            Scanned::Whole(value, size) => {
                 put_number(self.alloc, self.pool, part, at.tag.number, target, value)?;
                 Ok(at.tag.size + size)
             }

@@ -6,7 +6,8 @@ ghost use Rattle.pb_whole.specs.Lengths.{IsLengthAfter, TellsLength};
 ghost use Rattle.pb_whole.specs.Reads.{Begins};
 
 use crate::reader::{AtTag, Left};
-use pb_building::{NoMemory, RecordTag, left_after, payload_size, prefix_number, record_tag};
+use pb_building::{NoMemory, RecordTag, record_tag};
+use pb_wire::{Scanned, left_after, scan_length};
 
 /// Where the payload of a record begins whose tag takes this many bytes, and its size. `left` is how many bytes come before the end of
 /// the part, if that is known.
@@ -17,14 +18,10 @@ pub fn length_after(tag_size: usize, bytes: &[u8], left: Option<u32>) -> Option<
     ensures whole { TellsLength tag_size bytes.now left result }
 {
     let after = left_after(left, tag_size);
-    let Ok(Some((length, used))) = prefix_number(&bytes[tag_size..], after) else {
+    let Scanned::Whole(size, used) = scan_length(&bytes[tag_size..], after) else {
         return None;
     };
-    let start = tag_size + used;
-    match payload_size(length, start as u32, left) {
-        Ok(size) => Some((start, size)),
-        Err(_) => None,
-    }
+    Some((tag_size + used, size))
 }
 
 /// As `length_after`, if all of the payload is there.

@@ -14,8 +14,8 @@ again {others = others} is = ap (λ (z : Fault). fault z.byte others z.cause) is
 
 -- the fault of a record, whichever whole records come before it
 pub behind :
-    {S : Schema} {o : Open S.Context} {others : List Record} {room : ℕ} {p : Place} {f : Fault} (before : List Record) → RecordFault S o others room p f
-    → (path : List PathStep) × RecordFault S o before room p (fault f.byte path f.cause)
+    {S : Schema} {o : Open S.Context} {others : List Record} {depth_left : ℕ} {p : Place} {f : Fault} (before : List Record) → RecordFault S o others depth_left p f
+    → (path : List PathStep) × RecordFault S o before depth_left p (fault f.byte path f.cause)
 behind {f = f} before (RecordFault.tag t) = (f.path, RecordFault.tag t)
 behind before (RecordFault.group_too_deep {k = k} t z is) = (step k before ∷ [], RecordFault.group_too_deep t z (again is))
 behind before (RecordFault.message_too_deep {k = k} t re z is) = (step k before ∷ [], RecordFault.message_too_deep t re z (again is))

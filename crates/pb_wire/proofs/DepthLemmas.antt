@@ -9,28 +9,28 @@ group_of-records_in no_more = refl
 group_of-records_in (more k p g) = ap (λ (h : Group). more k p h) (group_of-records_in g)
 
 mutual
-  sound_payload : (p : Payload) (k room : ℕ) → depth p ≤ room → Sound blank tt room k p
-  sound_payload (varint n) k room h = Sound.is_varint
-  sound_payload (fixed64 n) k room h = Sound.is_fixed64
-  sound_payload (len s) k room h = Sound.some_bytes refl
+  sound_payload : (p : Payload) (k depth_left : ℕ) → depth p ≤ depth_left → Sound blank tt depth_left k p
+  sound_payload (varint n) k depth_left h = Sound.is_varint
+  sound_payload (fixed64 n) k depth_left h = Sound.is_fixed64
+  sound_payload (len s) k depth_left h = Sound.some_bytes refl
   sound_payload (group g) k zero h = absurd (omega arith)
-  sound_payload (group g) k (suc room) h = Sound.a_group (group_of-records_in g) (sound_group g room (omega arith))
-  sound_payload (fixed32 n) k room h = Sound.is_fixed32
+  sound_payload (group g) k (suc depth_left) h = Sound.a_group (group_of-records_in g) (sound_group g depth_left (omega arith))
+  sound_payload (fixed32 n) k depth_left h = Sound.is_fixed32
 
-  sound_group : (g : Group) (room : ℕ) → group_depth g ≤ room → AllSound blank tt room (records_in g)
-  sound_group no_more room h = AllSound.none
-  sound_group (more k p g) room h = AllSound.one (sound_payload p k room (omega arith)) (sound_group g room (omega arith))
+  sound_group : (g : Group) (depth_left : ℕ) → group_depth g ≤ depth_left → AllSound blank tt depth_left (records_in g)
+  sound_group no_more depth_left h = AllSound.none
+  sound_group (more k p g) depth_left h = AllSound.one (sound_payload p k depth_left (omega arith)) (sound_group g depth_left (omega arith))
 
-pub sound_records : (rs : List Record) (room : ℕ) → records_depth rs ≤ room → AllSound blank tt room rs
-sound_records [] room h = AllSound.none
-sound_records (r ∷ rs) room h = AllSound.one (sound_payload r.payload r.number room (omega arith)) (sound_records rs room (omega arith))
+pub sound_records : (rs : List Record) (depth_left : ℕ) → records_depth rs ≤ depth_left → AllSound blank tt depth_left rs
+sound_records [] depth_left h = AllSound.none
+sound_records (r ∷ rs) depth_left h = AllSound.one (sound_payload r.payload r.number depth_left (omega arith)) (sound_records rs depth_left (omega arith))
 
-pub group_records_sound : (rs : List Record) (room : ℕ) → group_depth (group_of rs) ≤ room → AllSound blank tt room rs
-group_records_sound [] room h = AllSound.none
-group_records_sound (r ∷ rs) room h = AllSound.one (sound_payload r.payload r.number room (omega arith)) (group_records_sound rs room (omega arith))
+pub group_records_sound : (rs : List Record) (depth_left : ℕ) → group_depth (group_of rs) ≤ depth_left → AllSound blank tt depth_left rs
+group_records_sound [] depth_left h = AllSound.none
+group_records_sound (r ∷ rs) depth_left h = AllSound.one (sound_payload r.payload r.number depth_left (omega arith)) (group_records_sound rs depth_left (omega arith))
 
 mutual
-  pub sound_depth : {room k : ℕ} {p : Payload} → Sound blank tt room k p → depth p ≤ room
+  pub sound_depth : {depth_left k : ℕ} {p : Payload} → Sound blank tt depth_left k p → depth p ≤ depth_left
   sound_depth is_varint = omega arith
   sound_depth is_fixed64 = omega arith
   sound_depth is_fixed32 = omega arith
@@ -41,14 +41,14 @@ mutual
   sound_depth (a_value e r s) = omega arith
   sound_depth (a_group e s) = let inner = group_sound_depth s in rw e (omega arith)
 
-  pub group_sound_depth : {room : ℕ} {rs : List Record} → AllSound blank tt room rs → group_depth (group_of rs) ≤ room
+  pub group_sound_depth : {depth_left : ℕ} {rs : List Record} → AllSound blank tt depth_left rs → group_depth (group_of rs) ≤ depth_left
   group_sound_depth none = omega arith
   group_sound_depth (one s others) = let first = sound_depth s in let rest = group_sound_depth others in omega arith
 
-pub records_sound_depth : {room : ℕ} {rs : List Record} → AllSound blank tt room rs → records_depth rs ≤ room
+pub records_sound_depth : {depth_left : ℕ} {rs : List Record} → AllSound blank tt depth_left rs → records_depth rs ≤ depth_left
 records_sound_depth none = omega arith
 records_sound_depth (one s others) = let first = sound_depth s in let rest = records_sound_depth others in omega arith
 
 -- what is sound stays so with more levels left
-pub sound_higher : {room : ℕ} {rs : List Record} (higher : ℕ) → room ≤ higher → AllSound blank tt room rs → AllSound blank tt higher rs
+pub sound_higher : {depth_left : ℕ} {rs : List Record} (higher : ℕ) → depth_left ≤ higher → AllSound blank tt depth_left rs → AllSound blank tt higher rs
 sound_higher {rs = rs} higher h sound = let low = records_sound_depth sound in sound_records rs higher (omega arith)

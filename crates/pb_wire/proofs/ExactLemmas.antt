@@ -23,39 +23,39 @@ use Rattle.pb_wire.proofs.OneFault.{not_both, one_fault}
 use Rattle.pb_wire.proofs.Total.{read_or_fault}
 
 -- every place is read whole, or has one fault
-pub exactly_here : (S : Schema) (o : Open S.Context) (room : ℕ) (p : Place) → All IsByte p.rest → Exactly (IsRead S o room p) (Bad S o room p)
-exactly_here S o room p bytes = record {
-  either = read_or_fault S o room p bytes;
+pub exactly_here : (S : Schema) (o : Open S.Context) (depth_left : ℕ) (p : Place) → All IsByte p.rest → Exactly (IsRead S o depth_left p) (Bad S o depth_left p)
+exactly_here S o depth_left p bytes = record {
+  either = read_or_fault S o depth_left p bytes;
   not_both = λ f bad good. not_both bad good;
   one = λ f g bad other. one_fault bad other;
 }
 
 -- ---- a text with no known end
 
-whole_text : (S : Schema) (c : S.Context) (room : ℕ) (b : List ℕ) → IsRead S (records c) room (text_at b) → Whole S c room b
-whole_text S c room b (front, q, w, m, over) = subst (λ (z : List ℕ). Whole S c room z) (all over) w
+whole_text : (S : Schema) (c : S.Context) (depth_left : ℕ) (b : List ℕ) → IsRead S (records c) depth_left (text_at b) → Whole S c depth_left b
+whole_text S c depth_left b (front, q, w, m, over) = subst (λ (z : List ℕ). Whole S c depth_left z) (all over) w
   where
     all : IsOver q → front ≡ b
     all (inl h) = absurd (let e : None ≡ Some 0 = sym m.known ∙ h in cc)
     all (inr h) = sym (append-nil front) ∙ ap (λ (z : List ℕ). front ++ z) (sym h.1) ∙ sym m.given
 
-text_read : (S : Schema) (c : S.Context) (room : ℕ) (b : List ℕ) → Whole S c room b → IsRead S (records c) room (text_at b)
-text_read S c room b w = (b, after (text_at b) b [], w, moves_after (text_at b) b [] (sym (append-nil b)) tt, inr (refl, refl))
+text_read : (S : Schema) (c : S.Context) (depth_left : ℕ) (b : List ℕ) → Whole S c depth_left b → IsRead S (records c) depth_left (text_at b)
+text_read S c depth_left b w = (b, after (text_at b) b [], w, moves_after (text_at b) b [] (sym (append-nil b)) tt, inr (refl, refl))
 
-pub exactly_text : (S : Schema) (c : S.Context) (room : ℕ) (b : List ℕ) → All IsByte b → Exactly (Whole S c room b) (Bad S (records c) room (text_at b))
-exactly_text S c room b bytes = record {
-  either = ⊎_elim (λ (h : IsRead S (records c) room (text_at b)). inl (whole_text S c room b h)) (λ h. inr h) (read_or_fault S (records c) room (text_at b) bytes);
-  not_both = λ f bad good. not_both bad (text_read S c room b good);
+pub exactly_text : (S : Schema) (c : S.Context) (depth_left : ℕ) (b : List ℕ) → All IsByte b → Exactly (Whole S c depth_left b) (Bad S (records c) depth_left (text_at b))
+exactly_text S c depth_left b bytes = record {
+  either = ⊎_elim (λ (h : IsRead S (records c) depth_left (text_at b)). inl (whole_text S c depth_left b h)) (λ h. inr h) (read_or_fault S (records c) depth_left (text_at b) bytes);
+  not_both = λ f bad good. not_both bad (text_read S c depth_left b good);
   one = λ f g bad other. one_fault bad other;
 }
 
 -- ---- a known end
 
-frame_given : (S : Schema) (c : S.Context) (room at size : ℕ) (rest : List ℕ) → IsRead S (records c) room (ending_at at size rest) → IsFrame S c room size rest
-frame_given S c room at size rest (front, q, w, m, over) =
+frame_given : (S : Schema) (c : S.Context) (depth_left at size : ℕ) (rest : List ℕ) → IsRead S (records c) depth_left (ending_at at size rest) → IsFrame S c depth_left size rest
+frame_given S c depth_left at size rest (front, q, w, m, over) =
     let n : size ≡ length front = all over in
     let total : length rest ≡ length front + length q.rest = ap length m.given ∙ length-append front q.rest in
-    (omega arith, subst (λ (z : List ℕ). Whole S c room z) (sym (ap (take size) m.given ∙ take_at front q.rest size (sym n))) w)
+    (omega arith, subst (λ (z : List ℕ). Whole S c depth_left z) (sym (ap (take size) m.given ∙ take_at front q.rest size (sym n))) w)
   where
     known : q.known ≡ Some (size - length front)
     known = m.known
@@ -67,8 +67,8 @@ frame_given S c room at size rest (front, q, w, m, over) =
     all (inl h) = let e : Some 0 ≡ Some (size - length front) = sym h ∙ known in let z : 0 ≡ size - length front = cc in let le = within in omega arith
     all (inr h) = absurd (let e : None ≡ Some (size - length front) = sym h.0 ∙ known in cc)
 
-frame_read : (S : Schema) (c : S.Context) (room at size : ℕ) (rest : List ℕ) → IsFrame S c room size rest → IsRead S (records c) room (ending_at at size rest)
-frame_read S c room at size rest (given, w) =
+frame_read : (S : Schema) (c : S.Context) (depth_left at size : ℕ) (rest : List ℕ) → IsFrame S c depth_left size rest → IsRead S (records c) depth_left (ending_at at size rest)
+frame_read S c depth_left at size rest (given, w) =
     let n : length (take size rest) ≡ size = length-take-le size rest given in (
       take size rest,
       after (ending_at at size rest) (take size rest) (drop size rest),
@@ -78,12 +78,12 @@ frame_read S c room at size rest (given, w) =
     )
 
 pub exactly_frame :
-    (S : Schema) (c : S.Context) (room at size : ℕ) (rest : List ℕ) → All IsByte rest
-    → Exactly (IsFrame S c room size rest) (Bad S (records c) room (ending_at at size rest))
-exactly_frame S c room at size rest bytes = record {
-  either = ⊎_elim (λ (h : IsRead S (records c) room (ending_at at size rest)). inl (frame_given S c room at size rest h)) (λ h. inr h)
-      (read_or_fault S (records c) room (ending_at at size rest) bytes);
-  not_both = λ f bad good. not_both bad (frame_read S c room at size rest good);
+    (S : Schema) (c : S.Context) (depth_left at size : ℕ) (rest : List ℕ) → All IsByte rest
+    → Exactly (IsFrame S c depth_left size rest) (Bad S (records c) depth_left (ending_at at size rest))
+exactly_frame S c depth_left at size rest bytes = record {
+  either = ⊎_elim (λ (h : IsRead S (records c) depth_left (ending_at at size rest)). inl (frame_given S c depth_left at size rest h)) (λ h. inr h)
+      (read_or_fault S (records c) depth_left (ending_at at size rest) bytes);
+  not_both = λ f bad good. not_both bad (frame_read S c depth_left at size rest good);
   one = λ f g bad other. one_fault bad other;
 }
 

@@ -116,11 +116,11 @@ text_told r n steps c f ne nl is =
     told_at {p = r} (omega arith) (omega (arith, size, length-take n r.rest)) is ne nl
 
 mutual
-  pub told : {S : Schema} {o : Open S.Context} {room : ℕ} {p : Place} {f : Fault} → Bad S o room p f → Told p f
+  pub told : {S : Schema} {o : Open S.Context} {depth_left : ℕ} {p : Place} {f : Fault} → Bad S o depth_left p f → Told p f
   told (Bad.at_record {front = front} w m goes bad) = told_from front m (record_told bad)
   told (Bad.at_end {front = front} is w m end e) = told_from front m (told_here e (λ h. cc) (λ h. cc))
 
-  pub record_told : {S : Schema} {o : Open S.Context} {before : List Record} {room : ℕ} {p : Place} {f : Fault} → RecordFault S o before room p f → Told p f
+  pub record_told : {S : Schema} {o : Open S.Context} {before : List Record} {depth_left : ℕ} {p : Place} {f : Fault} → RecordFault S o before depth_left p f → Told p f
   record_told (RecordFault.tag t) = tag_told t
   record_told (RecordFault.group_too_deep t z is) = told_here is (λ h. cc) (λ h. cc)
   record_told (RecordFault.message_too_deep t re z is) = told_here is (λ h. cc) (λ h. cc)

@@ -14,11 +14,11 @@ module _ (b : List ℕ) (at : ℕ) (inside : at ≤ length b) where
     front_is : front ≡ take n (drop at b)
     front_is = chunk.same ∙ ap (take n) behind
 
-    room : n ≤ length (drop at b)
-    room = let long : n ≤ length (take (length b - at) (drop at b)) = chunk.enough in rw behind at long
+    depth_left : n ≤ length (drop at b)
+    depth_left = let long : n ≤ length (take (length b - at) (drop at b)) = chunk.enough in rw behind at long
 
     pub length-front : length front ≡ n
-    length-front = ap length front_is ∙ length-take-le n (drop at b) room
+    length-front = ap length front_is ∙ length-take-le n (drop at b) depth_left
 
     pub front_bytes : ((i : ℕ) → get_or b i 0 < 256) → (i : ℕ) → get_or front i 0 < 256
     front_bytes bytes i = ⊎_elim (λ (low : i < n). rw (same_byte low) (bytes (at + i))) (λ (high : n ≤ i). past high) (cases_lt i n)

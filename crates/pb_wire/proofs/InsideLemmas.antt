@@ -166,8 +166,8 @@ mutual
   read_body (len s) k (suc n) first rest f c h fuel small =
       let split : first ++ rest ≡ h.tag ++ (h.body ++ rest) = ap (λ (z : List ℕ). z ++ rest) h.joined ∙ append_assoc h.tag h.body rest in
       let inner : h.body ++ rest ≡ h.follows.1 ++ (s ++ rest) = ap (λ (z : List ℕ). z ++ rest) h.follows.3 ∙ append_assoc h.follows.1 s rest in
-      let room : length (h.body ++ rest) < n = tail_below h.tag (h.body ++ rest) n h.tagged.ends (rw split at fuel) in
-      let on = c n (rest_below h.body rest n room) in
+      let depth_left : length (h.body ++ rest) < n = tail_below h.tag (h.body ++ rest) n h.tagged.ends (rw split at fuel) in
+      let on = c n (rest_below h.body rest n depth_left) in
       let below : length (s ++ rest) < 2 ^ 64 =
       rest_below h.follows.1 (s ++ rest) (2 ^ 64) (rw inner at (rest_below h.tag (h.body ++ rest) (2 ^ 64) (rw split at small))) in
       let size = named_length-long h.follows.1 (s ++ rest) (length s) h.follows.2.value below in
@@ -185,12 +185,12 @@ mutual
   read_body (group g) k (suc n) first rest f c h fuel small =
       let split : first ++ rest ≡ h.tag ++ (h.body ++ rest) = ap (λ (z : List ℕ). z ++ rest) h.joined ∙ append_assoc h.tag h.body rest in
       let inner : h.body ++ rest ≡ h.follows.0 ++ (h.follows.1 ++ rest) = ap (λ (z : List ℕ). z ++ rest) h.follows.4 ∙ append_assoc h.follows.0 h.follows.1 rest in
-      let room : length (h.body ++ rest) < n = tail_below h.tag (h.body ++ rest) n h.tagged.ends (rw split at fuel) in
-      let on = c n (rest_below h.body rest n room) in
+      let depth_left : length (h.body ++ rest) < n = tail_below h.tag (h.body ++ rest) n h.tagged.ends (rw split at fuel) in
+      let on = c n (rest_below h.body rest n depth_left) in
       let below : length (h.body ++ rest) < 2 ^ 64 = rest_below h.tag (h.body ++ rest) (2 ^ 64) (rw split at small) in
       let opened : front_within n (h.body ++ rest) ≡ front (records_in g) rest =
       ap (front_within n) inner
-      ∙ read_group g n h.follows.0 (h.follows.1 ++ rest) (front [] rest) (past_end_tag k h.follows.1 rest (long h.follows.3)) h.follows.2 (rw inner at room) (rw inner at below)
+      ∙ read_group g n h.follows.0 (h.follows.1 ++ rest) (front [] rest) (past_end_tag k h.follows.1 rest (long h.follows.3)) h.follows.2 (rw inner at depth_left) (rw inner at below)
       ∙ prepend-front g rest in
       ap (front_within (suc n)) split ∙ step_3 n k h.tag (h.body ++ rest) (long h.tagged)
       ∙ ap (λ (z : Front). before k (group (group_of z.records)) (front_within n z.rest)) opened
@@ -290,11 +290,11 @@ mutual
       let split : ((shortest (8 * k + 3) ++ shortest_group g) ++ shortest (8 * k + 4)) ++ rest ≡ shortest (8 * k + 3) ++ (shortest_group g ++ (shortest (8 * k + 4) ++ rest)) =
       append_assoc (shortest (8 * k + 3) ++ shortest_group g) (shortest (8 * k + 4)) rest
       ∙ append_assoc (shortest (8 * k + 3)) (shortest_group g) (shortest (8 * k + 4) ++ rest) in
-      let room : length (shortest_group g ++ (shortest (8 * k + 4) ++ rest)) < n =
+      let depth_left : length (shortest_group g ++ (shortest (8 * k + 4) ++ rest)) < n =
       tail_below (shortest (8 * k + 3)) (shortest_group g ++ (shortest (8 * k + 4) ++ rest)) n tag.ends (rw split at fuel) in
-      let on = c n (rest_below (shortest (8 * k + 4)) rest n (rest_below (shortest_group g) (shortest (8 * k + 4) ++ rest) n room)) in
+      let on = c n (rest_below (shortest (8 * k + 4)) rest n (rest_below (shortest_group g) (shortest (8 * k + 4) ++ rest) n depth_left)) in
       let opened : front_within n (shortest_group g ++ (shortest (8 * k + 4) ++ rest)) ≡ front (records_in g) rest =
-      read_shortest_group g n (shortest (8 * k + 4) ++ rest) (front [] rest) (past_end_tag k (shortest (8 * k + 4)) rest end) h w room ∙ prepend-front g rest in
+      read_shortest_group g n (shortest (8 * k + 4) ++ rest) (front [] rest) (past_end_tag k (shortest (8 * k + 4)) rest end) h w depth_left ∙ prepend-front g rest in
       ap (front_within (suc n)) split ∙ step_3 n k (shortest (8 * k + 3)) (shortest_group g ++ (shortest (8 * k + 4) ++ rest)) tag
       ∙ ap (λ (z : Front). before k (group (group_of z.records)) (front_within n z.rest)) opened
       ∙ ap (λ (z : Group). before k (group z) (front_within n rest)) (group_of-records_in g) ∙ ap (before k (group g)) on

@@ -32,20 +32,20 @@ bytes_between b front at here moves =
 
 -- whole records lie between the places
 pub records_between :
-    (room : ℕ) (b : List ℕ) (at here : ℕ) (rs : List Record) → Front room (place b at) rs (place b here) → AreRecords rs (take (here - at) (drop at b))
-records_between room b at here rs front = subst (AreRecords rs) (bytes_between b front.spelled.0 at here front.spelled.2) front.spelled.1
+    (depth_left : ℕ) (b : List ℕ) (at here : ℕ) (rs : List Record) → Front depth_left (place b at) rs (place b here) → AreRecords rs (take (here - at) (drop at b))
+records_between depth_left b at here rs front = subst (AreRecords rs) (bytes_between b front.spelled.0 at here front.spelled.2) front.spelled.1
 
 -- a group that may not begin
 pub too_deep_record :
-    (room k : ℕ) (p q : Place) (w : WireFault) (steps : List PathStep) → HasTag p k 3 q → room ≡ 0 → steps ≡ [] → w ≡ record { byte = p.at; cause = TooDeep }
-    → BadRecord room k p steps w
-too_deep_record room k p q w steps tag none no_steps is = λ o before. rw (no_steps, is) (RecordFault.group_too_deep tag none refl)
+    (depth_left k : ℕ) (p q : Place) (w : WireFault) (steps : List PathStep) → HasTag p k 3 q → depth_left ≡ 0 → steps ≡ [] → w ≡ record { byte = p.at; cause = TooDeep }
+    → BadRecord depth_left k p steps w
+too_deep_record depth_left k p q w steps tag none no_steps is = λ o before. rw (no_steps, is) (RecordFault.group_too_deep tag none refl)
 
 -- a fault in a group
 pub group_record :
-    (room k : ℕ) (p q : Place) (steps : List PathStep) (e : ReadError) → 0 < room → HasTag p k 3 q → IfFault e (BadFrom (room - 1) (Some k) q steps)
-    → IfFault e (BadRecord room k p steps)
-group_record room k p q steps errors.Memory some tag bad = tt
+    (depth_left k : ℕ) (p q : Place) (steps : List PathStep) (e : ReadError) → 0 < depth_left → HasTag p k 3 q → IfFault e (BadFrom (depth_left - 1) (Some k) q steps)
+    → IfFault e (BadRecord depth_left k p steps)
+group_record depth_left k p q steps errors.Memory some tag bad = tt
 group_record zero k p q steps (errors.Fault w) some tag bad = absurd (omega arith)
 group_record (suc n) k p q steps (errors.Fault w) some tag bad =
     let e : suc n - 1 ≡ n = omega arith in
@@ -54,18 +54,18 @@ group_record (suc n) k p q steps (errors.Fault w) some tag bad =
 
 -- the records of a group, as its payload
 pub group_read :
-    (room k : ℕ) (p q : Place) → 0 < room → (rs : List Record) × ReadsAll (room - 1) (Some k) p rs q → (payload : Payload) × ReadsValue room k 3 p payload q
-group_read room k p q some (rs, all) = (_, group_value room k p q rs some all)
+    (depth_left k : ℕ) (p q : Place) → 0 < depth_left → (rs : List Record) × ReadsAll (depth_left - 1) (Some k) p rs q → (payload : Payload) × ReadsValue depth_left k 3 p payload q
+group_read depth_left k p q some (rs, all) = (_, group_value depth_left k p q rs some all)
 
 -- a record has a fault, after a prefix of whole records
 pub bad_behind :
-    (innermost : Option ℕ) (b : List ℕ) (at here room k : ℕ) (rs : List Record) (old new : List PathStep) (e : ReadError)
-    → (innermost ≡ None → here < length b) → Front room (place b at) rs (place b here)
-    → new ≡ old ++ step k rs ∷ [] → IfFault e (BadRecord room k (place b here) old) → IfFault e (BadFrom room innermost (place b at) new)
-bad_behind innermost b at here room k rs old new errors.Memory goes front e bad = tt
-bad_behind innermost b at here room k rs old new (errors.Fault w) goes front e bad =
+    (innermost : Option ℕ) (b : List ℕ) (at here depth_left k : ℕ) (rs : List Record) (old new : List PathStep) (e : ReadError)
+    → (innermost ≡ None → here < length b) → Front depth_left (place b at) rs (place b here)
+    → new ≡ old ++ step k rs ∷ [] → IfFault e (BadRecord depth_left k (place b here) old) → IfFault e (BadFrom depth_left innermost (place b at) new)
+bad_behind innermost b at here depth_left k rs old new errors.Memory goes front e bad = tt
+bad_behind innermost b at here depth_left k rs old new (errors.Fault w) goes front e bad =
     let last : reverse new ≡ step k rs ∷ reverse old = ap reverse e ∙ reverse-append old (step k rs ∷ []) in
-    rw last (bad_from innermost b at here room rs (fault w.byte (step k rs ∷ reverse old) w.cause) goes front (bad (opened innermost) rs))
+    rw last (bad_from innermost b at here depth_left rs (fault w.byte (step k rs ∷ reverse old) w.cause) goes front (bad (opened innermost) rs))
 
 -- ---- how many records have a number
 

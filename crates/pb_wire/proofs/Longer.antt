@@ -103,14 +103,14 @@ not_cut : {f g : Fault} {s : PathStep} → f ≡ inside s g → (IsCut f → ⊥
 not_cut is ne e = ne (ap (λ (z : Fault). z.cause) is ∙ e)
 
 mutual
-  pub bad_longer : {S : Schema} {o : Open S.Context} {room : ℕ} {p : Place} {f : Fault} (more : List ℕ) → Bad S o room p f → (IsCut f → ⊥) → Bad S o room (longer p more) f
+  pub bad_longer : {S : Schema} {o : Open S.Context} {depth_left : ℕ} {p : Place} {f : Fault} (more : List ℕ) → Bad S o depth_left p f → (IsCut f → ⊥) → Bad S o depth_left (longer p more) f
   bad_longer more (Bad.at_record {o = o} {q = q} {front = front} w m goes bad) ne =
       Bad.at_record w (moves_longer front more m) (begins_longer o q more goes) (record_longer more bad ne)
   bad_longer more (Bad.at_end {front = front} is w m end e) ne = Bad.at_end is w (moves_longer front more m) end e
 
   pub record_longer :
-      {S : Schema} {o : Open S.Context} {before : List Record} {room : ℕ} {p : Place} {f : Fault} (more : List ℕ) → RecordFault S o before room p f
-      → (IsCut f → ⊥) → RecordFault S o before room (longer p more) f
+      {S : Schema} {o : Open S.Context} {before : List Record} {depth_left : ℕ} {p : Place} {f : Fault} (more : List ℕ) → RecordFault S o before depth_left p f
+      → (IsCut f → ⊥) → RecordFault S o before depth_left (longer p more) f
   record_longer more (RecordFault.tag t) ne = RecordFault.tag (tag_fault_longer more t ne)
   record_longer more (RecordFault.group_too_deep t z is) ne = RecordFault.group_too_deep (tag_longer more t) z is
   record_longer more (RecordFault.message_too_deep t re z is) ne = RecordFault.message_too_deep (tag_longer more t) re z is
@@ -133,11 +133,11 @@ mutual
       RecordFault.in_a_value (tag_longer more t) re (length_longer more l) (bad_longer more bad (not_cut is ne)) is
 
 -- what is read whole up to a known end, or an end tag, is read so of every longer text
-pub read_longer : (S : Schema) (o : Open S.Context) (room : ℕ) (p : Place) (more : List ℕ) → (open_group o ≢ None) ⊎ (p.known ≢ None) → IsRead S o room p → IsRead S o room (longer p more)
-read_longer S (in_group k c) room p more ends (front, q, w, m, (r, t)) = (front, longer q more, w, moves_longer front more m, (longer r more, tag_longer more t))
-read_longer S (records c) room p more (inl none) good = absurd (none refl)
-read_longer S (records c) room p more (inr some) (front, q, w, m, inl e) = (front, longer q more, w, moves_longer front more m, inl e)
-read_longer S (records c) room p more (inr some) (front, q, w, m, inr e) = absurd (no_end p.known q.known some m.known e.0)
+pub read_longer : (S : Schema) (o : Open S.Context) (depth_left : ℕ) (p : Place) (more : List ℕ) → (open_group o ≢ None) ⊎ (p.known ≢ None) → IsRead S o depth_left p → IsRead S o depth_left (longer p more)
+read_longer S (in_group k c) depth_left p more ends (front, q, w, m, (r, t)) = (front, longer q more, w, moves_longer front more m, (longer r more, tag_longer more t))
+read_longer S (records c) depth_left p more (inl none) good = absurd (none refl)
+read_longer S (records c) depth_left p more (inr some) (front, q, w, m, inl e) = (front, longer q more, w, moves_longer front more m, inl e)
+read_longer S (records c) depth_left p more (inr some) (front, q, w, m, inr e) = absurd (no_end p.known q.known some m.known e.0)
   where
     no_end : (e g : Option ℕ) → e ≢ None → g ≡ option_map (λ (n : ℕ). n - length front) e → g ≡ None → ⊥
     no_end None g ne h i = ne refl
@@ -164,8 +164,8 @@ beyond_settled n f not_cut = by_cause f.byte f.path f.cause not_cut
     by_cause byte path cause.InputTooLarge never = refl
 
 -- the bytes within the limit of a longer text
-pub front_within : (b more : List ℕ) (max room : ℕ) → length b + room ≡ max → room ≤ length more → b ++ take room more ≡ take max (b ++ more)
-front_within b more max room is enough = sym (take-append-add b more room) ∙ ap (λ (n : ℕ). take n (b ++ more)) is
+pub front_within : (b more : List ℕ) (max depth_left : ℕ) → length b + depth_left ≡ max → depth_left ≤ length more → b ++ take depth_left more ≡ take max (b ++ more)
+front_within b more max depth_left is enough = sym (take-append-add b more depth_left) ∙ ap (λ (n : ℕ). take n (b ++ more)) is
 
 -- a settled fault of the bytes that were given is that of every text that begins with them
 pub text_bad :
@@ -177,10 +177,10 @@ text_bad {S} {c} {limits} b more f fits settled bad = by_size (cases_lt limits.b
     by_size (inr within) = HasFault.bad within (bad_longer more bad settled)
     by_size (inl past) =
         let joined = length-append b more in
-        let room : ℕ = limits.bytes - length b in
+        let depth_left : ℕ = limits.bytes - length b in
         HasFault.bad_front past
-        (subst (λ (z : List ℕ). Bad S (records c) limits.depth (text_at z) f) (front_within b more limits.bytes room (omega (arith, fits)) (omega (arith, past, joined)))
-        (bad_longer (take room more) bad settled)) (beyond_settled limits.bytes f settled)
+        (subst (λ (z : List ℕ). Bad S (records c) limits.depth (text_at z) f) (front_within b more limits.bytes depth_left (omega (arith, fits)) (omega (arith, past, joined)))
+        (bad_longer (take depth_left more) bad settled)) (beyond_settled limits.bytes f settled)
 
 -- of a text past the limit the bytes within it are the same in every longer text
 pub text_longer :

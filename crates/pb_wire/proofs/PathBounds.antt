@@ -12,9 +12,9 @@ use Rattle.pb_wire.specs.declared.fault.Cause.{Cause}
 use Rattle.pb_wire.specs.declared.fault.Cause.TheVariants as cause
 
 -- what is known of a fault in a context
-pub record Bounded (plain : Type 0) (room : ℕ) (f : Fault) : Type 0 where
-  pub any : length f.path ≤ 2 * room + 2
-  pub plainly : plain → length f.path ≤ 2 * room + 1
+pub record Bounded (plain : Type 0) (depth_left : ℕ) (f : Fault) : Type 0 where
+  pub any : length f.path ≤ 2 * depth_left + 2
+  pub plainly : plain → length f.path ≤ 2 * depth_left + 1
 
 no_steps : {f : Fault} {byte : ℕ} {c : Cause} → f ≡ fault byte [] c → length f.path ≡ 0
 no_steps is = ap (λ (z : Fault). length z.path) is
@@ -25,7 +25,7 @@ one_step is = ap (λ (z : Fault). length z.path) is
 a_step_more : {f g : Fault} {s : PathStep} → f ≡ inside s g → length f.path ≡ suc (length g.path)
 a_step_more is = ap (λ (z : Fault). length z.path) is
 
-short : {plain : Type 0} {room : ℕ} {f : Fault} → length f.path ≤ 1 → Bounded plain room f
+short : {plain : Type 0} {depth_left : ℕ} {f : Fault} → length f.path ≤ 1 → Bounded plain depth_left f
 short few = record { any = omega (arith, few); plainly = λ h. omega (arith, few) }
 
 of_varint : {p : Place} {f : Fault} → VarintFault p f → length f.path ≡ 0
@@ -55,14 +55,14 @@ of_element a_varint p f h = of_varint h
 of_element four_bytes p f h = of_fixed h
 of_element eight_bytes p f h = of_fixed h
 
-here : {plain : Type 0} {room : ℕ} {f : Fault} → length f.path ≡ 0 → Bounded plain room f
+here : {plain : Type 0} {depth_left : ℕ} {f : Fault} → length f.path ≡ 0 → Bounded plain depth_left f
 here none = short (omega (arith, none))
 
-in_record : {plain : Type 0} {room : ℕ} {f g : Fault} {s : PathStep} → f ≡ inside s g → length g.path ≡ 0 → Bounded plain room f
+in_record : {plain : Type 0} {depth_left : ℕ} {f g : Fault} {s : PathStep} → f ≡ inside s g → length g.path ≡ 0 → Bounded plain depth_left f
 in_record is none = short (omega (arith, a_step_more is, none))
 
 -- a level down
-below : {plain in_it : Type 0} {room : ℕ} {f g : Fault} {s : PathStep} → f ≡ inside s g → Bounded in_it room g → Bounded plain (suc room) f
+below : {plain in_it : Type 0} {depth_left : ℕ} {f g : Fault} {s : PathStep} → f ≡ inside s g → Bounded in_it depth_left g → Bounded plain (suc depth_left) f
 below is b =
     let more = a_step_more is in
     let any = b.any in
@@ -70,14 +70,14 @@ below is b =
 
 mutual
   pub bounded :
-      {S : Schema} {o : Open S.Context} {room : ℕ} {p : Place} {f : Fault}
-      → NestsOnce S.reading → Bad S o room p f → Bounded (UsesLevels S.reading (context_of o)) room f
+      {S : Schema} {o : Open S.Context} {depth_left : ℕ} {p : Place} {f : Fault}
+      → NestsOnce S.reading → Bad S o depth_left p f → Bounded (UsesLevels S.reading (context_of o)) depth_left f
   bounded once (Bad.at_record w m goes bad) = record_bounded once bad
   bounded once (Bad.at_end is w m end e) = here (no_steps e)
 
   record_bounded :
-      {S : Schema} {o : Open S.Context} {before : List Record} {room : ℕ} {p : Place} {f : Fault}
-      → NestsOnce S.reading → RecordFault S o before room p f → Bounded (UsesLevels S.reading (context_of o)) room f
+      {S : Schema} {o : Open S.Context} {before : List Record} {depth_left : ℕ} {p : Place} {f : Fault}
+      → NestsOnce S.reading → RecordFault S o before depth_left p f → Bounded (UsesLevels S.reading (context_of o)) depth_left f
   record_bounded once (RecordFault.tag t) = here (of_tag t)
   record_bounded once (RecordFault.group_too_deep t z is) = short (omega (arith, one_step is))
   record_bounded once (RecordFault.message_too_deep t re z is) = short (omega (arith, one_step is))
@@ -98,14 +98,14 @@ mutual
 -- what is known of a fault where each message uses a level
 mutual
   pub leveled :
-      {S : Schema} {o : Open S.Context} {room : ℕ} {p : Place} {f : Fault}
-      → ((c : S.Context) → UsesLevels S.reading c) → Bad S o room p f → length f.path ≤ room + 1
+      {S : Schema} {o : Open S.Context} {depth_left : ℕ} {p : Place} {f : Fault}
+      → ((c : S.Context) → UsesLevels S.reading c) → Bad S o depth_left p f → length f.path ≤ depth_left + 1
   leveled uses (Bad.at_record w m goes bad) = record_leveled uses bad
   leveled uses (Bad.at_end is w m end e) = omega (arith, no_steps e)
 
   record_leveled :
-      {S : Schema} {o : Open S.Context} {before : List Record} {room : ℕ} {p : Place} {f : Fault}
-      → ((c : S.Context) → UsesLevels S.reading c) → RecordFault S o before room p f → length f.path ≤ room + 1
+      {S : Schema} {o : Open S.Context} {before : List Record} {depth_left : ℕ} {p : Place} {f : Fault}
+      → ((c : S.Context) → UsesLevels S.reading c) → RecordFault S o before depth_left p f → length f.path ≤ depth_left + 1
   record_leveled uses (RecordFault.tag t) = omega (arith, of_tag t)
   record_leveled uses (RecordFault.group_too_deep t z is) = omega (arith, one_step is)
   record_leveled uses (RecordFault.message_too_deep t re z is) = omega (arith, one_step is)

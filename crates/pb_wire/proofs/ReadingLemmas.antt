@@ -83,7 +83,7 @@ AreRecords-push [] r a b e s = rw e (b, [], s, refl, sym (append-nil b))
 AreRecords-push (q ∷ rs) r a b h s =
     (h.0, h.1 ++ b, h.2, AreRecords-push rs r h.1 b h.3 s, rw h.4 (append_assoc h.0 h.1 b))
 
-pub AllSound-push : {S : Schema} {c : S.Context} {room : ℕ} (rs : List Record) (r : Record) → AllSound S c room rs → Sound S c room r.number r.payload → AllSound S c room (rs ++ r ∷ [])
+pub AllSound-push : {S : Schema} {c : S.Context} {depth_left : ℕ} (rs : List Record) (r : Record) → AllSound S c depth_left rs → Sound S c depth_left r.number r.payload → AllSound S c depth_left (rs ++ r ∷ [])
 AllSound-push [] r h s = AllSound.one s AllSound.none
 AllSound-push (q ∷ rs) r (one x xs) s = AllSound.one x (AllSound-push rs r xs s)
 
@@ -91,13 +91,13 @@ pub SpellsGroup-from_records : (rs : List Record) (b : List ℕ) → AreRecords 
 SpellsGroup-from_records [] b h = h
 SpellsGroup-from_records (r ∷ rs) b h = (h.0, h.1, h.2, SpellsGroup-from_records rs h.1 h.3, h.4)
 
-pub front_none : (room : ℕ) (b : List ℕ) (at : ℕ) → Front room (place b at) [] (place b at)
-front_none room b at = record { spelled = ([], refl, moves_none (place b at) refl); sound = AllSound.none }
+pub front_none : (depth_left : ℕ) (b : List ℕ) (at : ℕ) → Front depth_left (place b at) [] (place b at)
+front_none depth_left b at = record { spelled = ([], refl, moves_none (place b at) refl); sound = AllSound.none }
 
 pub front_push :
-    {room k w : ℕ} {p q s r : Place} (rs : List Record) (payload : Payload) → Front room p rs q → HasTag q k w s
-    → ReadsValue room k w s payload r → Front room p (rs ++ record { number = k; payload = payload } ∷ []) r
-front_push {room} {k} {w} {p} {q} {s} {r} rs payload f tag value =
+    {depth_left k w : ℕ} {p q s r : Place} (rs : List Record) (payload : Payload) → Front depth_left p rs q → HasTag q k w s
+    → ReadsValue depth_left k w s payload r → Front depth_left p (rs ++ record { number = k; payload = payload } ∷ []) r
+front_push {depth_left} {k} {w} {p} {q} {s} {r} rs payload f tag value =
     let the_record : Record = record { number = k; payload = payload } in
     let spelled : Spells the_record (tag.tag.0 ++ value.spelled.0) = record {
       number = tag.number;
@@ -117,7 +117,7 @@ front_push {room} {k} {w} {p} {q} {s} {r} rs payload f tag value =
     }
 
 pub group_value :
-    (room k : ℕ) (p q : Place) (rs : List Record) → 0 < room → ReadsAll (room - 1) (Some k) p rs q → ReadsValue room k 3 p (group (group_of rs)) q
+    (depth_left k : ℕ) (p q : Place) (rs : List Record) → 0 < depth_left → ReadsAll (depth_left - 1) (Some k) p rs q → ReadsValue depth_left k 3 p (group (group_of rs)) q
 group_value zero k p q rs h r = absurd (omega arith)
 group_value (suc n) k p q rs h r =
     let e : suc n - 1 ≡ n = omega arith in
@@ -140,36 +140,36 @@ begins None b at h =
 begins (Some k) b at h = λ e. cc
 
 pub bad_from :
-    (innermost : Option ℕ) (b : List ℕ) (at here room : ℕ) (rs : List Record) (f : Fault) → (innermost ≡ None → here < length b)
-    → Front room (place b at) rs (place b here) → RecordFault blank (opened innermost) rs room (place b here) f
-    → Bad blank (opened innermost) room (place b at) f
-bad_from innermost b at here room rs f h front bad =
+    (innermost : Option ℕ) (b : List ℕ) (at here depth_left : ℕ) (rs : List Record) (f : Fault) → (innermost ≡ None → here < length b)
+    → Front depth_left (place b at) rs (place b here) → RecordFault blank (opened innermost) rs depth_left (place b here) f
+    → Bad blank (opened innermost) depth_left (place b at) f
+bad_from innermost b at here depth_left rs f h front bad =
     Bad.at_record (rs, front.spelled.1, front.sound) front.spelled.2 (begins innermost b here h) bad
 
 pub bad_tag :
-    (innermost : Option ℕ) (p : Place) (before : List Record) (room : ℕ) (f : Fault) → TagFault innermost p f
-    → RecordFault blank (opened innermost) before room p f
-bad_tag None p before room f h = RecordFault.tag h
-bad_tag (Some k) p before room f h = RecordFault.tag h
+    (innermost : Option ℕ) (p : Place) (before : List Record) (depth_left : ℕ) (f : Fault) → TagFault innermost p f
+    → RecordFault blank (opened innermost) before depth_left p f
+bad_tag None p before depth_left f h = RecordFault.tag h
+bad_tag (Some k) p before depth_left f h = RecordFault.tag h
 
-pub bad_varint_value : (room k : ℕ) (q : Place) (w : WireFault) → VarintFault q (fault w.byte [] w.cause) → BadValue room k 0 q [] w
-bad_varint_value room k q w h = λ o before p tag. RecordFault.varint tag h refl
+pub bad_varint_value : (depth_left k : ℕ) (q : Place) (w : WireFault) → VarintFault q (fault w.byte [] w.cause) → BadValue depth_left k 0 q [] w
+bad_varint_value depth_left k q w h = λ o before p tag. RecordFault.varint tag h refl
 
-pub bad_fixed64_value : (room k : ℕ) (q : Place) (w : WireFault) → FixedFault 8 q (fault w.byte [] w.cause) → BadValue room k 1 q [] w
-bad_fixed64_value room k q w h = λ o before p tag. RecordFault.fixed64 tag h refl
+pub bad_fixed64_value : (depth_left k : ℕ) (q : Place) (w : WireFault) → FixedFault 8 q (fault w.byte [] w.cause) → BadValue depth_left k 1 q [] w
+bad_fixed64_value depth_left k q w h = λ o before p tag. RecordFault.fixed64 tag h refl
 
-pub bad_fixed32_value : (room k : ℕ) (q : Place) (w : WireFault) → FixedFault 4 q (fault w.byte [] w.cause) → BadValue room k 5 q [] w
-bad_fixed32_value room k q w h = λ o before p tag. RecordFault.fixed32 tag h refl
+pub bad_fixed32_value : (depth_left k : ℕ) (q : Place) (w : WireFault) → FixedFault 4 q (fault w.byte [] w.cause) → BadValue depth_left k 5 q [] w
+bad_fixed32_value depth_left k q w h = λ o before p tag. RecordFault.fixed32 tag h refl
 
 pub bad_bytes_value :
-    (room k : ℕ) (q : Place) (w : WireFault) → LengthFault q (fault w.byte [] w.cause) ⊎ CutFault q (fault w.byte [] w.cause)
-    → BadValue room k 2 q [] w
-bad_bytes_value room k q w (inl h) = λ o before p tag. RecordFault.length_of tag tt h refl
-bad_bytes_value room k q w (inr h) = λ o before p tag. RecordFault.cut_payload tag (inl refl) h refl
+    (depth_left k : ℕ) (q : Place) (w : WireFault) → LengthFault q (fault w.byte [] w.cause) ⊎ CutFault q (fault w.byte [] w.cause)
+    → BadValue depth_left k 2 q [] w
+bad_bytes_value depth_left k q w (inl h) = λ o before p tag. RecordFault.length_of tag tt h refl
+bad_bytes_value depth_left k q w (inr h) = λ o before p tag. RecordFault.cut_payload tag (inl refl) h refl
 
 pub bad_group_value :
-    (room k : ℕ) (q : Place) (steps : List PathStep) (w : WireFault) → 0 < room → BadFrom (room - 1) (Some k) q steps w
-    → BadValue room k 3 q steps w
+    (depth_left k : ℕ) (q : Place) (steps : List PathStep) (w : WireFault) → 0 < depth_left → BadFrom (depth_left - 1) (Some k) q steps w
+    → BadValue depth_left k 3 q steps w
 bad_group_value zero k q steps w h bad = absurd (omega arith)
 bad_group_value (suc n) k q steps w h bad =
     let e : suc n - 1 ≡ n = omega arith in
@@ -177,30 +177,30 @@ bad_group_value (suc n) k q steps w h bad =
     λ o before p tag. RecordFault.in_a_group tag inner refl
 
 pub value_from_group :
-    (room k : ℕ) (q : Place) (steps : List PathStep) (e : ReadError) → 0 < room → IfFault e (BadFrom (room - 1) (Some k) q steps)
-    → IfFault e (BadValue room k 3 q steps)
-value_from_group room k q steps (errors.Fault w) h bad = bad_group_value room k q steps w h bad
-value_from_group room k q steps errors.Memory h bad = tt
+    (depth_left k : ℕ) (q : Place) (steps : List PathStep) (e : ReadError) → 0 < depth_left → IfFault e (BadFrom (depth_left - 1) (Some k) q steps)
+    → IfFault e (BadValue depth_left k 3 q steps)
+value_from_group depth_left k q steps (errors.Fault w) h bad = bad_group_value depth_left k q steps w h bad
+value_from_group depth_left k q steps errors.Memory h bad = tt
 
 -- a value has a fault, after a prefix of whole records
 pub bad_after :
-    (innermost : Option ℕ) (b : List ℕ) (at here start room k code : ℕ) (rs : List Record) (old new : List PathStep) (e : ReadError)
-    → (innermost ≡ None → here < length b) → (front : Front room (place b at) rs (place b here)) → HasTag (place b here) k code (place b start)
-    → new ≡ old ++ step k rs ∷ [] → IfFault e (BadValue room k code (place b start) old)
-    → IfFault e (BadFrom room innermost (place b at) new)
-bad_after innermost b at here start room k code rs old new errors.Memory goes front tag e bad = tt
-bad_after innermost b at here start room k code rs old new (errors.Fault w) goes front tag e bad =
+    (innermost : Option ℕ) (b : List ℕ) (at here start depth_left k code : ℕ) (rs : List Record) (old new : List PathStep) (e : ReadError)
+    → (innermost ≡ None → here < length b) → (front : Front depth_left (place b at) rs (place b here)) → HasTag (place b here) k code (place b start)
+    → new ≡ old ++ step k rs ∷ [] → IfFault e (BadValue depth_left k code (place b start) old)
+    → IfFault e (BadFrom depth_left innermost (place b at) new)
+bad_after innermost b at here start depth_left k code rs old new errors.Memory goes front tag e bad = tt
+bad_after innermost b at here start depth_left k code rs old new (errors.Fault w) goes front tag e bad =
     let last : reverse new ≡ step k rs ∷ reverse old = ap reverse e ∙ reverse-append old (step k rs ∷ []) in
-    rw last (bad_from innermost b at here room rs (fault w.byte (step k rs ∷ reverse old) w.cause) goes front
+    rw last (bad_from innermost b at here depth_left rs (fault w.byte (step k rs ∷ reverse old) w.cause) goes front
     (bad (opened innermost) rs (place b here) tag))
 
 -- a fault of the bytes within the limit
 pub from_front :
-    (e : RawError) (limits : Bounds) (b : List ℕ) (steps : List PathStep) (max room : ℕ) (w : WireFault) → limits.bytes < length b
-    → max ≡ limits.bytes → room ≡ limits.depth → BadFrom room None (place (take max b) 0) steps w
+    (e : RawError) (limits : Bounds) (b : List ℕ) (steps : List PathStep) (max depth_left : ℕ) (w : WireFault) → limits.bytes < length b
+    → max ≡ limits.bytes → depth_left ≡ limits.depth → BadFrom depth_left None (place (take max b) 0) steps w
     → IfRawFault e (λ f. f ≡ beyond max (fault w.byte (reverse steps) w.cause)) → IfRawFault e (HasFault blank tt limits b)
-from_front raw.Memory limits b steps max room w long is_max is_depth bad told = tt
-from_front (raw.Fault byte path cause) limits b steps max room w long is_max is_depth bad told =
+from_front raw.Memory limits b steps max depth_left w long is_max is_depth bad told = tt
+from_front (raw.Fault byte path cause) limits b steps max depth_left w long is_max is_depth bad told =
     HasFault.bad_front long (rw (is_max, is_depth) at bad) (rw (← is_max) told)
 
 -- the records of a number among those that a list means

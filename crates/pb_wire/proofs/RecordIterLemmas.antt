@@ -17,34 +17,34 @@ use Rattle.pb_wire.proofs.ReadingLemmas.{moves_both, SpellsGroup-from_records}
 
 -- ---- values
 
-pub varint_read : (room k n : ℕ) (p q : Place) → n < 2 ^ 64 → Reads p n q → ReadsValue room k 0 p (wire.varint n) q
-varint_read room k n p q fits r = record { type = refl; spelled = (r.0, (fits, r.1), r.2); sound = Sound.is_varint }
+pub varint_read : (depth_left k n : ℕ) (p q : Place) → n < 2 ^ 64 → Reads p n q → ReadsValue depth_left k 0 p (wire.varint n) q
+varint_read depth_left k n p q fits r = record { type = refl; spelled = (r.0, (fits, r.1), r.2); sound = Sound.is_varint }
 
-pub fixed64_read : (room k n : ℕ) (p q : Place) → n < 2 ^ 64 → Leads (λ s. s ≡ to_le_bytes w64 n) p q → ReadsValue room k 1 p (wire.fixed64 n) q
-fixed64_read room k n p q fits r = record { type = refl; spelled = (r.0, (fits, r.1), r.2); sound = Sound.is_fixed64 }
+pub fixed64_read : (depth_left k n : ℕ) (p q : Place) → n < 2 ^ 64 → Leads (λ s. s ≡ to_le_bytes w64 n) p q → ReadsValue depth_left k 1 p (wire.fixed64 n) q
+fixed64_read depth_left k n p q fits r = record { type = refl; spelled = (r.0, (fits, r.1), r.2); sound = Sound.is_fixed64 }
 
-pub fixed32_read : (room k n : ℕ) (p q : Place) → n < 2 ^ 32 → Leads (λ s. s ≡ to_le_bytes w32 n) p q → ReadsValue room k 5 p (wire.fixed32 n) q
-fixed32_read room k n p q fits r = record { type = refl; spelled = (r.0, (fits, r.1), r.2); sound = Sound.is_fixed32 }
+pub fixed32_read : (depth_left k n : ℕ) (p q : Place) → n < 2 ^ 32 → Leads (λ s. s ≡ to_le_bytes w32 n) p q → ReadsValue depth_left k 5 p (wire.fixed32 n) q
+fixed32_read depth_left k n p q fits r = record { type = refl; spelled = (r.0, (fits, r.1), r.2); sound = Sound.is_fixed32 }
 
-pub len_read : (room k : ℕ) (s : List ℕ) (p q : Place) → Leads (Body k (wire.len s)) p q → ReadsValue room k 2 p (wire.len s) q
-len_read room k s p q r = record { type = refl; spelled = r; sound = Sound.some_bytes refl }
+pub len_read : (depth_left k : ℕ) (s : List ℕ) (p q : Place) → Leads (Body k (wire.len s)) p q → ReadsValue depth_left k 2 p (wire.len s) q
+len_read depth_left k s p q r = record { type = refl; spelled = r; sound = Sound.some_bytes refl }
 
 -- ---- faults of values
 
 pub varint_fault : (code : ℕ) (p : Place) (e : WireFault) → code ≡ 0 → VarintFault p (fault e.byte [] e.cause) → IsValueFault code p e
-varint_fault code p e is v = rw is (λ o before room k tag h. RecordFault.varint h v refl)
+varint_fault code p e is v = rw is (λ o before depth_left k tag h. RecordFault.varint h v refl)
 
 pub fixed64_fault : (code : ℕ) (p : Place) (e : WireFault) → code ≡ 1 → FixedFault 8 p (fault e.byte [] e.cause) → IsValueFault code p e
-fixed64_fault code p e is v = rw is (λ o before room k tag h. RecordFault.fixed64 h v refl)
+fixed64_fault code p e is v = rw is (λ o before depth_left k tag h. RecordFault.fixed64 h v refl)
 
 pub fixed32_fault : (code : ℕ) (p : Place) (e : WireFault) → code ≡ 5 → FixedFault 4 p (fault e.byte [] e.cause) → IsValueFault code p e
-fixed32_fault code p e is v = rw is (λ o before room k tag h. RecordFault.fixed32 h v refl)
+fixed32_fault code p e is v = rw is (λ o before depth_left k tag h. RecordFault.fixed32 h v refl)
 
 pub len_fault :
     (code : ℕ) (p : Place) (e : WireFault) → code ≡ 2 → LengthFault p (fault e.byte [] e.cause) ⊎ CutFault p (fault e.byte [] e.cause)
     → IsValueFault code p e
-len_fault code p e is (inl v) = rw is (λ o before room k tag h. RecordFault.length_of h tt v refl)
-len_fault code p e is (inr v) = rw is (λ o before room k tag h. RecordFault.cut_payload h (inl refl) v refl)
+len_fault code p e is (inl v) = rw is (λ o before depth_left k tag h. RecordFault.length_of h tt v refl)
+len_fault code p e is (inr v) = rw is (λ o before depth_left k tag h. RecordFault.cut_payload h (inl refl) v refl)
 
 -- ---- faults of records
 
@@ -95,10 +95,10 @@ moved_bytes b i j a m =
     ap (take (j - i)) m.given ∙ take_at a (drop j b) (j - i) (omega arith)
 
 pub shows_group :
-    (depth room k : ℕ) (p q m r : Place) (rs : List Record) (s : List ℕ) → depth ≡ suc room → HasTag p k 3 q → (f : Front room q rs m)
+    (depth depth_left k : ℕ) (p q m r : Place) (rs : List Record) (s : List ℕ) → depth ≡ suc depth_left → HasTag p k 3 q → (f : Front depth_left q rs m)
     → HasTag m k 4 r → s ≡ f.spelled.0 → ShowsRecord depth p (k, group s) r
-shows_group depth room k p q m r rs s level tag f end is =
-    let value : ReadsValue (suc room) k 3 q (wire.group (group_of rs)) r = record {
+shows_group depth depth_left k p q m r rs s level tag f end is =
+    let value : ReadsValue (suc depth_left) k 3 q (wire.group (group_of rs)) r = record {
       type = refl;
       spelled = (
         f.spelled.0 ++ end.tag.0,

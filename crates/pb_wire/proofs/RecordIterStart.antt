@@ -10,7 +10,7 @@ use Rattle.pb_wire.specs.Limits.{Bounds}
 use Rattle.pb_wire.specs.Schema.{blank, Open, records}
 use Rattle.pb_wire.specs.Grammar.{Whole, Bad, RecordFault, IsText, HasFault}
 use Rattle.pb_wire.specs.Rest.{Rest}
-use Rattle.pb_wire.specs.RecordIter.{Seen, varint, fixed64, len, group, fixed32, Shows, IsShown, AreShown, ShowsFront, Passes, Gives, to_end, to_fault, all_ok, as_told, start}
+use Rattle.pb_wire.specs.RecordIter.{Seen, varint, fixed64, len, group, fixed32, Shows, IsShown, AreShown, ShowsFront, Passes, Gives, to_end, to_fault, all_ok, without_path, start}
 use Rattle.pb_wire.proofs.Fronts.{AreRecords-from_group}
 use Rattle.pb_wire.proofs.RecordIterSteps.{rest_of}
 
@@ -132,7 +132,7 @@ text_given limits b rs t =
 
 pub fault_given :
     (limits : Bounds) (b : List ℕ) (f : Fault) → HasFault blank tt limits b f
-    → (xs : List (ℕ × Seen)) × ShowsFront xs b × Gives (start limits b) (all_ok xs ++ Err (as_told f) ∷ [])
+    → (xs : List (ℕ × Seen)) × ShowsFront xs b × Gives (start limits b) (all_ok xs ++ Err (without_path f) ∷ [])
 fault_given limits b f (HasFault.bad h x) =
     let parts = bad_parts b refl refl x in
     (parts.xs, parts.front, rw (start-short limits b h) (to_fault parts.passes parts.goes parts.bad refl))

@@ -14,7 +14,7 @@ use Rattle.pb_wire.specs.declared.fault.PathStep.{PathStep}
 use Rattle.pb_wire.specs.declared.fault.Cause.{Cause}
 use Rattle.pb_wire.specs.declared.fault.Cause.TheVariants.{Truncated}
 use Rattle.pb_wire.specs.Rest.{Rest}
-use Rattle.pb_wire.specs.RecordIter.{Seen, varint, fixed64, len, group, fixed32, Item, Shows, AreShown, ShowsRecord, Passes, Gives, to_end, to_fault, all_ok, as_told, too_large}
+use Rattle.pb_wire.specs.RecordIter.{Seen, varint, fixed64, len, group, fixed32, Item, Shows, AreShown, ShowsRecord, Passes, Gives, to_end, to_fault, all_ok, without_path, too_large}
 use Rattle.pb_wire.proofs.Places.{moves_split, moved_nothing, moves_nothing, same_place_by, fewer}
 use Rattle.pb_wire.proofs.Unique.{same_varint, same_spelling}
 use Rattle.pb_wire.proofs.Fronts.{RecordAt, record_some}
@@ -154,10 +154,10 @@ none_left text at depth items e (to_fault {xs = xs} h goes bad is) =
 -- the limit
 pub limit_left :
     (text : List ℕ) (at depth : ℕ) (items : List Item) → at ≡ length text → Gives (rest_of text true at depth) items
-    → (others : List Item) × (items ≡ Err (as_told (too_large (rest_of text true at depth))) ∷ others) × Gives (rest_of text false at depth) others
+    → (others : List Item) × (items ≡ Err (without_path (too_large (rest_of text true at depth))) ∷ others) × Gives (rest_of text false at depth) others
 limit_left text at depth items e (to_end {xs = xs} h over is) =
     let none = ends_here xs (nothing_at_end text at e) h in
-    ([], is ∙ ap (λ (z : List (ℕ × Seen)). all_ok z ++ Err (as_told (too_large (rest_of text true at depth))) ∷ []) none.0, gives_nothing text at depth e)
+    ([], is ∙ ap (λ (z : List (ℕ × Seen)). all_ok z ++ Err (without_path (too_large (rest_of text true at depth))) ∷ []) none.0, gives_nothing text at depth e)
 limit_left text at depth items e (to_fault {xs = xs} h goes bad is) =
     let none = ends_here xs (nothing_at_end text at e) h in
     absurd (goes (sym (ap (λ (z : Place). z.rest) none.1) ∙ nothing_at_end text at e))
@@ -176,7 +176,7 @@ record_left text is_cut at after depth x items shown (to_end {xs = xs} {q = q} h
         absurd (omega (arith, size, n, some))
     judge (more {x = y} {others = ys} {mid = mid} e first others) =
         let same = same_shown shown first in (
-          all_ok ys ++ (if is_cut then Err (as_told (too_large (rest_of text is_cut at depth))) ∷ [] else []),
+          all_ok ys ++ (if is_cut then Err (without_path (too_large (rest_of text is_cut at depth))) ∷ [] else []),
           rw (e, ← same.0) at is,
           to_end (rw (← same.1) at others) over refl,
         )
@@ -186,7 +186,7 @@ record_left text is_cut at after depth x items shown (to_fault {xs = xs} {q = q}
     judge (no_more e same) = absurd (bad_not_record (rw (← same) at bad) (record_at shown))
     judge (more {x = y} {others = ys} {mid = mid} e first others) =
         let same = same_shown shown first in (
-          all_ok ys ++ Err (as_told (if is_cut then beyond (length text) f else f)) ∷ [],
+          all_ok ys ++ Err (without_path (if is_cut then beyond (length text) f else f)) ∷ [],
           rw (e, ← same.0) at is,
           to_fault (rw (← same.1) at others) goes bad refl,
         )
@@ -194,7 +194,7 @@ record_left text is_cut at after depth x items shown (to_fault {xs = xs} {q = q}
 -- what is reported of a fault has no path
 told_alike :
     (is_cut : Bool) (end byte : ℕ) (c : Cause) (a b : List PathStep)
-    → as_told (if is_cut then beyond end (fault byte a c) else fault byte a c) ≡ as_told (if is_cut then beyond end (fault byte b c) else fault byte b c)
+    → without_path (if is_cut then beyond end (fault byte a c) else fault byte a c) ≡ without_path (if is_cut then beyond end (fault byte b c) else fault byte b c)
 told_alike false end byte c a b = refl
 told_alike true end byte Truncated a b = refl
 told_alike true end byte _ a b = refl
@@ -203,7 +203,7 @@ told_alike true end byte _ a b = refl
 pub fault_left :
     (text : List ℕ) (is_cut : Bool) (at depth : ℕ) (f : Fault) (items : List Item) → at < length text
     → RecordFault blank (records tt) [] depth (place text at) f → Gives (rest_of text is_cut at depth) items
-    → (others : List Item) × (items ≡ Err (as_told (if is_cut then beyond (length text) f else f)) ∷ others)
+    → (others : List Item) × (items ≡ Err (without_path (if is_cut then beyond (length text) f else f)) ∷ others)
     × Gives (rest_of text false (length text) depth) others
 fault_left text is_cut at depth f items within bad (to_end {xs = xs} h over is) =
     let none = fails_here xs bad h in

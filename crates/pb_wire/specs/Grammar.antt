@@ -13,7 +13,7 @@ use Rattle.pb_wire.specs.declared.fault.Cause.TheVariants.{Truncated, PastEnd, B
 
 -- the bytes are whole sound records
 abbrev pub Whole : (S : Schema) → S.Context → ℕ → List ℕ → Type 0
-Whole S c room front = (rs : List Record) × AreRecords rs front × AllSound S c room rs
+Whole S c depth_left front = (rs : List Record) × AreRecords rs front × AllSound S c depth_left rs
 
 -- A record begins at p, unless p is at the known end, or at the end of the input with no known end and nothing open.
 abbrev pub Begins : {C : Type 0} → Open C → Place → Type 0
@@ -22,11 +22,11 @@ Begins (in_group k c) p = p.known ≢ Some 0
 
 -- a payload that would be too deep is reported before its length is read
 abbrev pub IsAllowed : {C : Type 0} → ℕ → Reading C → Type 0
-IsAllowed room unread = Unit {0}
-IsAllowed room text = Unit {0}
-IsAllowed room (message c) = 0 < room
-IsAllowed room (same_level c) = Unit {0}
-IsAllowed room (packed e) = Unit {0}
+IsAllowed depth_left unread = Unit {0}
+IsAllowed depth_left text = Unit {0}
+IsAllowed depth_left (message c) = 0 < depth_left
+IsAllowed depth_left (same_level c) = Unit {0}
+IsAllowed depth_left (packed e) = Unit {0}
 
 -- the place from the payload on, whose end is known
 abbrev pub payload_at : Place → ℕ → Place
@@ -45,56 +45,56 @@ BadElements e p f =
 mutual
   pub data Bad (S : Schema) : Open S.Context → ℕ → Place → Fault → Type 0 where
     at_record :
-        {o : Open S.Context} {room : ℕ} {p q : Place} {f : Fault} {front : List ℕ}
-        → (w : Whole S (context_of o) room front) → Moves p front q → Begins o q → RecordFault S o w.0 room q f → Bad S o room p f
+        {o : Open S.Context} {depth_left : ℕ} {p q : Place} {f : Fault} {front : List ℕ}
+        → (w : Whole S (context_of o) depth_left front) → Moves p front q → Begins o q → RecordFault S o w.0 depth_left q f → Bad S o depth_left p f
     at_end :
-        {o : Open S.Context} {room m : ℕ} {c : S.Context} {p q : Place} {f : Fault} {front : List ℕ}
-        → o ≡ in_group m c → Whole S c room front → Moves p front q → q.known ≡ Some 0 → f ≡ fault q.at [] PastEnd → Bad S o room p f
+        {o : Open S.Context} {depth_left m : ℕ} {c : S.Context} {p q : Place} {f : Fault} {front : List ℕ}
+        → o ≡ in_group m c → Whole S c depth_left front → Moves p front q → q.known ≡ Some 0 → f ≡ fault q.at [] PastEnd → Bad S o depth_left p f
 
   -- the record that begins here, after these whole records of what is open, has this fault
   pub data RecordFault (S : Schema) : Open S.Context → List Record → ℕ → Place → Fault → Type 0 where
-    tag : {o : Open S.Context} {before : List Record} {room : ℕ} {p : Place} {f : Fault} → TagFault (open_group o) p f → RecordFault S o before room p f
+    tag : {o : Open S.Context} {before : List Record} {depth_left : ℕ} {p : Place} {f : Fault} → TagFault (open_group o) p f → RecordFault S o before depth_left p f
     group_too_deep :
-        {o : Open S.Context} {before : List Record} {room k : ℕ} {p q : Place} {f : Fault}
-        → HasTag p k 3 q → room ≡ 0 → f ≡ fault p.at (step k before ∷ []) TooDeep → RecordFault S o before room p f
+        {o : Open S.Context} {before : List Record} {depth_left k : ℕ} {p q : Place} {f : Fault}
+        → HasTag p k 3 q → depth_left ≡ 0 → f ≡ fault p.at (step k before ∷ []) TooDeep → RecordFault S o before depth_left p f
     message_too_deep :
-        {o : Open S.Context} {before : List Record} {room k : ℕ} {d : S.Context} {p q : Place} {f : Fault}
-        → HasTag p k 2 q → S.reading (context_of o) k ≡ message d → room ≡ 0 → f ≡ fault p.at (step k before ∷ []) TooDeep → RecordFault S o before room p f
+        {o : Open S.Context} {before : List Record} {depth_left k : ℕ} {d : S.Context} {p q : Place} {f : Fault}
+        → HasTag p k 2 q → S.reading (context_of o) k ≡ message d → depth_left ≡ 0 → f ≡ fault p.at (step k before ∷ []) TooDeep → RecordFault S o before depth_left p f
     varint :
-        {o : Open S.Context} {before : List Record} {room k : ℕ} {p q : Place} {f g : Fault}
-        → HasTag p k 0 q → VarintFault q g → f ≡ inside (step k before) g → RecordFault S o before room p f
+        {o : Open S.Context} {before : List Record} {depth_left k : ℕ} {p q : Place} {f g : Fault}
+        → HasTag p k 0 q → VarintFault q g → f ≡ inside (step k before) g → RecordFault S o before depth_left p f
     fixed64 :
-        {o : Open S.Context} {before : List Record} {room k : ℕ} {p q : Place} {f g : Fault}
-        → HasTag p k 1 q → FixedFault 8 q g → f ≡ inside (step k before) g → RecordFault S o before room p f
+        {o : Open S.Context} {before : List Record} {depth_left k : ℕ} {p q : Place} {f g : Fault}
+        → HasTag p k 1 q → FixedFault 8 q g → f ≡ inside (step k before) g → RecordFault S o before depth_left p f
     fixed32 :
-        {o : Open S.Context} {before : List Record} {room k : ℕ} {p q : Place} {f g : Fault}
-        → HasTag p k 5 q → FixedFault 4 q g → f ≡ inside (step k before) g → RecordFault S o before room p f
+        {o : Open S.Context} {before : List Record} {depth_left k : ℕ} {p q : Place} {f g : Fault}
+        → HasTag p k 5 q → FixedFault 4 q g → f ≡ inside (step k before) g → RecordFault S o before depth_left p f
     in_a_group :
-        {o : Open S.Context} {before : List Record} {room k : ℕ} {p q : Place} {f g : Fault}
-        → HasTag p k 3 q → Bad S (in_group k (S.group_context (context_of o) k)) room q g → f ≡ inside (step k before) g → RecordFault S o before (suc room) p f
+        {o : Open S.Context} {before : List Record} {depth_left k : ℕ} {p q : Place} {f g : Fault}
+        → HasTag p k 3 q → Bad S (in_group k (S.group_context (context_of o) k)) depth_left q g → f ≡ inside (step k before) g → RecordFault S o before (suc depth_left) p f
     length_of :
-        {o : Open S.Context} {before : List Record} {room k : ℕ} {p q : Place} {f g : Fault}
-        → HasTag p k 2 q → IsAllowed room (S.reading (context_of o) k) → LengthFault q g → f ≡ inside (step k before) g → RecordFault S o before room p f
+        {o : Open S.Context} {before : List Record} {depth_left k : ℕ} {p q : Place} {f g : Fault}
+        → HasTag p k 2 q → IsAllowed depth_left (S.reading (context_of o) k) → LengthFault q g → f ≡ inside (step k before) g → RecordFault S o before depth_left p f
     cut_payload :
-        {o : Open S.Context} {before : List Record} {room k : ℕ} {p q : Place} {f g : Fault}
+        {o : Open S.Context} {before : List Record} {depth_left k : ℕ} {p q : Place} {f g : Fault}
         → HasTag p k 2 q → (S.reading (context_of o) k ≡ unread) ⊎ (S.reading (context_of o) k ≡ text) → CutFault q g → f ≡ inside (step k before) g
-        → RecordFault S o before room p f
+        → RecordFault S o before depth_left p f
     bad_text :
-        {o : Open S.Context} {before : List Record} {room k n : ℕ} {p q r : Place} {f : Fault}
+        {o : Open S.Context} {before : List Record} {depth_left k n : ℕ} {p q r : Place} {f : Fault}
         → HasTag p k 2 q → S.reading (context_of o) k ≡ text → HasLength q n r → n ≤ length r.rest → ¬ IsUtf8 (take n r.rest)
-        → f ≡ fault (r.at + utf8_valid_len (take n r.rest)) (step k before ∷ []) BadText → RecordFault S o before room p f
+        → f ≡ fault (r.at + utf8_valid_len (take n r.rest)) (step k before ∷ []) BadText → RecordFault S o before depth_left p f
     in_a_list :
-        {o : Open S.Context} {before : List Record} {room k n : ℕ} {e : Element} {p q r : Place} {f g : Fault}
+        {o : Open S.Context} {before : List Record} {depth_left k n : ℕ} {e : Element} {p q r : Place} {f g : Fault}
         → HasTag p k 2 q → S.reading (context_of o) k ≡ packed e → HasLength q n r → BadElements e (payload_at r n) g → f ≡ inside (step k before) g
-        → RecordFault S o before room p f
+        → RecordFault S o before depth_left p f
     in_a_message :
-        {o : Open S.Context} {before : List Record} {room k n : ℕ} {d : S.Context} {p q r : Place} {f g : Fault}
-        → HasTag p k 2 q → S.reading (context_of o) k ≡ message d → HasLength q n r → Bad S (records d) room (payload_at r n) g
-        → f ≡ inside (step k before) g → RecordFault S o before (suc room) p f
+        {o : Open S.Context} {before : List Record} {depth_left k n : ℕ} {d : S.Context} {p q r : Place} {f g : Fault}
+        → HasTag p k 2 q → S.reading (context_of o) k ≡ message d → HasLength q n r → Bad S (records d) depth_left (payload_at r n) g
+        → f ≡ inside (step k before) g → RecordFault S o before (suc depth_left) p f
     in_a_value :
-        {o : Open S.Context} {before : List Record} {room k n : ℕ} {d : S.Context} {p q r : Place} {f g : Fault}
-        → HasTag p k 2 q → S.reading (context_of o) k ≡ same_level d → HasLength q n r → Bad S (records d) room (payload_at r n) g
-        → f ≡ inside (step k before) g → RecordFault S o before room p f
+        {o : Open S.Context} {before : List Record} {depth_left k n : ℕ} {d : S.Context} {p q r : Place} {f g : Fault}
+        → HasTag p k 2 q → S.reading (context_of o) k ≡ same_level d → HasLength q n r → Bad S (records d) depth_left (payload_at r n) g
+        → f ≡ inside (step k before) g → RecordFault S o before depth_left p f
 
 -- b is the encoding of these records, within the limits
 pub record IsText (S : Schema) (c : S.Context) (limits : Bounds) (b : List ℕ) (rs : List Record) : Type 0 where

@@ -18,20 +18,20 @@ opened None = records tt
 opened (Some k) = in_group k tt
 
 -- whole sound records lead from p to q
-pub record Front (room : ℕ) (p : Place) (rs : List Record) (q : Place) : Type 0 where
+pub record Front (depth_left : ℕ) (p : Place) (rs : List Record) (q : Place) : Type 0 where
   pub spelled : Leads (AreRecords rs) p q
-  pub sound : AllSound blank tt room rs
+  pub sound : AllSound blank tt depth_left rs
 
 -- the records of a context, and the end tag if it is a group
 abbrev pub ReadsAll : ℕ → Option ℕ → Place → List Record → Place → Type 0
-ReadsAll room None p rs q = Front room p rs q
-ReadsAll room (Some k) p rs q = (end : Place) × Front room p rs end × Reads end (8 * k + 4) q
+ReadsAll depth_left None p rs q = Front depth_left p rs q
+ReadsAll depth_left (Some k) p rs q = (end : Place) × Front depth_left p rs end × Reads end (8 * k + 4) q
 
 -- what follows the tag
-pub record ReadsValue (room k code : ℕ) (p : Place) (payload : Payload) (q : Place) : Type 0 where
+pub record ReadsValue (depth_left k code : ℕ) (p : Place) (payload : Payload) (q : Place) : Type 0 where
   pub type : wire_type payload ≡ code
   pub spelled : Leads (Body k payload) p q
-  pub sound : Sound blank tt room k payload
+  pub sound : Sound blank tt depth_left k payload
 
 -- a fact of a fault, if it is one
 abbrev pub IfFault : ReadError → (WireFault → Type 0) → Type 0
@@ -40,19 +40,19 @@ IfFault errors.Memory P = Unit {0}
 
 -- the value that begins at q, after a tag of the field number k, has a fault below these steps of the path, the last of them first
 abbrev pub BadValue : ℕ → ℕ → ℕ → Place → List PathStep → WireFault → Type 0
-BadValue room k code q steps w =
+BadValue depth_left k code q steps w =
     (o : Open (Unit {0})) (before : List Record) (p : Place) → HasTag p k code q
-    → RecordFault blank o before room p (fault w.byte (step k before ∷ reverse steps) w.cause)
+    → RecordFault blank o before depth_left p (fault w.byte (step k before ∷ reverse steps) w.cause)
 
 -- the record of this number whose tag begins at p has a fault below these steps of the path, the last of them first
 abbrev pub BadRecord : ℕ → ℕ → Place → List PathStep → WireFault → Type 0
-BadRecord room k p steps w =
+BadRecord depth_left k p steps w =
     (o : Open (Unit {0})) (before : List Record)
-    → RecordFault blank o before room p (fault w.byte (step k before ∷ reverse steps) w.cause)
+    → RecordFault blank o before depth_left p (fault w.byte (step k before ∷ reverse steps) w.cause)
 
 -- reading from p fails below these steps of the path, the last of them first
 abbrev pub BadFrom : ℕ → Option ℕ → Place → List PathStep → WireFault → Type 0
-BadFrom room innermost p steps w = Bad blank (opened innermost) room p (fault w.byte (reverse steps) w.cause)
+BadFrom depth_left innermost p steps w = Bad blank (opened innermost) depth_left p (fault w.byte (reverse steps) w.cause)
 
 -- a fact of a fault as a reader reports it, if it is one
 abbrev pub IfRawFault : RawError → (Fault → Type 0) → Type 0

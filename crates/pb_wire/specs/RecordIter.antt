@@ -97,8 +97,8 @@ all_ok [] = []
 all_ok (x ∷ xs) = Ok x ∷ all_ok xs
 
 -- a fault without its path
-abbrev pub as_told : Fault → WireFault
-as_told f = record { byte = f.byte; cause = f.cause }
+abbrev pub without_path : Fault → WireFault
+without_path f = record { byte = f.byte; cause = f.cause }
 
 -- at the beginning of the bytes b, of which no more are read than the limit allows
 abbrev pub start : Bounds → List ℕ → Rest
@@ -113,11 +113,11 @@ too_large s = fault (length s.text) [] InputTooLarge
 pub data Gives (s : Rest) (items : List Item) : Type 0 where
   to_end :
       {xs : List (ℕ × Seen)} {q : Place} → Passes s.depth (place s.text s.at) xs q → q.rest ≡ []
-      → items ≡ all_ok xs ++ (if s.is_cut then Err (as_told (too_large s)) ∷ [] else []) → Gives s items
+      → items ≡ all_ok xs ++ (if s.is_cut then Err (without_path (too_large s)) ∷ [] else []) → Gives s items
   to_fault :
       {xs : List (ℕ × Seen)} {q : Place} {f : Fault} {before : List Record} → Passes s.depth (place s.text s.at) xs q → q.rest ≢ []
       → RecordFault blank (records tt) before s.depth q f
-      → items ≡ all_ok xs ++ Err (as_told (if s.is_cut then beyond (length s.text) f else f)) ∷ [] → Gives s items
+      → items ≡ all_ok xs ++ Err (without_path (if s.is_cut then beyond (length s.text) f else f)) ∷ [] → Gives s items
 
 -- what a call gave from s, leaving t
 pub record NextGives (s : Rest) (r : Option (Result (ℕ × Payload) WireFault)) (t : Rest) : Type 0 where
@@ -130,5 +130,5 @@ pub record NextGives (s : Rest) (r : Option (Result (ℕ × Payload) WireFault))
 -- the value that begins at p, after the tag of a record with this wire type, has a fault
 abbrev pub IsValueFault : ℕ → Place → WireFault → Type 0
 IsValueFault code p e =
-    (o : Open (Unit {0})) (before : List Record) (room k : ℕ) (tag : Place) → HasTag tag k code p
-    → RecordFault blank o before room tag (fault e.byte (step k before ∷ []) e.cause)
+    (o : Open (Unit {0})) (before : List Record) (depth_left k : ℕ) (tag : Place) → HasTag tag k code p
+    → RecordFault blank o before depth_left tag (fault e.byte (step k before ∷ []) e.cause)

@@ -18,23 +18,23 @@ pub data AreElements (e : Element) : List ℕ → Type 0 where
 
 mutual
   pub data Sound (S : Schema) : S.Context → ℕ → ℕ → Payload → Type 0 where
-    is_varint : {c : S.Context} {room k n : ℕ} → Sound S c room k (varint n)
-    is_fixed64 : {c : S.Context} {room k n : ℕ} → Sound S c room k (fixed64 n)
-    is_fixed32 : {c : S.Context} {room k n : ℕ} → Sound S c room k (fixed32 n)
-    some_bytes : {c : S.Context} {room k : ℕ} {s : List ℕ} → S.reading c k ≡ unread → Sound S c room k (len s)
-    a_text : {c : S.Context} {room k : ℕ} {s : List ℕ} → S.reading c k ≡ text → IsUtf8 s → Sound S c room k (len s)
-    a_list : {c : S.Context} {room k : ℕ} {s : List ℕ} {e : Element} → S.reading c k ≡ packed e → AreElements e s → Sound S c room k (len s)
+    is_varint : {c : S.Context} {depth_left k n : ℕ} → Sound S c depth_left k (varint n)
+    is_fixed64 : {c : S.Context} {depth_left k n : ℕ} → Sound S c depth_left k (fixed64 n)
+    is_fixed32 : {c : S.Context} {depth_left k n : ℕ} → Sound S c depth_left k (fixed32 n)
+    some_bytes : {c : S.Context} {depth_left k : ℕ} {s : List ℕ} → S.reading c k ≡ unread → Sound S c depth_left k (len s)
+    a_text : {c : S.Context} {depth_left k : ℕ} {s : List ℕ} → S.reading c k ≡ text → IsUtf8 s → Sound S c depth_left k (len s)
+    a_list : {c : S.Context} {depth_left k : ℕ} {s : List ℕ} {e : Element} → S.reading c k ≡ packed e → AreElements e s → Sound S c depth_left k (len s)
     a_message :
-        {c d : S.Context} {room k : ℕ} {s : List ℕ} {rs : List Record}
-        → S.reading c k ≡ message d → AreRecords rs s → AllSound S d room rs → Sound S c (suc room) k (len s)
+        {c d : S.Context} {depth_left k : ℕ} {s : List ℕ} {rs : List Record}
+        → S.reading c k ≡ message d → AreRecords rs s → AllSound S d depth_left rs → Sound S c (suc depth_left) k (len s)
     a_value :
-        {c d : S.Context} {room k : ℕ} {s : List ℕ} {rs : List Record}
-        → S.reading c k ≡ same_level d → AreRecords rs s → AllSound S d room rs → Sound S c room k (len s)
+        {c d : S.Context} {depth_left k : ℕ} {s : List ℕ} {rs : List Record}
+        → S.reading c k ≡ same_level d → AreRecords rs s → AllSound S d depth_left rs → Sound S c depth_left k (len s)
     a_group :
-        {c : S.Context} {room k : ℕ} {g : Group} {rs : List Record}
-        → g ≡ group_of rs → AllSound S (S.group_context c k) room rs → Sound S c (suc room) k (group g)
+        {c : S.Context} {depth_left k : ℕ} {g : Group} {rs : List Record}
+        → g ≡ group_of rs → AllSound S (S.group_context c k) depth_left rs → Sound S c (suc depth_left) k (group g)
 
   -- each of the records is sound
   pub data AllSound (S : Schema) : S.Context → ℕ → List Record → Type 0 where
-    none : {c : S.Context} {room : ℕ} → AllSound S c room []
-    one : {c : S.Context} {room : ℕ} {r : Record} {rs : List Record} → Sound S c room r.number r.payload → AllSound S c room rs → AllSound S c room (r ∷ rs)
+    none : {c : S.Context} {depth_left : ℕ} → AllSound S c depth_left []
+    one : {c : S.Context} {depth_left : ℕ} {r : Record} {rs : List Record} → Sound S c depth_left r.number r.payload → AllSound S c depth_left rs → AllSound S c depth_left (r ∷ rs)

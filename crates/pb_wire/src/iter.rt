@@ -8,7 +8,7 @@ ghost use Rattle.pb_wire.specs.Fault.{Fault, HasTag, place};
 ghost use Rattle.pb_wire.specs.Fault.{fault as fault_with};
 ghost use Rattle.pb_wire.specs.Grammar.{Bad, RecordFault, IsText, HasFault, beyond};
 ghost use Rattle.pb_wire.specs.Reading.{Front, ReadsValue};
-ghost use Rattle.pb_wire.specs.RecordIter.{Seen, seen, AreShown, ShowsFront, Gives, all_ok, as_told, start, ShowsRecord, IsValueFault};
+ghost use Rattle.pb_wire.specs.RecordIter.{Seen, seen, AreShown, ShowsFront, Gives, all_ok, without_path, start, ShowsRecord, IsValueFault};
 ghost use Rattle.pb_wire.specs.Schema.{blank, records, in_group};
 ghost use Rattle.pb_wire.specs.WireType.{code_of};
 ghost use Rattle.pb_wire.specs.declared.fault.PathStep.{PathStep};
@@ -16,7 +16,9 @@ ghost use Rattle.pb_wire.specs.declared.fault.PathStep.{PathStep};
 use crate::fault::{Cause, WireFault};
 use crate::limits::Limits;
 use crate::open_groups::OpenGroups;
-use crate::reading::{WireType, bytes_at, refused, tag_at, told_beyond, u32_at, u64_at, varint_at};
+use crate::reading::{
+    WireType, bytes_at, fault_beyond, refused, tag_at, u32_at, u64_at, varint_at,
+};
 use std::iter::FusedIterator;
 use std::marker::Model;
 
@@ -62,10 +64,10 @@ impl<'a> RecordIter<'a> {
         ensures text { (rs : List Record) → IsText blank tt limits bytes.now rs
             → (xs : List (ℕ × Seen)) × AreShown rs xs bytes.now × Gives result (all_ok xs) }
         ensures fault { (f : Fault) → HasFault blank tt limits bytes.now f
-            → (xs : List (ℕ × Seen)) × ShowsFront xs bytes.now × Gives result (all_ok xs ++ Err (as_told f) ∷ []) }
+            → (xs : List (ℕ × Seen)) × ShowsFront xs bytes.now × Gives result (all_ok xs ++ Err (without_path f) ∷ []) }
 
         // One of the two is so.
-        ensures told { Exactly (IsSomeText blank tt limits bytes.now) (HasFault blank tt limits bytes.now) }
+        ensures settled { Exactly (IsSomeText blank tt limits bytes.now) (HasFault blank tt limits bytes.now) }
     {
         let end = bytes.len().min(limits.max_bytes() as usize);
         RecordIter {
@@ -107,7 +109,7 @@ impl<'a> Iterator for RecordIter<'a> {
             Err(fault) => {
                 self.at = end;
                 self.is_cut = false;
-                Some(Err(told(fault, is_cut, end)))
+                Some(Err(fault_at_end(fault, is_cut, end)))
             }
         }
     }
@@ -117,11 +119,11 @@ impl<'a> FusedIterator for RecordIter<'a> {}
 
 /// A fault of the bytes that are read, as a fault of the input. Where the input goes on after them, their end is no end
 /// of a token.
-fn told(fault: WireFault, is_cut: bool, end: usize) -> WireFault
-    ensures { (path : List PathStep) → result ≡ as_told (let f = fault_with fault.byte path fault.cause in if is_cut then beyond end f else f) }
+fn fault_at_end(fault: WireFault, is_cut: bool, end: usize) -> WireFault
+    ensures { (path : List PathStep) → result ≡ without_path (let f = fault_with fault.byte path fault.cause in if is_cut then beyond end f else f) }
 {
     if is_cut {
-        told_beyond(end, fault)
+        fault_beyond(end, fault)
     } else {
         fault
     }
@@ -213,8 +215,8 @@ pub(crate) fn value_end(bytes: &[u8], at: usize, wire_type: WireType) -> Result<
     requires no_start { code_of wire_type ≢ 3 }
     requires no_end { code_of wire_type ≢ 4 }
     ensures within { IfOk result (λ end. (at ≤ end) × (end ≤ length bytes.now)) }
-    ensures ok { IfOk result (λ end. (room k : ℕ) → (payload : wire.Payload)
-        × ReadsValue room k (code_of wire_type) (place bytes.now at) payload (place bytes.now end)) }
+    ensures ok { IfOk result (λ end. (depth_left k : ℕ) → (payload : wire.Payload)
+        × ReadsValue depth_left k (code_of wire_type) (place bytes.now at) payload (place bytes.now end)) }
     ensures fault { IfErr result (λ e. IsValueFault (code_of wire_type) (place bytes.now at) e) }
 {
     match wire_type {

@@ -64,18 +64,18 @@ fn records_end(
     bytes: &[u8],
     at: usize,
     innermost: Option<u32>,
-    room: u8,
+    depth_left: u8,
     steps: &mut Vec<PathStep>,
 ) -> Result<usize, ReadError>
     requires at_in_bounds { at ≤ length bytes.now }
     requires size { length bytes.now < 2 ^ 31 }
-    requires depth { room ≤ 100 }
+    requires depth { depth_left ≤ 100 }
     requires no_steps { steps.old.items ≡ [] }
     ensures within { IfOk result (λ end. (at ≤ end) × (end ≤ length bytes.now)) }
     ensures whole { innermost ≡ None → IfOk result (λ end. end ≡ length bytes.now) }
-    ensures ok { IfOk result (λ end. (rs : List Record) × ReadsAll room innermost (place bytes.now at) rs (place bytes.now end)) }
+    ensures ok { IfOk result (λ end. (rs : List Record) × ReadsAll depth_left innermost (place bytes.now at) rs (place bytes.now end)) }
     ensures steps { OnOk result (steps.new.items ≡ []) }
-    ensures fault { IfErr result (λ e. IfFault e (BadFrom room innermost (place bytes.now at) steps.new.items)) }
+    ensures fault { IfErr result (λ e. IfFault e (BadFrom depth_left innermost (place bytes.now at) steps.new.items)) }
 {
     let mut here = at;
     'records: while !is_at_end(bytes, here, innermost) {
@@ -83,7 +83,7 @@ fn records_end(
         if let WireType::EndGroup = wire_type {
             return Ok(start);
         }
-        match record_end(bytes, here, start, number, wire_type, room, steps) {
+        match record_end(bytes, here, start, number, wire_type, depth_left, steps) {
             Ok(end) => here = end,
             Err(error) => {
                 steps.push(step_behind(&bytes[at..here], number))?;
@@ -103,28 +103,28 @@ fn record_end(
     start: usize,
     number: u32,
     wire_type: WireType,
-    room: u8,
+    depth_left: u8,
     steps: &mut Vec<PathStep>,
 ) -> Result<usize, ReadError>
     requires start_in_bounds { start ≤ length bytes.now }
     requires size { length bytes.now < 2 ^ 31 }
-    requires depth { room ≤ 100 }
+    requires depth { depth_left ≤ 100 }
     requires is_tag { HasTag (place bytes.now tag) number (code_of wire_type) (place bytes.now start) }
     requires no_end { code_of wire_type ≢ 4 }
     requires no_steps { steps.old.items ≡ [] }
     ensures within { IfOk result (λ end. (start ≤ end) × (end ≤ length bytes.now)) }
     ensures ok { IfOk result
-        (λ end. (payload : Payload) × ReadsValue room number (code_of wire_type) (place bytes.now start) payload (place bytes.now end)) }
+        (λ end. (payload : Payload) × ReadsValue depth_left number (code_of wire_type) (place bytes.now start) payload (place bytes.now end)) }
     ensures steps { OnOk result (steps.new.items ≡ []) }
-    ensures fault { IfErr result (λ e. IfFault e (BadRecord room number (place bytes.now tag) steps.new.items)) }
+    ensures fault { IfErr result (λ e. IfFault e (BadRecord depth_left number (place bytes.now tag) steps.new.items)) }
 {
     let WireType::StartGroup = wire_type else {
         return Ok(value_end(bytes, start, wire_type)?);
     };
-    if room == 0 {
+    if depth_left == 0 {
         return Err(ReadError::Fault(refused(tag, Cause::TooDeep)));
     }
-    let end = records_end(bytes, start, Some(number), room - 1, steps)?;
+    let end = records_end(bytes, start, Some(number), depth_left - 1, steps)?;
     Ok(end)
 }
 

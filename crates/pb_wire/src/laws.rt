@@ -22,12 +22,12 @@ pub fn shortest_spelling()
 
 /// Every place is read whole, or has exactly one fault; so has every frame, and every input within its limits.
 pub fn one_fault<C>()
-    ensures here { (reading : C → ℕ → Reading C) (group : C → ℕ → C) (o : Open C) (room : ℕ) (p : Place)
+    ensures here { (reading : C → ℕ → Reading C) (group : C → ℕ → C) (o : Open C) (depth_left : ℕ) (p : Place)
         → All IsByte p.rest
-        → Exactly (IsRead (schema reading group) o room p) (Bad (schema reading group) o room p) }
-    ensures frame { (reading : C → ℕ → Reading C) (group : C → ℕ → C) (c : C) (room at size : ℕ) (rest : List ℕ)
+        → Exactly (IsRead (schema reading group) o depth_left p) (Bad (schema reading group) o depth_left p) }
+    ensures frame { (reading : C → ℕ → Reading C) (group : C → ℕ → C) (c : C) (depth_left at size : ℕ) (rest : List ℕ)
         → All IsByte rest
-        → Exactly (IsFrame (schema reading group) c room size rest) (Bad (schema reading group) (records c) room (ending_at at size rest)) }
+        → Exactly (IsFrame (schema reading group) c depth_left size rest) (Bad (schema reading group) (records c) depth_left (ending_at at size rest)) }
     ensures text { (reading : C → ℕ → Reading C) (group : C → ℕ → C) (c : C) (limits : Bounds) (b : List ℕ)
         → All IsByte b
         → Exactly (IsSomeText (schema reading group) c limits b) (HasFault (schema reading group) c limits b) }
@@ -36,37 +36,37 @@ pub fn one_fault<C>()
 /// A fault other than the end of the input is the fault of every longer input, also of one past the limit on its length.
 /// What is read whole up to a known end or the end of a group stays so.
 pub fn longer_text<C>()
-    ensures fault { (reading : C → ℕ → Reading C) (group : C → ℕ → C) (o : Open C) (room : ℕ) (p : Place) (f : Fault) (more : List ℕ)
-        → (IsCut f → ⊥) → Bad (schema reading group) o room p f
-        → Bad (schema reading group) o room (longer p more) f }
+    ensures fault { (reading : C → ℕ → Reading C) (group : C → ℕ → C) (o : Open C) (depth_left : ℕ) (p : Place) (f : Fault) (more : List ℕ)
+        → (IsCut f → ⊥) → Bad (schema reading group) o depth_left p f
+        → Bad (schema reading group) o depth_left (longer p more) f }
     ensures text { (reading : C → ℕ → Reading C) (group : C → ℕ → C) (c : C) (limits : Bounds) (b more : List ℕ) (f : Fault)
         → (IsCut f → ⊥) → HasFault (schema reading group) c limits b f
         → HasFault (schema reading group) c limits (b ++ more) f }
-    ensures read { (reading : C → ℕ → Reading C) (group : C → ℕ → C) (o : Open C) (room : ℕ) (p : Place) (more : List ℕ)
-        → (open_group o ≢ None) ⊎ (p.known ≢ None) → IsRead (schema reading group) o room p
-        → IsRead (schema reading group) o room (longer p more) }
+    ensures read { (reading : C → ℕ → Reading C) (group : C → ℕ → C) (o : Open C) (depth_left : ℕ) (p : Place) (more : List ℕ)
+        → (open_group o ≢ None) ⊎ (p.known ≢ None) → IsRead (schema reading group) o depth_left p
+        → IsRead (schema reading group) o depth_left (longer p more) }
 {}
 
 /// A fault is reported at a byte from the place that is read from up to the end of the input, and the end of the input is
 /// where it is reported that the input ends. That the input is too large is reported of longer inputs alone.
 pub fn fault_bounds<C>()
-    ensures bounds { (reading : C → ℕ → Reading C) (group : C → ℕ → C) (o : Open C) (room : ℕ) (p : Place) (f : Fault)
-        → Bad (schema reading group) o room p f → (p.at ≤ f.byte) × (f.byte ≤ input_end p) }
-    ensures cut { (reading : C → ℕ → Reading C) (group : C → ℕ → C) (o : Open C) (room : ℕ) (p : Place) (f : Fault)
-        → Bad (schema reading group) o room p f → IsCut f → f.byte ≡ input_end p }
-    ensures within { (reading : C → ℕ → Reading C) (group : C → ℕ → C) (o : Open C) (room : ℕ) (p : Place) (f : Fault)
-        → Bad (schema reading group) o room p f → f.cause ≢ InputTooLarge }
+    ensures bounds { (reading : C → ℕ → Reading C) (group : C → ℕ → C) (o : Open C) (depth_left : ℕ) (p : Place) (f : Fault)
+        → Bad (schema reading group) o depth_left p f → (p.at ≤ f.byte) × (f.byte ≤ input_end p) }
+    ensures cut { (reading : C → ℕ → Reading C) (group : C → ℕ → C) (o : Open C) (depth_left : ℕ) (p : Place) (f : Fault)
+        → Bad (schema reading group) o depth_left p f → IsCut f → f.byte ≡ input_end p }
+    ensures within { (reading : C → ℕ → Reading C) (group : C → ℕ → C) (o : Open C) (depth_left : ℕ) (p : Place) (f : Fault)
+        → Bad (schema reading group) o depth_left p f → f.cause ≢ InputTooLarge }
 {}
 
 /// How long the path of a fault is. Each level adds one step to it. Where messages may also lie at the level of what holds them, as those of map entries
 /// do, each level adds two at most. The last step leads into the record that has the fault.
 pub fn path_bounds<C>()
-    ensures here { (reading : C → ℕ → Reading C) (group : C → ℕ → C) (o : Open C) (room : ℕ) (p : Place) (f : Fault)
-        → NestsOnce reading → UsesLevels reading (context_of o) → Bad (schema reading group) o room p f → length f.path ≤ 2 * room + 1 }
+    ensures here { (reading : C → ℕ → Reading C) (group : C → ℕ → C) (o : Open C) (depth_left : ℕ) (p : Place) (f : Fault)
+        → NestsOnce reading → UsesLevels reading (context_of o) → Bad (schema reading group) o depth_left p f → length f.path ≤ 2 * depth_left + 1 }
     ensures text { (reading : C → ℕ → Reading C) (group : C → ℕ → C) (c : C) (limits : Bounds) (b : List ℕ) (f : Fault)
         → NestsOnce reading → UsesLevels reading c → HasFault (schema reading group) c limits b f → length f.path ≤ 2 * limits.depth + 1 }
-    ensures levels { (reading : C → ℕ → Reading C) (group : C → ℕ → C) (o : Open C) (room : ℕ) (p : Place) (f : Fault)
-        → ((c : C) → UsesLevels reading c) → Bad (schema reading group) o room p f → length f.path ≤ room + 1 }
+    ensures levels { (reading : C → ℕ → Reading C) (group : C → ℕ → C) (o : Open C) (depth_left : ℕ) (p : Place) (f : Fault)
+        → ((c : C) → UsesLevels reading c) → Bad (schema reading group) o depth_left p f → length f.path ≤ depth_left + 1 }
     ensures text_levels { (reading : C → ℕ → Reading C) (group : C → ℕ → C) (c : C) (limits : Bounds) (b : List ℕ) (f : Fault)
         → ((d : C) → UsesLevels reading d) → HasFault (schema reading group) c limits b f → length f.path ≤ limits.depth + 1 }
 {}

@@ -44,7 +44,7 @@ pub use memory::{FailurePlan, MemInput, MemOutput};
 pub use reading::{read_raw, refused};
 pub use scan::{
     Number, Scanned, Tag, before_end, left_after, scan_fixed32, scan_fixed64, scan_length,
-    scan_number, scan_tag, scan_varint,
+    scan_number, scan_tag, scan_varint, tag_of,
 };
 pub use scan_at::{RecordTag, group_end, length_at, number_at, tag_at, varint_at};
 pub use transfer::{ReadFault, WriteFault, read_up_to, write_all};

@@ -14,7 +14,7 @@ ghost use Rattle.pb_wire.specs.Grammar.{IsText, HasFault, beyond};
 ghost use Rattle.pb_wire.specs.WireType.{code_of};
 ghost use Rattle.pb_wire.specs.declared.reading.WireType.{WireType};
 ghost use Rattle.pb_wire.specs.Unknown.{payload_of, records_of};
-ghost use Rattle.pb_wire.specs.RecordIter.{as_told};
+ghost use Rattle.pb_wire.specs.RecordIter.{without_path};
 ghost use Rattle.pb_wire.specs.Reading.{ReadsAll, ReadsValue, IfFault, IfRawFault, BadValue, BadFrom};
 
 use crate::fault::{Cause, PathStep, RawError, ReadError, WireFault};
@@ -172,19 +172,19 @@ fn value_at(
     at: usize,
     number: u32,
     wire_type: WireType,
-    room: u8,
+    depth_left: u8,
     steps: &mut Vec<PathStep>,
 ) -> Result<(Unknown, usize), ReadError>
     requires at_in_bounds { at ≤ length bytes.now }
     requires size { length bytes.now < 2 ^ 32 }
     requires no_end { code_of wire_type ≢ 4 }
-    requires level { code_of wire_type ≡ 3 → 0 < room }
+    requires level { code_of wire_type ≡ 3 → 0 < depth_left }
     requires no_steps { steps.old.items ≡ [] }
     ensures within { IfOk result (λ r. (at ≤ r.1) × (r.1 ≤ length bytes.now)) }
     ensures ok { IfOk result
-        (λ r. ReadsValue room number (code_of wire_type) (place bytes.now at) (payload_of r.0) (place bytes.now r.1)) }
+        (λ r. ReadsValue depth_left number (code_of wire_type) (place bytes.now at) (payload_of r.0) (place bytes.now r.1)) }
     ensures steps { OnOk result (steps.new.items ≡ []) }
-    ensures fault { IfErr result (λ e. IfFault e (BadValue room number (code_of wire_type) (place bytes.now at) steps.new.items)) }
+    ensures fault { IfErr result (λ e. IfFault e (BadValue depth_left number (code_of wire_type) (place bytes.now at) steps.new.items)) }
 {
     match wire_type {
         WireType::Varint => {
@@ -200,7 +200,14 @@ fn value_at(
             Ok((Unknown::Len(Vec::from_slice(alloc, payload)?), after))
         }
         WireType::StartGroup => {
-            let (inside, after) = records_at(alloc, bytes, at, Some(number), room - 1, steps)?;
+            let (inside, after) = records_at(
+                alloc,
+                bytes,
+                at,
+                Some(number),
+                depth_left - 1,
+                steps,
+            )?;
             Ok((Unknown::Group(inside), after))
         }
         WireType::EndGroup => unreachable!(),
@@ -219,7 +226,7 @@ fn records_at(
     bytes: &[u8],
     at: usize,
     innermost: Option<u32>,
-    room: u8,
+    depth_left: u8,
     steps: &mut Vec<PathStep>,
 ) -> Result<(Vec<(u32, Unknown)>, usize), ReadError>
     requires at_in_bounds { at ≤ length bytes.now }
@@ -228,9 +235,9 @@ fn records_at(
     ensures within { IfOk result (λ r. (at ≤ r.1) × (r.1 ≤ length bytes.now)) }
     ensures whole { innermost ≡ None → IfOk result (λ r. r.1 ≡ length bytes.now) }
     ensures ok { IfOk result
-        (λ r. ReadsAll room innermost (place bytes.now at) (records_of r.0.items) (place bytes.now r.1)) }
+        (λ r. ReadsAll depth_left innermost (place bytes.now at) (records_of r.0.items) (place bytes.now r.1)) }
     ensures steps { OnOk result (steps.new.items ≡ []) }
-    ensures fault { IfErr result (λ e. IfFault e (BadFrom room innermost (place bytes.now at) steps.new.items)) }
+    ensures fault { IfErr result (λ e. IfFault e (BadFrom depth_left innermost (place bytes.now at) steps.new.items)) }
 {
     let mut records = Vec::new(alloc);
     let mut here = at;
@@ -240,12 +247,14 @@ fn records_at(
             return Ok((records, start));
         }
         if let WireType::StartGroup = wire_type {
-            if room == 0 {
+            if depth_left == 0 {
                 steps.push(step_behind(&records, number))?;
                 return Err(ReadError::Fault(refused(here, Cause::TooDeep)));
             }
         }
-        let (payload, after) = match value_at(alloc, bytes, start, number, wire_type, room, steps) {
+        let (payload, after) = match value_at(
+            alloc, bytes, start, number, wire_type, depth_left, steps,
+        ) {
             Ok(value) => value,
             Err(error) => {
                 steps.push(step_behind(&records, number))?;
@@ -366,12 +375,12 @@ pub(crate) fn of_longer(max_bytes: usize, fault: WireFault, mut steps: Vec<PathS
     if let Cause::Truncated = fault.cause {
         steps.clear();
     }
-    below(told_beyond(max_bytes, fault), steps)
+    below(fault_beyond(max_bytes, fault), steps)
 }
 
 /// A fault of the first bytes of a longer input, as the fault of that input: their end is no end of a token.
-pub(crate) fn told_beyond(end: usize, fault: WireFault) -> WireFault
-    ensures { (path : List PathStep) → result ≡ as_told (beyond end (fault_with fault.byte path fault.cause)) }
+pub(crate) fn fault_beyond(end: usize, fault: WireFault) -> WireFault
+    ensures { (path : List PathStep) → result ≡ without_path (beyond end (fault_with fault.byte path fault.cause)) }
 {
     match fault.cause {
         Cause::Truncated => refused(end, Cause::InputTooLarge),

@@ -124,7 +124,7 @@ pub fn scan_tag(bytes: &[u8], left: Option<u32>) -> Scanned<Tag>
 
 /// The parts of the tag that a number is.
 #[inline(always)]
-pub(crate) fn tag_of(tag: u64) -> Result<Tag, Cause>
+pub fn tag_of(tag: u64) -> Result<Tag, Cause>
     ensures whole { (p q : Place) → Reads p tag q → IfOk result (λ t. HasTag p t.number t.wire_type q) }
     ensures settled { IfErr result (λ c. c ≢ Truncated) }
     ensures refused { (p q : Place) (innermost : Option ℕ) → Reads p tag q → IfErr result (λ c. TagFault innermost p (fault p.at [] c)) }

@@ -34,9 +34,9 @@ pub fn read_up_to<I: Input>(
     let mut text = Vec::new(alloc);
     let mut buffer = [0u8; 16384];
     'reading: while text.len() < limit {
-        let room = buffer.len().min(limit - text.len());
+        let size = buffer.len().min(limit - text.len());
         let count = input
-            .read(&mut buffer[..room])
+            .read(&mut buffer[..size])
             .map_err(|_| ReadFault::Device)?;
         if count == 0 {
             return Ok(text);

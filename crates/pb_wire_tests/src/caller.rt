@@ -4,7 +4,7 @@ ghost use Rattle.std.specs.Prelude.{◌≡◌, ◌⊎◌, List, MatchResult, map
 ghost use Rattle.pb_wire.specs.Record.{Record};
 ghost use Rattle.pb_wire.specs.Fault.{Fault};
 ghost use Rattle.pb_wire.specs.Grammar.{IsText, HasFault};
-ghost use Rattle.pb_wire.specs.RecordIter.{as_told};
+ghost use Rattle.pb_wire.specs.RecordIter.{without_path};
 ghost use Rattle.pb_wire.specs.Schema.{blank};
 ghost use Rattle.pb_wire_tests.specs.declared.caller.NumbersError.TheVariants as error;
 
@@ -48,7 +48,7 @@ fn numbers(alloc: Global, bytes: &[u8], limits: Limits) -> Result<Vec<u32>, Numb
     ensures text { (rs : List Record) → IsText blank tt limits bytes.now rs
         → MatchResult result (λ v. v.items ≡ map (λ r. r.number) rs) (λ e. e ≡ NumbersError.Memory) }
     ensures fault { (f : Fault) → HasFault blank tt limits bytes.now f
-        → MatchResult result (λ v. ⊥) (λ e. (e ≡ NumbersError.Memory) ⊎ (e ≡ NumbersError.Fault (as_told f))) }
+        → MatchResult result (λ v. ⊥) (λ e. (e ≡ NumbersError.Memory) ⊎ (e ≡ NumbersError.Fault (without_path f))) }
 {
     let mut numbers = Vec::new(alloc);
     for item in RecordIter::new(bytes, limits) {

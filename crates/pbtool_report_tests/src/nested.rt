@@ -65,7 +65,7 @@ fn shortest(rt: HostRuntime) -> Result<(), Fail> {
     Ok(())
 }
 
-/// A record in so many messages, one in another.
+/// A record in this many messages, one in another.
 fn messages(alloc: Global, count: usize) -> Result<Vec<u8>, Fail> {
     let mut bytes = Vec::from_slice(alloc, b"\x08\x01")?;
     for _ in 0..count {

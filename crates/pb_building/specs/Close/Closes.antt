@@ -7,7 +7,7 @@ use Rattle.pb_schema.specs.Types.{Types}
 use Rattle.pb_building.specs.declared.open.part.Part.{Part}
 use Rattle.pb_building.specs.declared.open.part.Scope.{Scope}
 use Rattle.pb_building.specs.declared.open.part.Slot.{Slot}
-use Rattle.pb_building.specs.Open.Parents.{Part as PartView, Scope as ScopeView, Parent, parent_of, up_to, Stands}
+use Rattle.pb_building.specs.Open.Parents.{Part as PartView, Scope as ScopeView, Parent, parent_of, up_to, Reached}
 use Rattle.pb_building.specs.Open.PartView.{part_view, scope_view}
 
 -- a part as the parent of the record of a number, which is open in it
@@ -23,5 +23,5 @@ ClosesAt true number end q w = HasTag q number 4 w
 abbrev pub Closes : {A E : Type 0} → Types → ℕ → Slot → PartView → Part → Scope → Part → Scope → Result A E → Type 0
 Closes pool number slot now outer scope new_outer new_scope result =
     (m depth levels : ℕ) (base : List Record) (p0 q w : Place) (parents : List Parent) (inner : ScopeView) (group : Bool)
-    → Stands pool m depth levels base p0 (around outer scope number slot group ∷ parents) now inner q → ClosesAt group number scope.end q w
-    → OnOk result (Stands pool m depth levels base p0 parents (part_view new_outer) (scope_view new_scope) w)
+    → Reached pool m depth levels base p0 (around outer scope number slot group ∷ parents) now inner q → ClosesAt group number scope.end q w
+    → OnOk result (Reached pool m depth levels base p0 parents (part_view new_outer) (scope_view new_scope) w)

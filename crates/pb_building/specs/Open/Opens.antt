@@ -11,7 +11,7 @@ use Rattle.pb_building.specs.declared.open.part.Scope.{Scope}
 use Rattle.pb_building.specs.declared.open.part.Parent.{Parent as ParentKept}
 use Rattle.pb_building.specs.declared.open.target.Target.{Target}
 use Rattle.pb_building.specs.declared.tokens.step.Step.TheVariants as step
-use Rattle.pb_building.specs.Open.Parents.{Parent, CanHold, Stands}
+use Rattle.pb_building.specs.Open.Parents.{Parent, CanHold, Reached}
 use Rattle.pb_building.specs.Open.PartView.{part_view, scope_view, parent_view}
 use Rattle.pb_building.specs.Open.Targets.{Means, part_context}
 use Rattle.pb_building.specs.Tokens.After.{After}
@@ -21,12 +21,12 @@ abbrev pub OpensAtLength : ℕ → Target → ℕ → Part → Scope → ParentK
 OpensAtLength number meant end outer around parent inner scope =
     (pool : Types) (m depth levels n : ℕ) (base : List Record) (p0 u t : Place) (parents : List Parent)
     → IsPool pool → CanHold pool (part_view outer) → After pool m depth levels base p0 parents (step.Length number meant) (part_view outer) (scope_view around) u
-    → HasLength u n t → end ≡ t.at + n → Stands pool m depth levels base p0 (parent_view parent ∷ parents) (part_view inner) (scope_view scope) (payload_at t n)
+    → HasLength u n t → end ≡ t.at + n → Reached pool m depth levels base p0 (parent_view parent ∷ parents) (part_view inner) (scope_view scope) (payload_at t n)
 
 -- after the first tag of a group the group is open
 abbrev pub OpensAtTag : ℕ → Target → Part → Scope → ParentKept → Part → Scope → Type 0
 OpensAtTag number meant outer around parent inner scope =
     (pool : Types) (m depth levels : ℕ) (base : List Record) (p0 q u : Place) (parents : List Parent)
     → IsPool pool → CanHold pool (part_view outer) → Means pool (part_context (part_view outer)) number 3 meant
-    → Stands pool m depth levels base p0 parents (part_view outer) (scope_view around) q → 0 < around.depth_left → HasTag q number 3 u
-    → Stands pool m depth levels base p0 (parent_view parent ∷ parents) (part_view inner) (scope_view scope) u
+    → Reached pool m depth levels base p0 parents (part_view outer) (scope_view around) q → 0 < around.depth_left → HasTag q number 3 u
+    → Reached pool m depth levels base p0 (parent_view parent ∷ parents) (part_view inner) (scope_view scope) u

@@ -224,7 +224,7 @@ pub data Held (pool : Types) (m depth levels : ℕ) (base : List Record) (p0 : P
 
 -- What there is of the innermost part is worth the earlier records and those after the reader's position, and its scope says what is left there
 -- and what was there.
-pub record Stands
+pub record Reached
     (pool : Types) (m depth levels : ℕ) (base : List Record) (p0 : Place) (parents : List Parent) (now : Part) (scope : Scope) (q : Place) : Type 0 where
   pub open_now : Open Context
   pub inner : ℕ

@@ -18,7 +18,7 @@ use Rattle.pb_building.specs.declared.open.target.Target.{Target}
 use Rattle.pb_building.specs.declared.open.target.Target.TheVariants as target
 use Rattle.pb_building.specs.declared.tokens.step.Step.{Step}
 use Rattle.pb_building.specs.declared.tokens.step.Step.TheVariants as step
-use Rattle.pb_building.specs.Open.Parents.{Part, message_part, Scope, Parent, EndsAt, Stands}
+use Rattle.pb_building.specs.Open.Parents.{Part, message_part, Scope, Parent, EndsAt, Reached}
 use Rattle.pb_building.specs.Open.Targets.{Means, part_context}
 use Rattle.pb_building.specs.Values.PayloadValue.{IsBytesTarget}
 use Rattle.pb_building.specs.Values.Put.{with_record}
@@ -119,6 +119,6 @@ pub record After
     (u : Place) : Type 0 where
   pub before : Part
   pub place : Place
-  pub stands : Stands pool m depth levels base p0 parents before (part_scope next scope) place
+  pub reached : Reached pool m depth levels base p0 parents before (part_scope next scope) place
   pub begun : Underway pool scope.depth_left before place next now u
   pub ends : EndsAt u scope.end

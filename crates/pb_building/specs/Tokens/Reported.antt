@@ -1,11 +1,10 @@
 -- What is reported of whole tokens, wherever the reader is: what comes next after them, or that they are the fault of what is read, of any type, any levels,
 -- any records before and any first place.
-use Rattle.std.specs.Prelude.{◌≡◌, ◌≢◌, ℕ, ◌+◌, ◌≤◌, List, [], length, Option, Some, Result, IfErr, IfSome, IfNone}
+use Rattle.std.specs.Prelude.{◌≡◌, ℕ, ◌+◌, List, length, Option, IfSome, IfNone}
 use Rattle.pb_wire.specs.Record.{Record}
 use Rattle.pb_wire.specs.declared.fault.Cause.{Cause}
 use Rattle.pb_wire.specs.declared.fault.Cause.TheVariants.{TooDeep}
-use Rattle.pb_wire.specs.Fault.{Fault, fault, Place, Reads, HasTag, HasLength}
-use Rattle.pb_wire.specs.Scan.{given_at, passed}
+use Rattle.pb_wire.specs.Fault.{Fault, fault, Place, HasTag, HasLength}
 use Rattle.pb_wire.specs.Schema.{records}
 use Rattle.pb_wire.specs.Grammar.{Bad, payload_at}
 use Rattle.pb_schema.specs.declared.types.Kind.{Kind}
@@ -17,79 +16,38 @@ use Rattle.pb_building.specs.declared.open.target.Target.{Target}
 use Rattle.pb_building.specs.declared.open.target.Target.TheVariants as target
 use Rattle.pb_building.specs.declared.tokens.step.Step.{Step}
 use Rattle.pb_building.specs.declared.tokens.step.Step.TheVariants as step
-use Rattle.pb_building.specs.Open.Parents.{Part, Scope, Parent, path_of, path_to, Stands}
-use Rattle.pb_building.specs.Open.Openings.{innermost_group}
+use Rattle.pb_building.specs.Open.Parents.{Part, Scope, Parent, path_to, Reached}
 use Rattle.pb_building.specs.Open.PartView.{part_view, scope_view}
-use Rattle.pb_building.specs.Tokens.After.{tag, awaited, After}
+use Rattle.pb_building.specs.Tokens.After.{tag, After}
 use Rattle.pb_building.specs.Values.PayloadValue.{IsBytesTarget}
 
 -- this is the fault of the bytes from p0 on
 abbrev pub IsBad : Types → ℕ → ℕ → Place → Fault → Type 0
 IsBad pool m depth p0 f = Bad (schema_of pool) (records (a_message m)) depth p0 f
 
--- a number is here, and takes this many of the bytes
-abbrev pub IsNumberAt : Place → ℕ × ℕ → Type 0
-IsNumberAt p t = (t.1 ≤ length p.rest) × Reads p t.0 (passed p t.1)
-
 -- ---- tags
--- bytes that are refused where a tag may come, with this many before the known end
-abbrev pub RefusesTagBytes : {A : Type 0} → List ℕ → Option ℕ → Result A Cause → Type 0
-RefusesTagBytes bytes left result =
-    (pool : Types) (m depth levels at : ℕ) (base : List Record) (p0 : Place) (parents : List Parent) (scope : Scope) (now : Part)
-    → Stands pool m depth levels base p0 parents now scope (given_at at left bytes) → left ≢ Some 0 → bytes ≢ []
-    → IfErr result (λ c. IsBad pool m depth p0 (fault at (path_of parents) c))
-
--- a tag that is refused
-abbrev pub RefusesTag : {A : Type 0} → ℕ → Result A Cause → Type 0
-RefusesTag n result =
-    (pool : Types) (m depth levels : ℕ) (base : List Record) (p0 q u : Place) (parents : List Parent) (scope : Scope) (now : Part)
-    → Stands pool m depth levels base p0 parents now scope q → Reads q n u → IfErr result (λ c. IsBad pool m depth p0 (fault q.at (path_of parents) c))
-
--- the last tag of a group that is refused, where this group is open innermost
-abbrev pub RefusesEnd : {A : Type 0} → Option ℕ → ℕ → Result A Cause → Type 0
-RefusesEnd innermost number result =
-    (pool : Types) (m depth levels : ℕ) (base : List Record) (p0 q u : Place) (parents : List Parent) (scope : Scope) (now : Part)
-    → Stands pool m depth levels base p0 parents now scope q → innermost ≡ innermost_group parents → HasTag q number 4 u
-    → IfErr result (λ c. IsBad pool m depth p0 (fault q.at (path_of parents) c))
-
 -- the first tag of a group that is refused, where this many levels are left
 abbrev pub RefusesGroup : ℕ → Option Cause → Type 0
 RefusesGroup depth_left result =
     (pool : Types) (m depth levels number : ℕ) (base : List Record) (p0 q u : Place) (parents : List Parent) (scope : Scope) (now : Part)
-    → Stands pool m depth levels base p0 parents now scope q → scope.depth_left ≡ depth_left → HasTag q number 3 u
+    → Reached pool m depth levels base p0 parents now scope q → scope.depth_left ≡ depth_left → HasTag q number 3 u
     → IfSome result (λ c. IsBad pool m depth p0 (fault q.at (path_to parents scope number) c))
 
 -- what comes next after a tag in a part, where this many levels are left
 abbrev pub GoesOnAfterTag : Types → PartKept → ℕ → ℕ → ℕ → Option Step → Type 0
 GoesOnAfterTag pool part depth_left number type result =
     (m depth levels : ℕ) (base : List Record) (p0 q u : Place) (parents : List Parent) (scope : Scope)
-    → Stands pool m depth levels base p0 parents (part_view part) scope q → scope.depth_left ≡ depth_left → HasTag q number type u
+    → Reached pool m depth levels base p0 parents (part_view part) scope q → scope.depth_left ≡ depth_left → HasTag q number type u
     → IfSome result (λ next. After pool m depth levels base p0 parents next (part_view part) scope u)
 
 -- or what it begins is one level too many
 abbrev pub IsTooDeep : Types → PartKept → ℕ → ℕ → ℕ → Option Step → Type 0
 IsTooDeep pool part depth_left number type result =
     (m depth levels : ℕ) (base : List Record) (p0 q u : Place) (parents : List Parent) (scope : Scope)
-    → Stands pool m depth levels base p0 parents (part_view part) scope q → scope.depth_left ≡ depth_left → HasTag q number type u
+    → Reached pool m depth levels base p0 parents (part_view part) scope q → scope.depth_left ≡ depth_left → HasTag q number type u
     → IfNone result (IsBad pool m depth p0 (fault q.at (path_to parents scope number) TooDeep))
 
 -- ---- lengths
--- bytes that are refused where a length comes next
-abbrev pub RefusesLengthBytes : {A : Type 0} → List ℕ → Option ℕ → Result A Cause → Type 0
-RefusesLengthBytes bytes left result =
-    (pool : Types) (m depth levels at number : ℕ) (base : List Record) (p0 : Place) (parents : List Parent) (scope : Scope) (now : Part) (next : Step)
-    (meant : Target)
-    → After pool m depth levels base p0 parents next now scope (given_at at left bytes) → awaited next ≡ Some (tag number 2 meant)
-    → IfErr result (λ c. IsBad pool m depth p0 (fault at (path_to parents scope number) c))
-
--- a length that is refused, after which a payload would begin at a position in a part with this end
-abbrev pub RefusesLength : {A : Type 0} → ℕ → ℕ → Option ℕ → Result A Cause → Type 0
-RefusesLength n begin end result =
-    (pool : Types) (m depth levels number : ℕ) (base : List Record) (p0 u t : Place) (parents : List Parent) (scope : Scope) (now : Part) (next : Step)
-    (meant : Target)
-    → After pool m depth levels base p0 parents next now scope u → awaited next ≡ Some (tag number 2 meant) → Reads u n t → t.at ≡ begin → scope.end ≡ end
-    → IfErr result (λ c. IsBad pool m depth p0 (fault u.at (path_to parents scope number) c))
-
 -- after the length of a packed list its elements come next, in a scope that ends with the list
 abbrev pub BeginsList : ℕ → Kind → ℕ → ScopeKept → ScopeKept → Step → Type 0
 BeginsList number kind end old new result =

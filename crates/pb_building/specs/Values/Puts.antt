@@ -20,7 +20,7 @@ use Rattle.pb_building.specs.declared.tokens.step.Step.{Step}
 use Rattle.pb_building.specs.declared.tokens.step.Step.TheVariants.{Payload, Elements}
 use Rattle.pb_building.specs.declared.values.payload_value.PayloadError.{PayloadError}
 use Rattle.pb_building.specs.declared.values.run.Run.{Run}
-use Rattle.pb_building.specs.Open.Parents.{Part as PartView, Scope, Parent, path_of, next_step, one_more_in, Stands}
+use Rattle.pb_building.specs.Open.Parents.{Part as PartView, Scope, Parent, path_of, next_step, one_more_in, Reached}
 use Rattle.pb_building.specs.Open.Opened.{below}
 use Rattle.pb_building.specs.Open.PartView.{part_view}
 use Rattle.pb_building.specs.Tokens.Number.{number_view}
@@ -34,7 +34,7 @@ abbrev pub PutsNumber : {A E : Type 0} → Types → ℕ → Target → Number �
 PutsNumber pool number meant value old new result =
     (m depth levels : ℕ) (base : List Record) (p0 u w : Place) (parents : List Parent) (scope : Scope) (next : Step)
     → After pool m depth levels base p0 parents next (part_view old) scope u → awaited next ≡ Some (tag number (wire_type (number_view value)) meant)
-    → Follows u (number_view value) w → OnOk result (Stands pool m depth levels base p0 parents (part_view new) (one_more_in number scope) w)
+    → Follows u (number_view value) w → OnOk result (Reached pool m depth levels base p0 parents (part_view new) (one_more_in number scope) w)
 
 -- an element of a packed list, which then goes on
 abbrev pub PutsElement : {A E : Type 0} → Types → ℕ → Kind → Number → Part → Part → Result A E → Type 0
@@ -48,7 +48,7 @@ abbrev pub PutsPayload : {A E : Type 0} → Types → ℕ → Target → List �
 PutsPayload pool number meant bytes old new result =
     (m depth levels n : ℕ) (base : List Record) (p0 u w : Place) (parents : List Parent) (scope : Scope)
     → After pool m depth levels base p0 parents (Payload number meant n) (part_view old) scope u → length bytes ≡ n → Moves u bytes w
-    → OnOk result (Stands pool m depth levels base p0 parents (part_view new) (one_more_in number scope) w)
+    → OnOk result (Reached pool m depth levels base p0 parents (part_view new) (one_more_in number scope) w)
 
 -- or they are no UTF-8, which is the fault of what is read
 abbrev pub RefusesPayload : {A : Type 0} → Types → ℕ → Target → List ℕ → Part → Result A PayloadError → Type 0

@@ -1,6 +1,6 @@
 //! Numbers at the start of bytes, and what they are as values.
 
-ghost use Rattle.std.specs.Prelude.{◌≡◌, ◌⊎◌, ℕ, IfSome};
+ghost use Rattle.std.specs.Prelude.{◌≡◌, ℕ, IfSome};
 ghost use Rattle.pb_wire.specs.Scan.{given_at, number_view, IsNumberType};
 ghost use Rattle.pb_schema.specs.Kinds.{read};
 ghost use Rattle.pb_value.specs.Data.{scalar};

@@ -78,7 +78,7 @@ pub fn put_payload(
     requires rules { IsPool pool.now }
     requires can { CanHold pool.now (part_view part.old) }
     requires bytes { IsBytesTarget target }
-    ensures stands { PutsPayload pool.now number target bytes.now part.old part.new result }
+    ensures reached { PutsPayload pool.now number target bytes.now part.old part.new result }
     ensures refused { RefusesPayload pool.now number target bytes.now part.old result }
     ensures same { IfErr result (λ e. IfBadText e (λ _. part.new ≡ part.old)) }
     ensures within { IfErr result (λ e. IfBadText e (λ valid. valid ≤ length bytes.now)) }

@@ -1,6 +1,6 @@
 //! Packed lists: runs of their elements, and the values of one that is complete.
 
-ghost use Rattle.std.specs.Prelude.{◌≡◌, ◌⊎◌, ◌≤◌, ◌<◌, [], None, IsTrue, length, IfOk, IfSome, IfNone};
+ghost use Rattle.std.specs.Prelude.{◌≡◌, ◌≤◌, ◌<◌, [], None, IsTrue, length, IfOk, IfSome, IfNone};
 ghost use Rattle.pb_schema.specs.Kinds.{wire_type_of, closed_enum};
 ghost use Rattle.pb_building.specs.Values.Puts.{GoesOn, TellsRun, ListGoesOn};
 ghost use Rattle.pb_wire.specs.Scan.{IsNumberType};

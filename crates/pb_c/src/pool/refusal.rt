@@ -23,12 +23,12 @@ pub struct Refusal {
 }
 
 /// Lays one text and then another over the front of a buffer, as much of both as it holds.
-pub(crate) fn lay_both(first: &[u8], second: &[u8], room: &mut [u8])
-    ensures { room.new ≡ laid_over (first.now ++ second.now) room.old }
+pub(crate) fn lay_both(first: &[u8], second: &[u8], buffer: &mut [u8])
+    ensures { buffer.new ≡ laid_over (first.now ++ second.now) buffer.old }
 {
-    let size = first.len().min(room.len());
-    lay_over(first, room);
-    lay_over(second, &mut room[size..]);
+    let size = first.len().min(buffer.len());
+    lay_over(first, buffer);
+    lay_over(second, &mut buffer[size..]);
 }
 
 /// Reports why a set is not read, and answers by its number.

@@ -13,14 +13,15 @@ ghost use Rattle.pb_decode.specs.Reader.Steps.{IsAtTag, IsAtLengthTag, TellsFaul
 use crate::error::DecodeError;
 use crate::reader::state::State;
 use pb_building::{
-    Entry, NoMemory, NumberToken, Part, PayloadError, RecordTag, Slot, Step, Target, close_part,
-    count_one, depth_left_in, group_end, has_level, is_free, left_after, number_at, put_number,
-    put_payload, put_run, read_run, record_tag, target_of,
+    Entry, NoMemory, Part, PayloadError, RecordTag, Slot, Step, Target, close_part, count_one,
+    depth_left_in, has_level, is_free, number_at, put_number, put_payload, put_run, read_run,
+    record_tag, target_of,
 };
 use pb_schema::{Kind, MessageId};
 use pb_value::bodies::empty_body;
 use pb_whole::reader::{Left, Reader};
 use pb_whole::tokens::{length_after, payload_after};
+use pb_wire::{Scanned, group_end, left_after};
 
 /// How many bytes are taken at once. There are none where the bytes end too early, and where only the reader of tokens goes on.
 type TakenWhole = Result<Option<usize>, NoMemory>;
@@ -45,7 +46,7 @@ impl State {
     {
         let after = left_after(self.left(), tag.size);
         match number_at(tag.wire_type, &bytes[tag.size..], after) {
-            NumberToken::Whole(value, size) => {
+            Scanned::Whole(value, size) => {
                 let target = target_of(by.pool, &self.part, tag.number, tag.wire_type);
                 put_number(by.alloc, by.pool, &mut self.part, tag.number, target, value)?;
                 count_one(&mut self.scope, tag.number)?;
@@ -53,8 +54,8 @@ impl State {
                 self.at += used as u32;
                 Ok(Some(used))
             }
-            NumberToken::Short => Ok(None),
-            NumberToken::Fault(_) => Ok(None),
+            Scanned::Short => Ok(None),
+            Scanned::Fault(_) => Ok(None),
         }
     }
 

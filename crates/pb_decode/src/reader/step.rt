@@ -13,13 +13,12 @@ ghost use Rattle.pb_schema.specs.Rules.{IsPool};
 use crate::error::DecodeError;
 use crate::reader::state::{State, Taken};
 use pb_building::{
-    NoMemory, NumberToken, PayloadError, RecordTag, Step, Target, count_one, group_end,
-    group_refusal, number_at, open_group, payload_size, prefix_number, put_element, put_number,
-    put_payload, tag_parts, tag_step, target_of,
+    NoMemory, PayloadError, RecordTag, Step, Target, count_one, group_refusal, number_at,
+    open_group, put_element, put_number, put_payload, tag_step, target_of,
 };
 use pb_schema::Kind;
 use pb_whole::reader::Reader;
-use pb_wire::Cause;
+use pb_wire::{Cause, Scanned, group_end, scan_length, scan_tag};
 
 /// Whether no byte is left, in the input or before the known end.
 fn is_spent(bytes: &[u8], left: Option<u32>) -> bool
@@ -47,15 +46,15 @@ impl State {
         ensures refused { TellsFault by.now.pool.now self.old bytes.now result }
     {
         match number_at(wire_type, bytes, self.left()) {
-            NumberToken::Whole(value, size) => {
+            Scanned::Whole(value, size) => {
                 put_number(by.alloc, by.pool, &mut self.part, number, target, value)?;
                 count_one(&mut self.scope, number)?;
                 self.at += size as u32;
                 self.step = Step::Tag;
                 Ok(Some(size))
             }
-            NumberToken::Short => Ok(None),
-            NumberToken::Fault(cause) => Err(self.fault_at(by.alloc, self.at, cause)),
+            Scanned::Short => Ok(None),
+            Scanned::Fault(cause) => Err(self.fault_at(by.alloc, self.at, cause)),
         }
     }
 
@@ -70,13 +69,13 @@ impl State {
         ensures refused { TellsFault by.now.pool.now self.old bytes.now result }
     {
         match number_at(kind.wire_type(), bytes, self.left()) {
-            NumberToken::Whole(value, size) => {
+            Scanned::Whole(value, size) => {
                 put_element(by.alloc, by.pool, &mut self.part, number, kind, value)?;
                 self.at += size as u32;
                 Ok(Some(size))
             }
-            NumberToken::Short => Ok(None),
-            NumberToken::Fault(cause) => Err(self.fault_at(by.alloc, self.at, cause)),
+            Scanned::Short => Ok(None),
+            Scanned::Fault(cause) => Err(self.fault_at(by.alloc, self.at, cause)),
         }
     }
 
@@ -89,19 +88,14 @@ impl State {
         ensures waits { IfOk result (λ o. IfNone o (Waits (state_view self.new) bytes.now)) }
         ensures refused { TellsFault by.now.pool.now self.old bytes.now result }
     {
-        match prefix_number(bytes, self.left()) {
-            Err(cause) => Err(self.fault_at(by.alloc, self.at, cause)),
-            Ok(None) => Ok(None),
-            Ok(Some((length, used))) => {
+        match scan_length(bytes, self.left()) {
+            Scanned::Whole(size, used) => {
                 let begin = self.at + used as u32;
-                match payload_size(length, begin, self.scope.end) {
-                    Err(cause) => Err(self.fault_at(by.alloc, self.at, cause)),
-                    Ok(size) => {
-                        self.advance_past_length(by.alloc, number, target, begin, size)?;
-                        Ok(Some(used))
-                    }
-                }
+                self.advance_past_length(by.alloc, number, target, begin, size)?;
+                Ok(Some(used))
             }
+            Scanned::Short => Ok(None),
+            Scanned::Fault(cause) => Err(self.fault_at(by.alloc, self.at, cause)),
         }
     }
 
@@ -206,21 +200,18 @@ impl State {
         if is_spent(bytes, self.left()) {
             return Ok(None);
         }
-        match prefix_number(bytes, self.left()) {
-            Ok(Some((tag, size))) => match tag_parts(tag) {
-                Ok((number, wire_type)) => {
-                    let tag = RecordTag {
-                        number,
-                        wire_type,
-                        size,
-                    };
-                    self.advance_past_tag(by, tag)?;
-                    Ok(Some(size))
-                }
-                Err(cause) => Err(self.fault_at(by.alloc, self.at, cause)),
-            },
-            Ok(None) => Ok(None),
-            Err(cause) => Err(self.fault_at(by.alloc, self.at, cause)),
+        match scan_tag(bytes, self.left()) {
+            Scanned::Whole(parts, size) => {
+                let tag = RecordTag {
+                    number: parts.number,
+                    wire_type: parts.wire_type,
+                    size,
+                };
+                self.advance_past_tag(by, tag)?;
+                Ok(Some(size))
+            }
+            Scanned::Short => Ok(None),
+            Scanned::Fault(cause) => Err(self.fault_at(by.alloc, self.at, cause)),
         }
     }
 

@@ -111,7 +111,7 @@ fn is_enum(declaration: &Declaration<'_>) -> bool
 
 /// One more, where that is so.
 fn one_if(is: bool, count: usize) -> usize
-    requires room { count + 1 < 2 ^ 64 }
+    requires small { count + 1 < 2 ^ 64 }
     ensures { result ≡ one_if is count }
 {
     if is { count + 1 } else { count }

@@ -13,7 +13,7 @@ use Rattle.pb_tokens.specs.declared.grammar.Syntax.{Syntax}
 use Rattle.pb_tokens.specs.declared.grammar.Syntax.TheVariants.{Proto2, Proto3}
 use Rattle.pb_tokens.specs.Symbols.{Symbol, word, number, text, sign}
 use Rattle.pb_tokens.specs.Said.{TypeSaid, joined}
-use Rattle.pb_tokens.specs.Readers.Forms.{Reader, answer, chain, mapped, both, behind, before, choice, by_kind, guarded, symbol, plain}
+use Rattle.pb_tokens.specs.Readers.Forms.{Reader, answer, chain, mapped, both, preceded, before, choice, by_kind, guarded, symbol, plain}
 use Rattle.pb_tokens.specs.Readers.Forms.{judged, is_keyword, is_mark, keyword_reader, mark_reader, until, to_end}
 use Rattle.pb_source.specs.declared.reading.Reading.{Reading}
 use Rattle.pb_source.specs.declared.reading.Reading.TheVariants as reading
@@ -42,7 +42,7 @@ is_closing = is_mark (codes "}")
 
 -- "{" { item } "}"
 abbrev pub braced : {I : Type 0} → ℕ → Reader I → Reader (List I)
-braced n item = behind (mark_reader (codes "{")) (until n is_closing item (mark_reader (codes "}")) [])
+braced n item = preceded (mark_reader (codes "{")) (until n is_closing item (mark_reader (codes "}")) [])
 
 -- a line that is there where a test says so
 abbrev pub taken : {A : Type 0} → Bool → Reader A → Option (Reader A)
@@ -53,7 +53,7 @@ taken false p = None
 
 -- word "=" integer [ opts ] ";"
 unfoldable pub field_tail_reader : Grammar → ℕ → Reader (List ℕ × (ℕ × Option Bool))
-field_tail_reader g n = both name_reader (behind (mark_reader (codes "=")) (both counted_reader (field_end_reader g n)))
+field_tail_reader g n = both name_reader (preceded (mark_reader (codes "=")) (both counted_reader (field_end_reader g n)))
 
 abbrev pub field_from : Label → TypeSaid × (List ℕ × (ℕ × Option Bool)) → DeclaredField
 field_from l x = field_of l x.0 x.1.0 x.1.1.0 x.1.1.1
@@ -92,7 +92,7 @@ group_name_reader = symbol (plain group_name_in)
 -- "group" groupname "=" integer [ opts ] "{"
 unfoldable pub group_head_reader : Grammar → ℕ → Reader (List ℕ × (ℕ × Option Bool))
 group_head_reader g n =
-    behind (keyword_reader (codes "group")) (both group_name_reader (behind (mark_reader (codes "=")) (both counted_reader (group_end_reader g n))))
+    preceded (keyword_reader (codes "group")) (both group_name_reader (preceded (mark_reader (codes "=")) (both counted_reader (group_end_reader g n))))
 
 abbrev pub group_from : Label → (List ℕ × (ℕ × Option Bool)) × List MessageStatement → Member
 group_from l x = (group_field l x.0.0 x.0.1.0 x.0.1.1, Some (message_of x.0.0 x.1))
@@ -137,12 +137,12 @@ map_from x = record { key = x.0; value = x.1.0; name = x.1.1.0; number = x.1.1.1
 -- "<" keytype "," type ">" word "=" integer [ opts ] ";"
 unfoldable pub map_tail_reader : Grammar → ℕ → Reader MapDecl
 map_tail_reader g n =
-    behind (mark_reader (codes "<")) (mapped map_from
-    (both key_reader (behind (mark_reader (codes ",")) (both (type_reader n) (behind (mark_reader (codes ">")) (field_tail_reader g n))))))
+    preceded (mark_reader (codes "<")) (mapped map_from
+    (both key_reader (preceded (mark_reader (codes ",")) (both (type_reader n) (preceded (mark_reader (codes ">")) (field_tail_reader g n))))))
 
 -- { "." word }
 unfoldable pub dotted_reader : ℕ → Reader (List (List ℕ))
-dotted_reader n = choice is_dot (behind (mark_reader (codes ".")) (fullname_reader n)) (answer [])
+dotted_reader n = choice is_dot (preceded (mark_reader (codes ".")) (fullname_reader n)) (answer [])
 
 -- a field of a type whose name begins with the word `map`, from after that word
 unfoldable pub of_map_reader : Grammar → ℕ → Reader DeclaredField
@@ -156,7 +156,7 @@ map_rest_reader false g n =
 
 -- a map field, or but in proto2 a field of a type whose name begins with the word `map`
 unfoldable pub map_reader : Grammar → ℕ → Reader MessageStatement
-map_reader g n = behind (keyword_reader (codes "map")) (map_rest_reader (is_proto2 g) g n)
+map_reader g n = preceded (keyword_reader (codes "map")) (map_rest_reader (is_proto2 g) g n)
 
 -- ---- kinds of statements
 
@@ -190,14 +190,14 @@ oneof_statement_reader g n nested = by_kind oneof_kind (oneof_line g n nested)
 
 -- the name, and the fields
 unfoldable pub oneof_reader : Grammar → ℕ → Nested → Reader (List ℕ × List Member)
-oneof_reader g n nested = behind (keyword_reader (codes "oneof")) (both name_reader (mapped those_said (braced n (oneof_statement_reader g n nested))))
+oneof_reader g n nested = preceded (keyword_reader (codes "oneof")) (both name_reader (mapped those_said (braced n (oneof_statement_reader g n nested))))
 
 -- ---- reserved
 
 -- reserved  = "reserved" ( range { "," range } | text { "," text } ) ";"
 unfoldable pub reserved_reader : {A : Type 0} → ℕ → Reader (ℤ × ℤ) → (List (ℤ × ℤ) → A) → (List (List ℕ) → A) → Reader A
 reserved_reader n range of_ranges of_names =
-    behind (keyword_reader (codes "reserved"))
+    preceded (keyword_reader (codes "reserved"))
     (choice is_text
     (mapped of_names (before (listed n utf8_reader) (mark_reader (codes ";"))))
     (mapped of_ranges (before (listed n range) (mark_reader (codes ";")))))
@@ -215,12 +215,12 @@ enum_kind =
 -- word "=" [ "-" ] integer [ opts ] ";"
 unfoldable pub value_reader : Grammar → ℕ → Reader EnumStatement
 value_reader g n =
-    mapped (λ x. EnumStatement.a_value x.0 x.1) (both name_reader (behind (mark_reader (codes "=")) (before signed_reader (value_end_reader g n))))
+    mapped (λ x. EnumStatement.a_value x.0 x.1) (both name_reader (preceded (mark_reader (codes "=")) (before signed_reader (value_end_reader g n))))
 
 abbrev pub enum_statement_line : Grammar → ℕ → EnumKind → Option (Reader EnumStatement)
 enum_statement_line g n in_enum.Empty = Some (mapped (λ _. EnumStatement.nothing_said) (mark_reader (codes ";")))
 enum_statement_line g n in_enum.Option =
-    Some (mapped said_of_alias (behind (keyword_reader (codes "option")) (before (setting_reader g n (codes "allow_alias")) (mark_reader (codes ";")))))
+    Some (mapped said_of_alias (preceded (keyword_reader (codes "option")) (before (setting_reader g n (codes "allow_alias")) (mark_reader (codes ";")))))
 enum_statement_line g n in_enum.Reserved = Some (reserved_reader n enum_range_reader EnumStatement.reserved_ranges EnumStatement.reserved_names)
 enum_statement_line g n in_enum.Value = Some (value_reader g n)
 
@@ -228,7 +228,7 @@ unfoldable pub enum_statement_reader : Grammar → ℕ → Reader EnumStatement
 enum_statement_reader g n = by_kind enum_kind (enum_statement_line g n)
 
 unfoldable pub enum_reader : Grammar → ℕ → Reader DeclaredEnum
-enum_reader g n = mapped (λ x. enum_of x.0 x.1) (behind (keyword_reader (codes "enum")) (both name_reader (braced n (enum_statement_reader g n))))
+enum_reader g n = mapped (λ x. enum_of x.0 x.1) (preceded (keyword_reader (codes "enum")) (both name_reader (braced n (enum_statement_reader g n))))
 
 -- ---- extensions
 
@@ -245,7 +245,7 @@ extend_kind =
 
 -- a field or a group after the word of its label
 abbrev pub labelled_reader : Grammar → ℕ → List ℕ → Label → Nested → Reader Member
-labelled_reader g n w l nested = behind (keyword_reader w) (member_reader g n l nested)
+labelled_reader g n w l nested = preceded (keyword_reader w) (member_reader g n l nested)
 
 -- the message of a group
 abbrev pub group_in : Member → Option DeclaredMessage
@@ -265,13 +265,13 @@ extension_reader g n nested = by_kind extend_kind (extension_line g n nested)
 -- extend    = "extend" typename "{" { field | ";" } "}"
 unfoldable pub extend_reader : Grammar → ℕ → Nested → Reader (List DeclaredMessage)
 extend_reader g n nested =
-    behind (keyword_reader (codes "extend"))
-    (behind (mapped (λ _. tt) (typename_reader n)) (mapped those_said (braced n (extension_reader g n nested))))
+    preceded (keyword_reader (codes "extend"))
+    (preceded (mapped (λ _. tt) (typename_reader n)) (mapped those_said (braced n (extension_reader g n nested))))
 
 -- extensions = "extensions" range { "," range } [ opts ] ";"
 unfoldable pub extensions_reader : Grammar → ℕ → Reader (Unit {0})
 extensions_reader g n =
-    behind (keyword_reader (codes "extensions")) (behind (mapped (λ _. tt) (listed n message_range_reader)) (value_end_reader g n))
+    preceded (keyword_reader (codes "extensions")) (preceded (mapped (λ _. tt) (listed n message_range_reader)) (value_end_reader g n))
 
 -- ---- messages
 
@@ -289,7 +289,7 @@ message_kind =
 -- "message" word "{" { statement } "}", by the reader of the statements, up to the closing brace
 unfoldable pub message_line_reader : Reader (List MessageStatement) → Reader DeclaredMessage
 message_line_reader body =
-    mapped (λ x. message_of x.0 x.1) (behind (keyword_reader (codes "message")) (both name_reader (behind (mark_reader (codes "{")) body)))
+    mapped (λ x. message_of x.0 x.1) (preceded (keyword_reader (codes "message")) (both name_reader (preceded (mark_reader (codes "{")) body)))
 
 abbrev pub nested_message_reader : Nested → Option (Reader MessageStatement)
 nested_message_reader Nested.none = None
@@ -334,18 +334,18 @@ body_reader n statement = until n is_closing statement (mark_reader (codes "}"))
 -- what nests in a message, where this many levels are left: as many messages may nest in it, each in the one before
 unfoldable pub nested_in : Grammar → ℕ → ℕ → Nested
 nested_in g n zero = Nested.beyond (body_reader n (message_statement_reader g n Nested.none))
-nested_in g n (suc room) = Nested.inside (body_reader n (message_statement_reader g n (nested_in g n room)))
+nested_in g n (suc depth_left) = Nested.inside (body_reader n (message_statement_reader g n (nested_in g n depth_left)))
 
 -- a statement of a message with these levels left
 abbrev pub room_statement_reader : Grammar → ℕ → ℕ → Reader MessageStatement
-room_statement_reader g n room = message_statement_reader g n (nested_in g n room)
+room_statement_reader g n depth_left = message_statement_reader g n (nested_in g n depth_left)
 
 abbrev pub room_body_reader : Grammar → ℕ → ℕ → Reader (List MessageStatement)
-room_body_reader g n room = body_reader n (room_statement_reader g n room)
+room_body_reader g n depth_left = body_reader n (room_statement_reader g n depth_left)
 
 -- a message with these levels left
 abbrev pub message_reader : Grammar → ℕ → ℕ → Reader DeclaredMessage
-message_reader g n room = message_line_reader (room_body_reader g n room)
+message_reader g n depth_left = message_line_reader (room_body_reader g n depth_left)
 
 -- ---- services
 
@@ -355,7 +355,7 @@ streams = is_keyword (codes "stream")
 -- [ "stream" ] typename, and whether it is streamed
 unfoldable pub streamed_reader : ℕ → Reader (Bool × List ℕ)
 streamed_reader n =
-    choice streams (mapped (λ t. (true, t)) (behind (keyword_reader (codes "stream")) (typename_reader n))) (mapped (λ t. (false, t)) (typename_reader n))
+    choice streams (mapped (λ t. (true, t)) (preceded (keyword_reader (codes "stream")) (typename_reader n))) (mapped (λ t. (false, t)) (typename_reader n))
 
 abbrev pub method_kind : Symbol → Option MethodKind
 method_kind = kind_of ((codes "option", Some in_method.Option) ∷ []) None ((codes ";", Some in_method.Empty) ∷ [])
@@ -377,12 +377,12 @@ method_from x = record { name = x.0; input = x.1.0.1; output = x.1.1.1; client_s
 
 -- "(" [ "stream" ] typename ")"
 unfoldable pub parameter_reader : ℕ → Reader (Bool × List ℕ)
-parameter_reader n = behind (mark_reader (codes "(")) (before (streamed_reader n) (mark_reader (codes ")")))
+parameter_reader n = preceded (mark_reader (codes "(")) (before (streamed_reader n) (mark_reader (codes ")")))
 
 unfoldable pub method_reader : Grammar → ℕ → Reader DeclaredMethod
 method_reader g n =
-    mapped method_from (behind (keyword_reader (codes "rpc"))
-    (both name_reader (both (parameter_reader n) (behind (keyword_reader (codes "returns")) (before (parameter_reader n) (method_end_reader g n))))))
+    mapped method_from (preceded (keyword_reader (codes "rpc"))
+    (both name_reader (both (parameter_reader n) (preceded (keyword_reader (codes "returns")) (before (parameter_reader n) (method_end_reader g n))))))
 
 abbrev pub service_kind : Symbol → Option ServiceKind
 service_kind = kind_of ((codes "option", Some in_service.Option) ∷ (codes "rpc", Some in_service.Method) ∷ []) None ((codes ";", Some in_service.Empty) ∷ [])
@@ -399,7 +399,7 @@ abbrev pub service_from : List ℕ × List (Option DeclaredMethod) → DeclaredS
 service_from x = record { name = x.0; methods = those_said x.1 }
 
 unfoldable pub service_reader : Grammar → ℕ → Reader DeclaredService
-service_reader g n = mapped service_from (behind (keyword_reader (codes "service")) (both name_reader (braced n (service_statement_reader g n))))
+service_reader g n = mapped service_from (preceded (keyword_reader (codes "service")) (both name_reader (braced n (service_statement_reader g n))))
 
 -- ---- files
 
@@ -411,11 +411,11 @@ access_reader =
 
 -- import    = "import" [ "weak" | "public" ] text ";"
 unfoldable pub import_reader : Reader (Bool × List ℕ)
-import_reader = behind (keyword_reader (codes "import")) (both access_reader (before utf8_reader (mark_reader (codes ";"))))
+import_reader = preceded (keyword_reader (codes "import")) (both access_reader (before utf8_reader (mark_reader (codes ";"))))
 
 -- package   = "package" fullname ";"
 unfoldable pub package_reader : ℕ → Reader (List ℕ)
-package_reader n = mapped joined (behind (keyword_reader (codes "package")) (before (fullname_reader n) (mark_reader (codes ";"))))
+package_reader n = mapped joined (preceded (keyword_reader (codes "package")) (before (fullname_reader n) (mark_reader (codes ";"))))
 
 abbrev pub file_kind : Symbol → Option FileKind
 file_kind =
@@ -453,8 +453,8 @@ syntax_text_in (sign c) = None
 -- syntax    = "syntax" "=" text ";", read strictly
 unfoldable pub strict_syntax_reader : Reader (Unit {0})
 strict_syntax_reader =
-    behind (symbol (judged syntax_first syntax_word_in)) (behind (mark_reader (codes "="))
-    (behind (symbol (judged syntax_first syntax_text_in)) (mark_reader (codes ";"))))
+    preceded (symbol (judged syntax_first syntax_word_in)) (preceded (mark_reader (codes "="))
+    (preceded (symbol (judged syntax_first syntax_text_in)) (mark_reader (codes ";"))))
 
 -- the syntax that a text names, and whether it is one
 abbrev pub named_syntax : List ℕ → Syntax × Bool
@@ -469,7 +469,7 @@ named_syntax_in (sign c) = None
 -- syntax    = "syntax" "=" text ";", read leniently
 unfoldable pub lenient_syntax_reader : Reader Syntax
 lenient_syntax_reader =
-    behind (keyword_reader (codes "syntax")) (behind (mark_reader (codes "=")) (before (symbol (judged syntax_first named_syntax_in)) (mark_reader (codes ";"))))
+    preceded (keyword_reader (codes "syntax")) (preceded (mark_reader (codes "=")) (before (symbol (judged syntax_first named_syntax_in)) (mark_reader (codes ";"))))
 
 abbrev pub begins_syntax : Symbol → Bool
 begins_syntax = is_keyword (codes "syntax")

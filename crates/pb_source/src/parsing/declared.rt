@@ -181,7 +181,7 @@ fn add_member(message: &mut MessageParts, member: MemberSaid) -> Result<(), Allo
     Ok(())
 }
 
-/// Puts the fields of a oneof, before which this many others stand, after other fields, and the messages of its groups after other messages.
+/// Puts the fields of a oneof, before which there are this many others, after other fields, and the messages of its groups after other messages.
 fn add_members(
     fields: &mut Vec<FieldDecl>,
     messages: &mut Vec<MessageDecl>,

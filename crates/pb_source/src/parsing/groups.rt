@@ -1,4 +1,4 @@
-//! What stands before the statements of a group (Protocol Buffers Language Specification (Proto2), "Group field").
+//! What comes before the statements of a group (Protocol Buffers Language Specification (Proto2), "Group field").
 
 ghost use Rattle.std.specs.Prelude.{◌≡◌, ◌≤◌, ◌<◌, length, IfOk};
 ghost use Rattle.pb_declarations.specs.View.{field_view};

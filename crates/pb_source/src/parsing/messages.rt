@@ -1,6 +1,6 @@
 //! Messages, and what messages nest in: groups, and the oneofs and blocks of `extend` that have groups.
 //!
-//! `room` is how many levels are left: as many messages may nest in one, each in the one before.
+//! `depth_left` is how many levels are left: as many messages may nest in one, each in the one before.
 
 ghost use Rattle.std.specs.Prelude.{◌≡◌, ◌≤◌, ◌<◌, ◌++◌, [], length, map, codes, string_bytes, option_map, option_to_list, IfOk, OnOk, true};
 ghost use Rattle.pb_declarations.specs.View.{message_view};
@@ -37,23 +37,30 @@ use std::alloc::{AllocError, Global};
 fn member(
     alloc: Global,
     grammar: Grammar,
-    room: u8,
+    depth_left: u8,
     label: Label,
     symbols: &[Placed],
     at: usize,
 ) -> Result<(MemberSaid, usize), Refusal>
     ensures within { IfOk result (λ x. (at < x.1) × (x.1 ≤ length symbols.now)) }
-    ensures read { ReadsInSteps symbols.now at (λ x. (member_view x.0, x.1)) result (λ n. member_reader grammar n label (nested_in grammar n room)) }
+    ensures read { ReadsInSteps symbols.now at (λ x. (member_view x.0, x.1)) result (λ n. member_reader grammar n label (nested_in grammar n depth_left)) }
 {
     if is_proto2(grammar) && begins_with("group", symbols, at) {
-        if room == 0 {
+        if depth_left == 0 {
             return Err(Refusal::At {
                 at,
                 rule: Some(Rule::NestsBounded),
             });
         }
         let (head, after) = group_head(alloc, grammar, symbols, at)?;
-        let (message, after) = message_body(alloc, grammar, room - 1, head.name, symbols, after)?;
+        let (message, after) = message_body(
+            alloc,
+            grammar,
+            depth_left - 1,
+            head.name,
+            symbols,
+            after,
+        )?;
         let field = group_field(alloc, label, &head)?;
         let member = MemberSaid {
             field,
@@ -70,7 +77,7 @@ fn member(
 fn labelled(
     alloc: Global,
     grammar: Grammar,
-    room: u8,
+    depth_left: u8,
     word: &str,
     label: Label,
     symbols: &[Placed],
@@ -78,10 +85,10 @@ fn labelled(
 ) -> Result<(MemberSaid, usize), Refusal>
     ensures within { IfOk result (λ x. (at < x.1) × (x.1 ≤ length symbols.now)) }
     ensures read { ReadsInSteps symbols.now at (λ x. (member_view x.0, x.1)) result
-        (λ n. labelled_reader grammar n word.now label (nested_in grammar n room)) }
+        (λ n. labelled_reader grammar n word.now label (nested_in grammar n depth_left)) }
 {
     let after = keyword(word, symbols, at)?;
-    let (member, after) = member(alloc, grammar, room, label, symbols, after)?;
+    let (member, after) = member(alloc, grammar, depth_left, label, symbols, after)?;
     Ok((member, after))
 }
 
@@ -92,13 +99,13 @@ fn labelled(
 fn oneof_statement(
     alloc: Global,
     grammar: Grammar,
-    room: u8,
+    depth_left: u8,
     symbols: &[Placed],
     at: usize,
 ) -> Result<(Option<MemberSaid>, usize), Refusal>
     ensures within { IfOk result (λ x. (at < x.1) × (x.1 ≤ length symbols.now)) }
     ensures read { ReadsInSteps symbols.now at (λ x. (option_map member_view x.0, x.1)) result
-        (λ n. oneof_statement_reader grammar n (nested_in grammar n room)) }
+        (λ n. oneof_statement_reader grammar n (nested_in grammar n depth_left)) }
 {
     let Some(first) = symbol_at(symbols, at) else {
         return Err(Refusal::At { at, rule: None });
@@ -113,7 +120,14 @@ fn oneof_statement(
             Ok((None, after))
         }
         Some(OneofKind::Field) => {
-            let (member, after) = member(alloc, grammar, room, Label::Unlabelled, symbols, at)?;
+            let (member, after) = member(
+                alloc,
+                grammar,
+                depth_left,
+                Label::Unlabelled,
+                symbols,
+                at,
+            )?;
             Ok((Some(member), after))
         }
         None => Err(Refusal::At { at, rule: None }),
@@ -135,19 +149,19 @@ fn push_member(members: &mut Vec<MemberSaid>, said: Option<MemberSaid>) -> Resul
 fn oneof_body(
     alloc: Global,
     grammar: Grammar,
-    room: u8,
+    depth_left: u8,
     symbols: &[Placed],
     at: usize,
 ) -> Result<(Vec<MemberSaid>, usize), Refusal>
     requires { at ≤ length symbols.now }
     ensures within { IfOk result (λ x. (at < x.1) × (x.1 ≤ length symbols.now)) }
     ensures read { ReadsInSteps symbols.now at (λ x. (map member_view x.0.items, x.1)) result
-        (λ n. mapped those_said (until n is_closing (oneof_statement_reader grammar n (nested_in grammar n room)) (mark_reader (codes "}")) [])) }
+        (λ n. mapped those_said (until n is_closing (oneof_statement_reader grammar n (nested_in grammar n depth_left)) (mark_reader (codes "}")) [])) }
 {
     let mut members = Vec::new(alloc);
     let mut here = at;
     while !begins_with_mark("}", symbols, here) {
-        let (said, after) = oneof_statement(alloc, grammar, room, symbols, here)?;
+        let (said, after) = oneof_statement(alloc, grammar, depth_left, symbols, here)?;
         push_member(&mut members, said)?;
         here = after;
     }
@@ -160,18 +174,18 @@ fn oneof_body(
 fn oneof(
     alloc: Global,
     grammar: Grammar,
-    room: u8,
+    depth_left: u8,
     symbols: &[Placed],
     at: usize,
 ) -> Result<((String, Vec<MemberSaid>), usize), Refusal>
     ensures within { IfOk result (λ x. (at < x.1) × (x.1 ≤ length symbols.now)) }
     ensures read { ReadsInSteps symbols.now at (λ x. ((string_bytes x.0.0, map member_view x.0.1.items), x.1)) result
-        (λ n. oneof_reader grammar n (nested_in grammar n room)) }
+        (λ n. oneof_reader grammar n (nested_in grammar n depth_left)) }
 {
     let after = keyword("oneof", symbols, at)?;
     let (name, after) = name(symbols, after)?;
     let after = mark("{", symbols, after)?;
-    let (members, after) = oneof_body(alloc, grammar, room, symbols, after)?;
+    let (members, after) = oneof_body(alloc, grammar, depth_left, symbols, after)?;
     let name = String::from_str(alloc, name)?;
     Ok(((name, members), after))
 }
@@ -183,13 +197,13 @@ fn oneof(
 fn extension(
     alloc: Global,
     grammar: Grammar,
-    room: u8,
+    depth_left: u8,
     symbols: &[Placed],
     at: usize,
 ) -> Result<(Option<MessageDecl>, usize), Refusal>
     ensures within { IfOk result (λ x. (at < x.1) × (x.1 ≤ length symbols.now)) }
     ensures read { ReadsInSteps symbols.now at (λ x. (option_map message_view x.0, x.1)) result
-        (λ n. extension_reader grammar n (nested_in grammar n room)) }
+        (λ n. extension_reader grammar n (nested_in grammar n depth_left)) }
 {
     let Some(first) = symbol_at(symbols, at) else {
         return Err(Refusal::At { at, rule: None });
@@ -203,7 +217,7 @@ fn extension(
             let (member, after) = labelled(
                 alloc,
                 grammar,
-                room,
+                depth_left,
                 "repeated",
                 Label::Repeated,
                 symbols,
@@ -213,7 +227,9 @@ fn extension(
         }
         Some(ExtendKind::Optional) => {
             let label = optional_label(grammar);
-            let (member, after) = labelled(alloc, grammar, room, "optional", label, symbols, at)?;
+            let (member, after) = labelled(
+                alloc, grammar, depth_left, "optional", label, symbols, at,
+            )?;
             Ok((member.group, after))
         }
         Some(ExtendKind::Required) => {
@@ -223,7 +239,7 @@ fn extension(
             let (member, after) = labelled(
                 alloc,
                 grammar,
-                room,
+                depth_left,
                 "required",
                 Label::Unlabelled,
                 symbols,
@@ -257,19 +273,19 @@ fn push_group(groups: &mut Vec<MessageDecl>, said: Option<MessageDecl>) -> Resul
 fn extend_body(
     alloc: Global,
     grammar: Grammar,
-    room: u8,
+    depth_left: u8,
     symbols: &[Placed],
     at: usize,
 ) -> Result<(Vec<MessageDecl>, usize), Refusal>
     requires { at ≤ length symbols.now }
     ensures within { IfOk result (λ x. (at < x.1) × (x.1 ≤ length symbols.now)) }
     ensures read { ReadsInSteps symbols.now at (λ x. (map message_view x.0.items, x.1)) result
-        (λ n. mapped those_said (until n is_closing (extension_reader grammar n (nested_in grammar n room)) (mark_reader (codes "}")) [])) }
+        (λ n. mapped those_said (until n is_closing (extension_reader grammar n (nested_in grammar n depth_left)) (mark_reader (codes "}")) [])) }
 {
     let mut groups = Vec::new(alloc);
     let mut here = at;
     while !begins_with_mark("}", symbols, here) {
-        let (said, after) = extension(alloc, grammar, room, symbols, here)?;
+        let (said, after) = extension(alloc, grammar, depth_left, symbols, here)?;
         push_group(&mut groups, said)?;
         here = after;
     }
@@ -282,18 +298,18 @@ fn extend_body(
 pub(crate) fn extend(
     alloc: Global,
     grammar: Grammar,
-    room: u8,
+    depth_left: u8,
     symbols: &[Placed],
     at: usize,
 ) -> Result<(Vec<MessageDecl>, usize), Refusal>
     ensures within { IfOk result (λ x. (at < x.1) × (x.1 ≤ length symbols.now)) }
     ensures read { ReadsInSteps symbols.now at (λ x. (map message_view x.0.items, x.1)) result
-        (λ n. extend_reader grammar n (nested_in grammar n room)) }
+        (λ n. extend_reader grammar n (nested_in grammar n depth_left)) }
 {
     let after = keyword("extend", symbols, at)?;
     let (_, after) = typename(alloc, symbols, after)?;
     let after = mark("{", symbols, after)?;
-    let (groups, after) = extend_body(alloc, grammar, room, symbols, after)?;
+    let (groups, after) = extend_body(alloc, grammar, depth_left, symbols, after)?;
     Ok((groups, after))
 }
 
@@ -304,7 +320,7 @@ pub(crate) fn extend(
 fn nesting_statement(
     alloc: Global,
     grammar: Grammar,
-    room: u8,
+    depth_left: u8,
     kind: MessageKind,
     symbols: &[Placed],
     at: usize,
@@ -313,25 +329,25 @@ fn nesting_statement(
     ensures within { IfOk result (λ x. (at < x.1) × (x.1 ≤ length symbols.now)) }
     ensures bound { IfOk result (λ x. IsCounted x.0) }
     ensures read { ReadsInSteps symbols.now at (λ x. (message_statement_view x.0, x.1)) result
-        (λ n. if_some (message_statement_line grammar n (nested_in grammar n room) kind)) }
+        (λ n. if_some (message_statement_line grammar n (nested_in grammar n depth_left) kind)) }
 {
     match kind {
         MessageKind::Oneof => {
-            let ((name, members), after) = oneof(alloc, grammar, room, symbols, at)?;
+            let ((name, members), after) = oneof(alloc, grammar, depth_left, symbols, at)?;
             Ok((MessageSaid::Oneof(name, members), after))
         }
         MessageKind::Extend => {
             if !is_lenient(grammar) {
                 return Err(Refusal::At { at, rule: None });
             }
-            let (groups, after) = extend(alloc, grammar, room, symbols, at)?;
+            let (groups, after) = extend(alloc, grammar, depth_left, symbols, at)?;
             Ok((MessageSaid::Extend(groups), after))
         }
         MessageKind::Repeated => {
             let (member, after) = labelled(
                 alloc,
                 grammar,
-                room,
+                depth_left,
                 "repeated",
                 Label::Repeated,
                 symbols,
@@ -341,7 +357,9 @@ fn nesting_statement(
         }
         MessageKind::Optional => {
             let label = optional_label(grammar);
-            let (member, after) = labelled(alloc, grammar, room, "optional", label, symbols, at)?;
+            let (member, after) = labelled(
+                alloc, grammar, depth_left, "optional", label, symbols, at,
+            )?;
             Ok((MessageSaid::Field(member), after))
         }
         MessageKind::Required => {
@@ -351,7 +369,7 @@ fn nesting_statement(
             let (member, after) = labelled(
                 alloc,
                 grammar,
-                room,
+                depth_left,
                 "required",
                 Label::Unlabelled,
                 symbols,
@@ -389,32 +407,32 @@ fn is_nesting(kind: MessageKind) -> bool
 fn message_statement(
     alloc: Global,
     grammar: Grammar,
-    room: u8,
+    depth_left: u8,
     symbols: &[Placed],
     at: usize,
 ) -> Result<(MessageSaid, usize), Refusal>
     ensures within { IfOk result (λ x. (at < x.1) × (x.1 ≤ length symbols.now)) }
     ensures bound { IfOk result (λ x. IsCounted x.0) }
-    ensures read { ReadsInSteps symbols.now at (λ x. (message_statement_view x.0, x.1)) result (λ n. room_statement_reader grammar n room) }
+    ensures read { ReadsInSteps symbols.now at (λ x. (message_statement_view x.0, x.1)) result (λ n. room_statement_reader grammar n depth_left) }
 {
     let Some(first) = symbol_at(symbols, at) else {
         return Err(Refusal::At { at, rule: None });
     };
     match message_kind(&first.symbol) {
         Some(MessageKind::Message) => {
-            if room == 0 {
+            if depth_left == 0 {
                 return Err(Refusal::At {
                     at,
                     rule: Some(Rule::NestsBounded),
                 });
             }
-            let (inner, after) = message(alloc, grammar, room - 1, symbols, at)?;
+            let (inner, after) = message(alloc, grammar, depth_left - 1, symbols, at)?;
             Ok((MessageSaid::Message(inner), after))
         }
         Some(kind) => {
             if is_nesting(kind) {
                 let (statement, after) = nesting_statement(
-                    alloc, grammar, room, kind, symbols, at,
+                    alloc, grammar, depth_left, kind, symbols, at,
                 )?;
                 return Ok((statement, after));
             }
@@ -430,7 +448,7 @@ fn message_statement(
 fn message_body(
     alloc: Global,
     grammar: Grammar,
-    room: u8,
+    depth_left: u8,
     name: &str,
     symbols: &[Placed],
     at: usize,
@@ -438,12 +456,12 @@ fn message_body(
     requires { at ≤ length symbols.now }
     ensures within { IfOk result (λ x. (at < x.1) × (x.1 ≤ length symbols.now)) }
     ensures read { ReadsInSteps symbols.now at (λ x. (message_view x.0, x.1)) result
-        (λ n. mapped (message_of name.now) (until n is_closing (room_statement_reader grammar n room) (mark_reader (codes "}")) [])) }
+        (λ n. mapped (message_of name.now) (until n is_closing (room_statement_reader grammar n depth_left) (mark_reader (codes "}")) [])) }
 {
     let mut parts = MessageParts::new(alloc);
     let mut here = at;
     while !begins_with_mark("}", symbols, here) {
-        let (statement, after) = message_statement(alloc, grammar, room, symbols, here)?;
+        let (statement, after) = message_statement(alloc, grammar, depth_left, symbols, here)?;
         add_statement(alloc, &mut parts, statement)?;
         here = after;
     }
@@ -457,16 +475,16 @@ fn message_body(
 pub(crate) fn message(
     alloc: Global,
     grammar: Grammar,
-    room: u8,
+    depth_left: u8,
     symbols: &[Placed],
     at: usize,
 ) -> Result<(MessageDecl, usize), Refusal>
     ensures within { IfOk result (λ x. (at < x.1) × (x.1 ≤ length symbols.now)) }
-    ensures read { ReadsInSteps symbols.now at (λ x. (message_view x.0, x.1)) result (λ n. message_reader grammar n room) }
+    ensures read { ReadsInSteps symbols.now at (λ x. (message_view x.0, x.1)) result (λ n. message_reader grammar n depth_left) }
 {
     let after = keyword("message", symbols, at)?;
     let (name, after) = name(symbols, after)?;
     let after = mark("{", symbols, after)?;
-    let (decl, after) = message_body(alloc, grammar, room, name, symbols, after)?;
+    let (decl, after) = message_body(alloc, grammar, depth_left, name, symbols, after)?;
     Ok((decl, after))
 }

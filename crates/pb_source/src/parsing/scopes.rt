@@ -12,7 +12,7 @@ use pb_declarations::{FieldDecl, FileDecl, MessageDecl};
 use pb_tokens::grammar::Grammar;
 use std::alloc::{AllocError, Global};
 
-/// Appends a name to the scope that it stands in.
+/// Appends a name to the scope that it is declared in.
 fn push_name(scope: &mut String, name: &str) -> Result<(), AllocError>
     ensures { OnOk result (string_bytes scope.new ≡ in_scope (string_bytes scope.old) name.now) }
 {

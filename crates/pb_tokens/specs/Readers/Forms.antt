@@ -39,14 +39,14 @@ abbrev pub both : {A B : Type 0} → Reader A → Reader B → Reader (A × B)
 both p q = chain p (λ v. mapped (λ w. (v, w)) q)
 
 -- a reader after one whose value says nothing
-abbrev pub behind : {B : Type 0} → Reader (Unit {0}) → Reader B → Reader B
-behind p q = chain p (λ _. q)
+abbrev pub preceded : {B : Type 0} → Reader (Unit {0}) → Reader B → Reader B
+preceded p q = chain p (λ _. q)
 
 -- a reader before one whose value says nothing
 abbrev pub before : {A : Type 0} → Reader A → Reader (Unit {0}) → Reader A
 before p q = chain p (λ v. mapped (λ _. v) q)
 
--- ---- by the symbol that stands first
+-- ---- by the first symbol
 
 abbrev pub first_passes : (Symbol → Bool) → List Symbol → Bool
 first_passes test [] = false
@@ -143,13 +143,13 @@ until (suc n) test item close front rules ts = choice test (mapped (λ _. front)
 abbrev pub separated : {I : Type 0} → ℕ → (Symbol → Bool) → Reader I → Reader (Unit {0}) → Reader (List I)
 separated zero test item separator rules ts = Err ([], None)
 separated (suc n) test item separator rules ts =
-    chain item (λ i. choice test (behind separator (mapped (λ is. i ∷ is) (separated n test item separator))) (answer (i ∷ []))) rules ts
+    chain item (λ i. choice test (preceded separator (mapped (λ is. i ∷ is) (separated n test item separator))) (answer (i ∷ []))) rules ts
 
 abbrev pub on_rest : {I : Type 0} → List I → List Symbol → Outcome (List I) → Outcome (List I)
 on_rest front [] o = Ok (front, [])
 on_rest front (s ∷ ts) o = o
 
--- { item } up to the end, after the items of front, where an item is read by whether a marked one stands before it
+-- { item } up to the end, after the items of front, where an item is read by whether a marked one comes before it
 abbrev pub to_end : {I : Type 0} → ℕ → (I → Bool) → (Bool → Reader I) → Bool → List I → Reader (List I)
 to_end zero marks item marked front rules ts = on_rest front ts (Err ([], None))
 to_end (suc n) marks item marked front rules ts =

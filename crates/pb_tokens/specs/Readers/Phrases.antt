@@ -18,7 +18,7 @@ use Rattle.pb_tokens.specs.declared.grammar.Grammar.{Grammar}
 use Rattle.pb_tokens.specs.declared.grammar.Grammar.TheVariants.{Strict, Lenient}
 use Rattle.pb_tokens.specs.declared.grammar.Syntax.TheVariants.{Proto2, Proto3}
 use Rattle.pb_tokens.specs.Phrases.{is_the_name, found_in, key_words, scalar_code, end_behind}
-use Rattle.pb_tokens.specs.Readers.Forms.{Reader, answer, chain, mapped, behind, before, choice, by_kind, symbol, plain}
+use Rattle.pb_tokens.specs.Readers.Forms.{Reader, answer, chain, mapped, preceded, before, choice, by_kind, symbol, plain}
 use Rattle.pb_tokens.specs.Readers.Forms.{judged, is_keyword, is_mark, tested, keyword_reader, mark_reader, separated}
 
 abbrev pub is_dot : Symbol → Bool
@@ -50,7 +50,7 @@ fullname_reader n = separated n is_dot name_reader (mark_reader (codes "."))
 -- [ "." ] fullname, as it is written
 unfoldable pub typename_reader : ℕ → Reader (List ℕ)
 typename_reader n =
-    choice is_dot (behind (mark_reader (codes ".")) (mapped (λ ws. 46 ∷ joined ws) (fullname_reader n))) (mapped joined (fullname_reader n))
+    choice is_dot (preceded (mark_reader (codes ".")) (mapped (λ ws. 46 ∷ joined ws) (fullname_reader n))) (mapped joined (fullname_reader n))
 
 -- ---- integers
 
@@ -73,7 +73,7 @@ counted_reader = limited_reader 2147483647
 -- [ "-" ] integer
 unfoldable pub signed_reader : Reader ℤ
 signed_reader =
-    choice (is_mark (codes "-")) (behind (mark_reader (codes "-")) (mapped (λ n. neg_ℤ (pos n)) (limited_reader 2147483648))) (mapped pos counted_reader)
+    choice (is_mark (codes "-")) (preceded (mark_reader (codes "-")) (mapped (λ n. neg_ℤ (pos n)) (limited_reader 2147483648))) (mapped pos counted_reader)
 
 -- ---- options
 
@@ -119,7 +119,7 @@ sign_reader = choice (is_mark (codes "-")) (mark_reader (codes "-")) (mark_reade
 
 -- the sign and the decimals of an exponent, where they follow
 unfoldable pub exponent_end_reader : Bool → Reader (Unit {0})
-exponent_end_reader true = behind sign_reader (symbol (plain decimals_in))
+exponent_end_reader true = preceded sign_reader (symbol (plain decimals_in))
 exponent_end_reader false = answer tt
 
 -- decimals [ exponent ]
@@ -140,12 +140,12 @@ fraction_reader = choice begins_fraction (chain (symbol (plain fraction_in)) exp
 unfoldable pub begun_end_reader : Begun → Reader (Unit {0})
 begun_end_reader Whole = answer tt
 begun_end_reader Open = exponent_end_reader true
-begun_end_reader MayPoint = choice is_dot (behind (mark_reader (codes ".")) fraction_reader) (answer tt)
-begun_end_reader MustPoint = behind (mark_reader (codes ".")) fraction_reader
+begun_end_reader MayPoint = choice is_dot (preceded (mark_reader (codes ".")) fraction_reader) (answer tt)
+begun_end_reader MustPoint = preceded (mark_reader (codes ".")) fraction_reader
 
 -- an integer or a floating literal, without its sign
 unfoldable pub numeral_reader : Reader (Unit {0})
-numeral_reader = choice is_dot (behind (mark_reader (codes ".")) scaled_reader) (chain (symbol (plain begun_in)) begun_end_reader)
+numeral_reader = choice is_dot (preceded (mark_reader (codes ".")) scaled_reader) (chain (symbol (plain begun_in)) begun_end_reader)
 
 abbrev pub behind_role : Bracket → List Bracket → Role → Option (List Bracket)
 behind_role b bs Plain = Some (b ∷ bs)
@@ -153,20 +153,20 @@ behind_role b bs (Opens c) = Some (c ∷ b ∷ bs)
 behind_role b bs (Closes c) = if same_bracket b c then Some bs else None
 
 -- the brackets that are open, the last one first, after one more symbol
-abbrev pub open_behind : List Bracket → Symbol → Option (List Bracket)
-open_behind [] s = None
-open_behind (b ∷ bs) s = behind_role b bs (role_of s)
+abbrev pub open_after : List Bracket → Symbol → Option (List Bracket)
+open_after [] s = None
+open_after (b ∷ bs) s = behind_role b bs (role_of s)
 
 -- symbols up to that which closes the first bracket that is open
 abbrev pub closed_reader : ℕ → List Bracket → Reader (Unit {0})
 closed_reader zero [] = answer tt
 closed_reader zero (b ∷ bs) = λ rules ts. Err ([], None)
 closed_reader (suc n) [] = answer tt
-closed_reader (suc n) (b ∷ bs) = chain (symbol (plain (open_behind (b ∷ bs)))) (closed_reader n)
+closed_reader (suc n) (b ∷ bs) = chain (symbol (plain (open_after (b ∷ bs)))) (closed_reader n)
 
 -- "{" { any symbol } "}"
 unfoldable pub aggregate_reader : ℕ → Reader (Unit {0})
-aggregate_reader n = behind (mark_reader (codes "{")) (closed_reader n (Curly ∷ []))
+aggregate_reader n = preceded (mark_reader (codes "{")) (closed_reader n (Curly ∷ []))
 
 -- integer | fullname
 abbrev pub plain_value_reader : ℕ → Reader (Unit {0})
@@ -178,8 +178,8 @@ any_value_reader n = choice is_word (mapped (λ _. tt) (fullname_reader n)) nume
 
 -- the same with its sign
 unfoldable pub signed_value_reader : Grammar → ℕ → Reader (Unit {0})
-signed_value_reader Strict n = behind plus_or_minus_reader (plain_value_reader n)
-signed_value_reader (Lenient s) n = behind plus_or_minus_reader (any_value_reader n)
+signed_value_reader Strict n = preceded plus_or_minus_reader (plain_value_reader n)
+signed_value_reader (Lenient s) n = preceded plus_or_minus_reader (any_value_reader n)
 
 abbrev pub braced_value_reader : ℕ → Reader (Unit {0})
 braced_value_reader n = choice (is_mark (codes "{")) (aggregate_reader n) (signed_value_reader (Lenient Proto3) n)
@@ -202,7 +202,7 @@ part_in (text b) = None
 -- word | "(" typename ")"
 abbrev pub any_part_reader : ℕ → Reader (List ℕ)
 any_part_reader n =
-    choice (is_mark (codes "(")) (behind (mark_reader (codes "(")) (before (mapped (λ _. codes "(") (typename_reader n)) (mark_reader (codes ")")))) name_reader
+    choice (is_mark (codes "(")) (preceded (mark_reader (codes "(")) (before (mapped (λ _. codes "(") (typename_reader n)) (mark_reader (codes ")")))) name_reader
 
 -- a part of an option's name
 unfoldable pub part_reader : Grammar → ℕ → Reader (List ℕ)
@@ -215,11 +215,11 @@ optname_reader g n = separated n is_dot (part_reader g n) (mark_reader (codes ".
 
 -- optname "=" constant
 unfoldable pub assignment_reader : Grammar → ℕ → Reader (Unit {0})
-assignment_reader g n = behind (mapped (λ _. tt) (optname_reader g n)) (behind (mark_reader (codes "=")) (constant_reader g n))
+assignment_reader g n = preceded (mapped (λ _. tt) (optname_reader g n)) (preceded (mark_reader (codes "=")) (constant_reader g n))
 
 -- option    = "option" optname "=" constant ";"
 unfoldable pub option_reader : Grammar → ℕ → Reader (Unit {0})
-option_reader g n = behind (keyword_reader (codes "option")) (before (assignment_reader g n) (mark_reader (codes ";")))
+option_reader g n = preceded (keyword_reader (codes "option")) (before (assignment_reader g n) (mark_reader (codes ";")))
 
 abbrev pub truth_in : Symbol → Option Bool
 truth_in (word w) = found_in ((codes "true", true) ∷ (codes "false", false) ∷ []) w
@@ -234,7 +234,7 @@ said_reader g n false = mapped (λ _. None) (constant_reader g n)
 
 -- optname "=" constant, and what is said of the option of this name
 unfoldable pub setting_reader : Grammar → ℕ → List ℕ → Reader (Option Bool)
-setting_reader g n v = chain (optname_reader g n) (λ name. behind (mark_reader (codes "=")) (said_reader g n (is_the_name v name)))
+setting_reader g n v = chain (optname_reader g n) (λ name. preceded (mark_reader (codes "=")) (said_reader g n (is_the_name v name)))
 
 -- the symbol begins no option's name in a field, though it is a word
 abbrev pub is_barred : Grammar → Symbol → Bool
@@ -251,7 +251,7 @@ field_option_reader g n = by_kind (if_allowed g) (λ _. Some (setting_reader g n
 -- opts, and the sign after them
 unfoldable pub options_reader : {I : Type 0} → List ℕ → ℕ → Reader I → Reader (List I)
 options_reader close n item =
-    behind (mark_reader (codes "[")) (before (listed n item) (behind (mark_reader (codes "]")) (mark_reader close)))
+    preceded (mark_reader (codes "[")) (before (listed n item) (preceded (mark_reader (codes "]")) (mark_reader close)))
 
 -- [ opts ], and the sign after them
 unfoldable pub ended_reader : List ℕ → Grammar → ℕ → Reader (Option Bool)
@@ -275,7 +275,7 @@ abbrev pub type_of_word : List ℕ → Option TypeCode → TypeSaid
 type_of_word w None = a_name w
 type_of_word w (Some c) = a_scalar c
 
--- the type of these words, which no dot stands before
+-- the type of these words, with no dot before them
 abbrev pub type_of : List (List ℕ) → TypeSaid
 type_of [] = a_name []
 type_of (w ∷ []) = type_of_word w (scalar_code w)
@@ -284,7 +284,7 @@ type_of (w ∷ v ∷ ws) = a_name (joined (w ∷ v ∷ ws))
 -- type      = scalar word | typename
 unfoldable pub type_reader : ℕ → Reader TypeSaid
 type_reader n =
-    choice is_dot (behind (mark_reader (codes ".")) (mapped (λ ws. a_name (46 ∷ joined ws)) (fullname_reader n))) (mapped type_of (fullname_reader n))
+    choice is_dot (preceded (mark_reader (codes ".")) (mapped (λ ws. a_name (46 ∷ joined ws)) (fullname_reader n))) (mapped type_of (fullname_reader n))
 
 abbrev pub key_in : Symbol → Option TypeCode
 key_in (word w) = found_in key_words w
@@ -302,7 +302,7 @@ key_reader = symbol (plain key_in)
 unfoldable pub range_reader : Reader ℤ → (ℤ → ℤ) → ℤ → Reader (ℤ × ℤ)
 range_reader bound end greatest =
     chain bound (λ a. choice (is_keyword (codes "to"))
-    (behind (keyword_reader (codes "to")) (choice (is_keyword (codes "max"))
+    (preceded (keyword_reader (codes "to")) (choice (is_keyword (codes "max"))
     (mapped (λ _. (a, greatest)) (keyword_reader (codes "max"))) (mapped (λ z. (a, end z)) bound)))
     (answer (a, end a)))
 

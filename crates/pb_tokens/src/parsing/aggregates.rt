@@ -3,7 +3,7 @@
 ghost use Rattle.std.specs.Prelude.{◌≡◌, ◌≤◌, ◌<◌, length, reverse, [], ◌∷◌, Some, None, IfOk, if◌then◌else◌};
 ghost use Rattle.pb_tokens.specs.SymbolView.{symbol_of};
 ghost use Rattle.pb_tokens.specs.Aggregates.{same_bracket};
-ghost use Rattle.pb_tokens.specs.Readers.Phrases.{open_behind, closed_reader, aggregate_reader};
+ghost use Rattle.pb_tokens.specs.Readers.Phrases.{open_after, closed_reader, aggregate_reader};
 ghost use Rattle.pb_tokens.specs.Readers.Given.{ReadsInSteps};
 ghost use Rattle.pb_tokens.specs.declared.bracket.Bracket.TheVariants.{Curly};
 
@@ -36,7 +36,7 @@ fn same_bracket(left: Bracket, right: Bracket) -> bool
 /// Takes one more symbol, where brackets are open, the last one after the others; false where it closes another bracket than the last.
 fn advance(brackets: &mut Vec<Bracket>, symbol: &Symbol) -> Result<bool, AllocError>
     requires { 0 < length brackets.now.items }
-    ensures { IfOk result (λ ok. open_behind (reverse brackets.old.items) (symbol_of symbol.now) ≡ (if ok then Some (reverse brackets.new.items) else None)) }
+    ensures { IfOk result (λ ok. open_after (reverse brackets.old.items) (symbol_of symbol.now) ≡ (if ok then Some (reverse brackets.new.items) else None)) }
 {
     match role_of(symbol) {
         Role::Plain => Ok(true),

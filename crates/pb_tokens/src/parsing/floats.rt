@@ -7,7 +7,7 @@ ghost use Rattle.pb_tokens.specs.Symbols.{number as a_number};
 ghost use Rattle.pb_tokens.specs.SymbolView.{symbol_of};
 ghost use Rattle.pb_tokens.specs.Integers.{integer_of};
 ghost use Rattle.pb_tokens.specs.Floats.{is_decimal, is_decimals, after_digits, exponent_in, power_in, scaled_in, fraction_in, begun_of, begun_in};
-ghost use Rattle.pb_tokens.specs.Readers.Forms.{symbol, plain, behind, first_passes, mark_reader};
+ghost use Rattle.pb_tokens.specs.Readers.Forms.{symbol, plain, preceded, first_passes, mark_reader};
 ghost use Rattle.pb_tokens.specs.Readers.Phrases.{decimals_in, sign_reader, exponent_end_reader, scaled_reader};
 ghost use Rattle.pb_tokens.specs.Readers.Phrases.{begins_fraction, fraction_reader, begun_end_reader, numeral_reader};
 ghost use Rattle.pb_tokens.specs.Readers.Given.{symbols_from, Reads};

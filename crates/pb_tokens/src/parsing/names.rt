@@ -2,7 +2,7 @@
 
 ghost use Rattle.std.specs.Prelude.{◌≡◌, ◌≤◌, ◌<◌, ◌++◌, ◌∷◌, length, codes, string_bytes, IfOk, OnOk};
 ghost use Rattle.pb_tokens.specs.Said.{joined};
-ghost use Rattle.pb_tokens.specs.Readers.Forms.{behind, mark_reader};
+ghost use Rattle.pb_tokens.specs.Readers.Forms.{preceded, mark_reader};
 ghost use Rattle.pb_tokens.specs.Readers.Phrases.{name_reader, fullname_reader, typename_reader};
 ghost use Rattle.pb_tokens.specs.PhraseView.{words_view};
 ghost use Rattle.pb_tokens.specs.Readers.Given.{Reads, ReadsInSteps};
@@ -15,7 +15,7 @@ use std::alloc::{AllocError, Global};
 /// Reads a dot, and a word.
 fn next_word<'a>(symbols: &[Placed<'a>], at: usize) -> Result<(&'a str, usize), Refusal>
     ensures within { IfOk result (λ x. (at < x.1) × (x.1 ≤ length symbols.now)) }
-    ensures read { Reads symbols.now at (λ x. (x.0.now, x.1)) result (behind (mark_reader (codes ".")) name_reader) }
+    ensures read { Reads symbols.now at (λ x. (x.0.now, x.1)) result (preceded (mark_reader (codes ".")) name_reader) }
 {
     let after = mark(".", symbols, at)?;
     let (word, after) = name(symbols, after)?;
@@ -77,7 +77,7 @@ pub(crate) fn joined_behind_dot(alloc: Global, words: &[&str]) -> Result<String,
     Ok(text)
 }
 
-/// Reads the name of a type, as it is written: with a dot at its front, if one stands there.
+/// Reads the name of a type, as it is written: with a dot at its front, if there is one.
 #[tactic(auto, unfolding(crate::specs::Readers::Phrases::typename_reader))]
 pub fn typename(alloc: Global, symbols: &[Placed], at: usize) -> Result<(String, usize), Refusal>
     ensures within { IfOk result (λ x. (at < x.1) × (x.1 ≤ length symbols.now)) }

@@ -14,7 +14,7 @@ use crate::rule::Rule;
 use crate::symbol::{Placed, Symbol};
 use crate::text::digit_of;
 
-/// What stands for each integer that is above the greatest u32.
+/// The number for each integer that is above the greatest u32.
 const TOO_LARGE: u64 = 1 << 32;
 
 /// The number of these digits, at most `TOO_LARGE`.

@@ -4,7 +4,7 @@ ghost use Rattle.std.specs.Prelude.{◌≡◌, ◌≤◌, ◌<◌, length, codes
 ghost use Rattle.pb_tokens.specs.Said.{last_said};
 ghost use Rattle.pb_tokens.specs.Phrases.{is_the_name};
 ghost use Rattle.pb_tokens.specs.declared.rule.Rule.TheVariants.{OptionsKnown};
-ghost use Rattle.pb_tokens.specs.Readers.Forms.{behind, before, mapped, symbol, plain, judged, mark_reader};
+ghost use Rattle.pb_tokens.specs.Readers.Forms.{preceded, before, mapped, symbol, plain, judged, mark_reader};
 ghost use Rattle.pb_tokens.specs.Readers.Phrases.{part_in, truth_in, said_reader, listed, typename_reader, part_reader, optname_reader};
 ghost use Rattle.pb_tokens.specs.Readers.Phrases.{plus_or_minus_reader, any_part_reader, plain_value_reader, any_value_reader};
 ghost use Rattle.pb_tokens.specs.Readers.Phrases.{signed_value_reader, braced_value_reader, unquoted_reader, constant_reader};
@@ -55,7 +55,7 @@ fn extension_part<'a>(
 ) -> Result<(&'a str, usize), Refusal>
     ensures within { IfOk result (λ x. (at < x.1) × (x.1 ≤ length symbols.now)) }
     ensures read { ReadsInSteps symbols.now at (λ x. (x.0.now, x.1)) result
-        (λ n. behind (mark_reader (codes "(")) (before (mapped (λ _. codes "(") (typename_reader n)) (mark_reader (codes ")")))) }
+        (λ n. preceded (mark_reader (codes "(")) (before (mapped (λ _. codes "(") (typename_reader n)) (mark_reader (codes ")")))) }
 {
     let after = mark("(", symbols, at)?;
     let (_, after) = typename(alloc, symbols, after)?;
@@ -111,7 +111,7 @@ fn next_part<'a>(
     at: usize,
 ) -> Result<(&'a str, usize), Refusal>
     ensures within { IfOk result (λ x. (at < x.1) × (x.1 ≤ length symbols.now)) }
-    ensures read { ReadsInSteps symbols.now at (λ x. (x.0.now, x.1)) result (λ n. behind (mark_reader (codes ".")) (part_reader grammar n)) }
+    ensures read { ReadsInSteps symbols.now at (λ x. (x.0.now, x.1)) result (λ n. preceded (mark_reader (codes ".")) (part_reader grammar n)) }
 {
     let after = mark(".", symbols, at)?;
     let (word, after) = part(alloc, grammar, symbols, after)?;
@@ -140,7 +140,7 @@ fn option_name<'a>(
     Ok((parts, here))
 }
 
-/// Reads a `-` or `+`, if one stands there.
+/// Reads a `-` or `+`, if there is one.
 #[tactic(auto, unfolding(crate::specs::Readers::Phrases::plus_or_minus_reader))]
 fn plus_or_minus(symbols: &[Placed], at: usize) -> Result<usize, Refusal>
     ensures on { IfOk result (λ after. at ≤ after) }
@@ -279,7 +279,7 @@ fn assignment(
     Ok(after)
 }
 
-/// Reads the statement of an option, up to its `;`, and gives the index after it. Where a part of its name stands in parentheses,
+/// Reads the statement of an option, up to its `;`, and gives the index after it. Where a part of its name is in parentheses,
 /// `Rule::OptionsKnown` is broken.
 #[tactic(auto, unfolding(crate::specs::Readers::Phrases::option_reader))]
 pub fn option(
@@ -398,7 +398,7 @@ fn next_field_option(
     at: usize,
 ) -> Result<(Option<bool>, usize), Refusal>
     ensures within { IfOk result (λ x. (at < x.1) × (x.1 ≤ length symbols.now)) }
-    ensures read { ReadsInSteps symbols.now at (λ x. x) result (λ n. behind (mark_reader (codes ",")) (field_option_reader grammar n)) }
+    ensures read { ReadsInSteps symbols.now at (λ x. x) result (λ n. preceded (mark_reader (codes ",")) (field_option_reader grammar n)) }
 {
     let after = mark(",", symbols, at)?;
     let (said, after) = field_option(alloc, grammar, symbols, after)?;
@@ -499,7 +499,7 @@ fn next_assignment(
     at: usize,
 ) -> Result<usize, Refusal>
     ensures within { IfOk result (λ after. (at < after) × (after ≤ length symbols.now)) }
-    ensures read { ReadsInSteps symbols.now at (λ after. (tt, after)) result (λ n. behind (mark_reader (codes ",")) (assignment_reader grammar n)) }
+    ensures read { ReadsInSteps symbols.now at (λ after. (tt, after)) result (λ n. preceded (mark_reader (codes ",")) (assignment_reader grammar n)) }
 {
     let after = mark(",", symbols, at)?;
     let after = assignment(alloc, grammar, symbols, after)?;

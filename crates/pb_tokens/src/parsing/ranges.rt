@@ -2,7 +2,7 @@
 
 ghost use Rattle.std.specs.Prelude.{◌≡◌, ◌≤◌, ◌<◌, ℕ, length, map, codes, string_bytes, pos, IfOk};
 ghost use Rattle.pb_tokens.specs.Phrases.{end_behind};
-ghost use Rattle.pb_tokens.specs.Readers.Forms.{before, behind, mark_reader};
+ghost use Rattle.pb_tokens.specs.Readers.Forms.{before, preceded, mark_reader};
 ghost use Rattle.pb_tokens.specs.Readers.Phrases.{listed, utf8_reader};
 ghost use Rattle.pb_tokens.specs.RangeView.{HasSign, bound_within, end_within, greatest_within, last_reader, range_within};
 ghost use Rattle.pb_tokens.specs.Readers.Given.{Reads, ReadsInSteps};
@@ -13,7 +13,7 @@ use crate::refusal::Refusal;
 use crate::symbol::Placed;
 use std::alloc::Global;
 
-/// Where a range stands: in a message an end comes after its range, in an enum it is in it.
+/// Where a range is declared: in a message an end comes after its range, in an enum it is in it.
 #[derive(Clone, Copy, PartialEq, Eq)]
 pub enum Within {
     Message,
@@ -98,7 +98,7 @@ fn range(within: Within, symbols: &[Placed], at: usize) -> Result<((i32, i32), u
 /// Reads a comma, and a range.
 fn next_range(within: Within, symbols: &[Placed], at: usize) -> Result<((i32, i32), usize), Refusal>
     ensures within { IfOk result (λ x. (at < x.1) × (x.1 ≤ length symbols.now)) }
-    ensures read { Reads symbols.now at (λ x. x) result (behind (mark_reader (codes ",")) (range_within within)) }
+    ensures read { Reads symbols.now at (λ x. x) result (preceded (mark_reader (codes ",")) (range_within within)) }
 {
     let after = mark(",", symbols, at)?;
     let (range, after) = range(within, symbols, after)?;
@@ -127,7 +127,7 @@ pub fn ranges(
     Ok((ranges, here))
 }
 
-/// Reads ranges with commas between, and `;`, and gives the start and the end of each: where it stands in a message the end is after its range, in an
+/// Reads ranges with commas between, and `;`, and gives the start and the end of each: in a message the end is after its range, in an
 /// enum in it. Where a bound does not fit 32 bits, `Rule::NumbersFit` is broken.
 pub fn ranges_line(
     alloc: Global,
@@ -156,7 +156,7 @@ fn owned_text(alloc: Global, symbols: &[Placed], at: usize) -> Result<(String, u
 /// Reads a comma, and a text.
 fn next_text(alloc: Global, symbols: &[Placed], at: usize) -> Result<(String, usize), Refusal>
     ensures within { IfOk result (λ x. (at < x.1) × (x.1 ≤ length symbols.now)) }
-    ensures read { Reads symbols.now at (λ x. (string_bytes x.0, x.1)) result (behind (mark_reader (codes ",")) utf8_reader) }
+    ensures read { Reads symbols.now at (λ x. (string_bytes x.0, x.1)) result (preceded (mark_reader (codes ",")) utf8_reader) }
 {
     let after = mark(",", symbols, at)?;
     let (text, after) = owned_text(alloc, symbols, after)?;

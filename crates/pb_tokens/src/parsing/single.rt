@@ -20,7 +20,7 @@ pub fn symbol_at<'t, 'a>(symbols: &'t [Placed<'a>], at: usize) -> Option<&'t Pla
     symbols.get(at)
 }
 
-/// Whether a symbol stands at the index and is this word.
+/// Whether there is a symbol at the index, and it is this word.
 pub fn begins_with(word: &str, symbols: &[Placed], at: usize) -> bool
     ensures { result ≡ first_passes (is_keyword word.now) (symbols_from symbols.now at) }
 {
@@ -30,7 +30,7 @@ pub fn begins_with(word: &str, symbols: &[Placed], at: usize) -> bool
     }
 }
 
-/// Whether a symbol stands at the index and is this sign.
+/// Whether there is a symbol at the index, and it is this sign.
 pub fn begins_with_mark(sign: &str, symbols: &[Placed], at: usize) -> bool
     ensures { result ≡ first_passes (is_mark sign.now) (symbols_from symbols.now at) }
 {
@@ -40,7 +40,7 @@ pub fn begins_with_mark(sign: &str, symbols: &[Placed], at: usize) -> bool
     }
 }
 
-/// Whether a symbol stands at the index and is a text.
+/// Whether there is a symbol at the index, and it is a string.
 pub fn begins_with_text(symbols: &[Placed], at: usize) -> bool
     ensures { result ≡ first_passes is_text (symbols_from symbols.now at) }
 {

@@ -6,6 +6,6 @@ use Rattle.pb_c_reports.proofs.reporting.lay_path.Goals as goal
 
 pub returns : goal.returns
 returns c =
-    laid told_step c.args.path.now c.args.room.now c.loop-i.room c.loop-i.i
+    laid told_step c.args.path.now c.args.buffer.now c.loop-i.buffer c.loop-i.i
     (omega (arith, c.min-size.ensures, c.loop-i.auto.i-end, c.loop-i-test.false))
     c.loop-i.invariant.long c.loop-i.invariant.laid c.loop-i.invariant.rest

@@ -5,7 +5,7 @@ use Rattle.pb_c_reports.proofs.reporting.lay_path.Given as goal
 
 abbrev pub invariant-loop-i : goal.invariant-loop-i
 invariant-loop-i l = record {
-  laid : take l.i l.room ≡ map told_step (take l.i l.path);
-  rest : drop l.i l.room ≡ drop l.i l.initial.room;
-  long : length l.room ≡ length l.initial.room;
+  laid : take l.i l.buffer ≡ map told_step (take l.i l.path);
+  rest : drop l.i l.buffer ≡ drop l.i l.initial.buffer;
+  long : length l.buffer ≡ length l.initial.buffer;
 }

@@ -21,9 +21,9 @@ returns-in_err-message-clause-comes g c =
     rw (p.1, p.2)
     (refused_comes (Sent g.O.Output.written g.O.Output.failures c.args.out.now c.args.out.now) (Cut g.O.Output.written g.O.Output.failures c.args.out.now c.args.out.now)
     (IsSaved contents before c.read_message.new.files) (IsUnsaved contents g.F.Files.failures before c.read_message.new.files)
-    (MessageAt contents is_steady before c.args.form c.args.pool.now c.args.message_type.0 path) IsNothing c.in_err-message.field-0.0
+    (MessageAt contents is_steady before c.args.form c.args.of.pool.now c.args.of.message_type.0 path) IsNothing c.in_err-message.field-0.0
     (refl, Appends-nil (g.O.Output.written c.args.out.now)) c.in_err-message.ensures.files refl
-    (refuses_map _ _ c.in_err-message.field-0.0 (not_read contents is_steady before c.args.form c.args.pool.now c.args.message_type.0 path)
+    (refuses_map _ _ c.in_err-message.field-0.0 (not_read contents is_steady before c.args.form c.args.of.pool.now c.args.of.message_type.0 path)
     c.in_err-message.ensures.refused))
 
 pub returns-clause-comes : goal.returns-clause-comes
@@ -36,7 +36,7 @@ returns-clause-comes g c =
     let read = c.in_ok-message.ensures in
     later_comes contents g.F.Files.failures before mid c.make-answer.new.files
     (Sent g.O.Output.written g.O.Output.failures c.args.out.now c.make-answer.new.out) (Cut g.O.Output.written g.O.Output.failures c.args.out.now c.make-answer.new.out)
-    (FormAnswer c.args.form message) (MessageAt contents is_steady before c.args.form c.args.pool.now c.args.message_type.0 c.args.path.now)
+    (FormAnswer c.args.form message) (MessageAt contents is_steady before c.args.form c.args.of.pool.now c.args.of.message_type.0 c.args.path.now)
     IsNothing IsNothing c.make-answer.result read.files read.kept
-    (λ a made. made_of contents is_steady before c.args.form c.args.pool.now c.args.message_type.0 c.args.path.now message a read.of_type.0 read.of_type.1 read.read made)
+    (λ a made. made_of contents is_steady before c.args.form c.args.of.pool.now c.args.of.message_type.0 c.args.path.now message a read.of_type.0 read.of_type.1 read.read made)
     (λ text nothing. nothing) c.make-answer.ensures.comes

@@ -21,7 +21,7 @@ message_values-returns-in_err-value-clause-refused t c =
     let is : c.declared-item.result ≡ get_or c.args.messages.now.items c.loop-declared.declared-index c.declared-item.result =
     subst (λ (ms : List MessageDecl). c.declared-item.result ≡ get_or ms c.loop-declared.declared-index c.declared-item.result) same c.declared-item.is in
     let below = message_below c.args.messages.now.items c.loop-declared.declared-index c.declared-item.result within is in
-    rw (p.1, p.2) (cut_further c.in_err-value.field-0.0 c.args.room (levels_of (message_body (message_view c.declared-item.result))) c.args.room
+    rw (p.1, p.2) (cut_further c.in_err-value.field-0.0 c.args.depth_left (levels_of (message_body (message_view c.declared-item.result))) c.args.depth_left
     (datums_depth (datums_of (message_bodies (messages_of (map message_view c.args.messages.now.items))))) (λ deep. omega arith) c.in_err-value.ensures.refused)
 
 pub message_values-returns-clause-written : goal.message_values-returns-clause-written
@@ -33,8 +33,8 @@ pub message_values-returns-clause-within : goal.message_values-returns-clause-wi
 message_values-returns-clause-within t c =
     let same = c.deref-declared-items.ensures.value in
     let past = subst (λ (ms : List MessageDecl). length ms ≤ c.loop-declared.declared-index) same c.loop-declared-test.false in
-    nest_each c.args.room (map message_view c.args.messages.now.items)
-    (subst (λ (ms : List MessageDecl). AllByRecursion (λ m. nests m ≤ c.args.room) (map message_view ms)) (take_past c.args.messages.now.items c.loop-declared.declared-index past) c.loop-declared.invariant.within)
+    nest_each c.args.depth_left (map message_view c.args.messages.now.items)
+    (subst (λ (ms : List MessageDecl). AllByRecursion (λ m. nests m ≤ c.args.depth_left) (map message_view ms)) (take_past c.args.messages.now.items c.loop-declared.declared-index past) c.loop-declared.invariant.within)
 
 pub message_values-loop-declared-preserved : goal.message_values-loop-declared-preserved
 message_values-loop-declared-preserved t c =
@@ -44,5 +44,5 @@ message_values-loop-declared-preserved t c =
     subst (λ (ms : List MessageDecl). c.declared-item.result ≡ get_or ms c.loop-declared.declared-index c.declared-item.result) same c.declared-item.is in
     record {
       written = written_next value_view message_body message_view c.args.messages.now.items c.loop-declared.declared-index c.declared-item.result c.loop-declared.values.items c.push.new.self.items c.in_ok-value.value less is c.in_ok-push.ensures.items c.in_ok-value.ensures.written c.loop-declared.invariant.written;
-      within = taken_and_next (λ m. nests m ≤ c.args.room) message_view c.args.messages.now.items c.loop-declared.declared-index c.declared-item.result less is c.loop-declared.invariant.within c.in_ok-value.ensures.within;
+      within = taken_and_next (λ m. nests m ≤ c.args.depth_left) message_view c.args.messages.now.items c.loop-declared.declared-index c.declared-item.result less is c.loop-declared.invariant.within c.in_ok-value.ensures.within;
     }

@@ -9,5 +9,5 @@ use Rattle.pb_descr.proofs.messages.+messages.Given as goal
 abbrev pub invariant-message_values-loop-declared : goal.invariant-message_values-loop-declared
 invariant-message_values-loop-declared l = record {
   written : map value_view l.values.items ≡ map message_body (map message_view (take l.declared-index l.messages.items));
-  within : AllByRecursion (λ m. nests m ≤ l.room) (map message_view (take l.declared-index l.messages.items));
+  within : AllByRecursion (λ m. nests m ≤ l.depth_left) (map message_view (take l.declared-index l.messages.items));
 }

@@ -4,5 +4,5 @@ use Rattle.pb_explain.proofs.fault.put_byte.Goals as goal
 
 pub returns : goal.returns
 returns g c =
-    puts_then c.make_room.ensures.kept
+    puts_then c.reserve.ensures.kept
     (puts_held refl refl (rw (c.push-2.ensures.after, c.push_decimal.ensures.after, c.push.ensures.after) (simp append_assoc)))

@@ -5,7 +5,7 @@ use Rattle.pb_explain.proofs.fault.put_frame.Goals as goal
 
 pub returns : goal.returns
 returns g c =
-    let held : c.push-4.new.self ≡ c.make_room.new.self.held ++ frame_text c.args.byte c.args.index c.args.offset =
+    let held : c.push-4.new.self ≡ c.reserve.new.self.held ++ frame_text c.args.byte c.args.index c.args.offset =
     rw (
       c.push-4.ensures.after,
       c.push_decimal-3.ensures.after,
@@ -16,4 +16,4 @@ returns g c =
       c.push.ensures.after,
     )
     (simp append_assoc) in
-    puts_then c.make_room.ensures.kept (puts_held refl refl held)
+    puts_then c.reserve.ensures.kept (puts_held refl refl held)

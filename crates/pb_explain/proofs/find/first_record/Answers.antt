@@ -5,7 +5,7 @@ use Rattle.pb_explain.proofs.find.first_record.Goals as goal
 
 pub returns-in-Some-Ok-clause-whole : goal.returns-in-Some-Ok-clause-whole
 returns-in-Some-Ok-clause-whole c = λ at.
-    let given = gives_some c.new.ensures.told c.new.ensures.text c.new.ensures.fault in
+    let given = gives_some c.new.ensures.settled c.new.ensures.text c.new.ensures.fault in
     let first = c.in-Some-Ok.ensures.steps.first given.0 given.1 in
     let is = rw c.in-Some-Ok.field-0-is at first.1 in
     let whole = first_whole full.bytes (nat_lt full.bytes (length c.args.rest.now)) at c.new.ensures.begins given.1 is in
@@ -14,7 +14,7 @@ returns-in-Some-Ok-clause-whole c = λ at.
 
 pub returns-in-Some-Err-clause-none : goal.returns-in-Some-Err-clause-none
 returns-in-Some-Err-clause-none c = λ at w.
-    let given = gives_some c.new.ensures.told c.new.ensures.text c.new.ensures.fault in
+    let given = gives_some c.new.ensures.settled c.new.ensures.text c.new.ensures.fault in
     let first = c.in-Some-Err.ensures.steps.first given.0 given.1 in
     let small = w.small in
     none_whole full.bytes (nat_lt full.bytes (length c.args.rest.now)) at c.new.ensures.begins given.1
@@ -22,7 +22,7 @@ returns-in-Some-Err-clause-none c = λ at w.
 
 pub returns-in-None-clause-none : goal.returns-in-None-clause-none
 returns-in-None-clause-none c = λ at w.
-    let given = gives_some c.new.ensures.told c.new.ensures.text c.new.ensures.fault in
+    let given = gives_some c.new.ensures.settled c.new.ensures.text c.new.ensures.fault in
     let first = c.in-None.ensures.steps.first given.0 given.1 in
     let small = w.small in
     none_whole full.bytes (nat_lt full.bytes (length c.args.rest.now)) at c.new.ensures.begins given.1 (nothing first.0) w (omega (arith, small))

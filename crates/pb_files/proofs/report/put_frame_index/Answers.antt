@@ -4,6 +4,6 @@ use Rattle.pb_files.proofs.report.put_frame_index.Goals as goal
 
 pub returns : goal.returns
 returns g c =
-    let held : c.push-2.new.self ≡ c.make_room.new.self.held ++ (codes "frame " ++ decimal c.args.index ++ codes " ") =
+    let held : c.push-2.new.self ≡ c.reserve.new.self.held ++ (codes "frame " ++ decimal c.args.index ++ codes " ") =
     rw (c.push-2.ensures.after, c.push_decimal.ensures.after, c.push.ensures.after) (simp append_assoc) in
-    puts_then c.make_room.ensures.kept (puts_held refl refl held)
+    puts_then c.reserve.ensures.kept (puts_held refl refl held)

@@ -5,7 +5,7 @@ use Rattle.pb_files.proofs.report.put_frames_line.Goals as goal
 
 pub returns : goal.returns
 returns g c =
-    let held : c.push-3.new.self ≡ c.make_room.new.self.held ++ frames_line c.args.refused c.args.count =
+    let held : c.push-3.new.self ≡ c.reserve.new.self.held ++ frames_line c.args.refused c.args.count =
     rw (c.push-3.ensures.after, c.push_decimal-2.ensures.after, c.push-2.ensures.after, c.push_decimal.ensures.after, c.push.ensures.after)
     (simp append_assoc) in
-    puts_then c.make_room.ensures.kept (puts_held refl refl held)
+    puts_then c.reserve.ensures.kept (puts_held refl refl held)

@@ -4,7 +4,7 @@ use Rattle.pb_files.proofs.report.put_set_cause.Goals as goal
 
 pub returns : goal.returns
 returns g c =
-    let held : c.push_decimal.new.self ≡ c.make_room.new.self.held ++ (codes "set file " ++ decimal c.args.file) =
+    let held : c.push_decimal.new.self ≡ c.reserve.new.self.held ++ (codes "set file " ++ decimal c.args.file) =
     rw (c.push_decimal.ensures.after, c.push.ensures.after) (simp append_assoc) in
     let name = rw c.name.ensures at c.put_cause.ensures in
-    puts_then (puts_then c.make_room.ensures.kept (puts_held refl refl held)) name
+    puts_then (puts_then c.reserve.ensures.kept (puts_held refl refl held)) name

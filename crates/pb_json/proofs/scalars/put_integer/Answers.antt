@@ -5,5 +5,5 @@ use Rattle.pb_json.proofs.scalars.put_integer.Goals as goal
 
 pub returns : goal.returns
 returns g c =
-    let held : c.push_signed.new.self ≡ c.make_room.new.self.held ++ signed_decimal c.args.number = search rules in
-    puts_then c.make_room.ensures.kept (puts_held refl refl held)
+    let held : c.push_signed.new.self ≡ c.reserve.new.self.held ++ signed_decimal c.args.number = search rules in
+    puts_then c.reserve.ensures.kept (puts_held refl refl held)

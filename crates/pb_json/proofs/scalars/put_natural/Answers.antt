@@ -3,4 +3,4 @@ use Rattle.pb_output.proofs.SinkLemmas.{puts_held, puts_then}
 use Rattle.pb_json.proofs.scalars.put_natural.Goals as goal
 
 pub returns : goal.returns
-returns g c = puts_then c.make_room.ensures.kept (puts_held refl refl c.push_decimal.ensures.after)
+returns g c = puts_then c.reserve.ensures.kept (puts_held refl refl c.push_decimal.ensures.after)

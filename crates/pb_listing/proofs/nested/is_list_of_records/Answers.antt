@@ -24,4 +24,4 @@ returns-in_default-clause-no c = λ is.
 
 pub returns-clause-yes : goal.returns-clause-yes
 returns-clause-yes c = λ is.
-    some_text c.args.limits c.args.bytes.now c.loop-item.item-iterator c.next.new.self c.new-item-items.ensures.told c.loop-item.invariant.2 c.in-None.ensures.steps
+    some_text c.args.limits c.args.bytes.now c.loop-item.item-iterator c.next.new.self c.new-item-items.ensures.settled c.loop-item.invariant.2 c.in-None.ensures.steps

@@ -4,5 +4,5 @@ use Rattle.pb_listing.proofs.nested.put_message_start.Goals as goal
 
 pub returns : goal.returns
 returns g c =
-    puts_then c.make_room.ensures.kept
+    puts_then c.reserve.ensures.kept
     (puts_held refl refl (rw (c.push.ensures.after, c.push_decimal.ensures.after, c.push_start.ensures.after) (simp append_assoc)))

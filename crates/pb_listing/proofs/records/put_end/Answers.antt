@@ -3,4 +3,4 @@ use Rattle.pb_output.proofs.SinkLemmas.{puts_held, puts_then}
 use Rattle.pb_listing.proofs.records.put_end.Goals as goal
 
 pub returns : goal.returns
-returns g c = puts_then c.make_room.ensures.kept (puts_held refl refl (rw (c.push.ensures.after, c.push_indent.ensures.after) (simp append_assoc)))
+returns g c = puts_then c.reserve.ensures.kept (puts_held refl refl (rw (c.push.ensures.after, c.push_indent.ensures.after) (simp append_assoc)))

@@ -9,7 +9,7 @@ use Rattle.pb_tokens.specs.Language.{all_rules}
 use Rattle.pb_tokens.specs.Readers.Given.{symbols_from, Fails}
 use Rattle.pb_source.specs.Readers.Lines.{file_reader}
 use Rattle.pb_source.specs.Source.{IsSourceIn, HasFaultIn}
-use Rattle.pb_source.specs.Readers.Told.{fault_at}
+use Rattle.pb_source.specs.Readers.Reported.{fault_at}
 use Rattle.pb_source.proofs.SourceLaws.{ReadsAll}
 use Rattle.pb_source.proofs.ParseLemmas.{Declared, Told, told_fault, told_nothing, told_only, token_told, declared, refusal_told}
 use Rattle.pb_source.proofs.source.parse_by.Goals as goal

@@ -25,13 +25,13 @@ returns-in_err-u32_at-in-I32-clause-fault c =
     rw (p.1, p.2) (fixed32_fault _ _ _ (ap code_of c.in-I32.is) c.in_err-u32_at-in-I32.ensures.fault)
 
 pub returns-in_ok-varint_at-in-Varint-clause-ok : goal.returns-in_ok-varint_at-in-Varint-clause-ok
-returns-in_ok-varint_at-in-Varint-clause-ok c = λ room k. rw c.in-Varint.is (_, varint_read room k _ _ _ (omega arith) c.in_ok-varint_at-in-Varint.ensures.ok)
+returns-in_ok-varint_at-in-Varint-clause-ok c = λ depth_left k. rw c.in-Varint.is (_, varint_read depth_left k _ _ _ (omega arith) c.in_ok-varint_at-in-Varint.ensures.ok)
 
 pub returns-in_ok-u64_at-in-I64-clause-ok : goal.returns-in_ok-u64_at-in-I64-clause-ok
-returns-in_ok-u64_at-in-I64-clause-ok c = λ room k. rw c.in-I64.is (_, fixed64_read room k _ _ _ (omega arith) c.in_ok-u64_at-in-I64.ensures.ok)
+returns-in_ok-u64_at-in-I64-clause-ok c = λ depth_left k. rw c.in-I64.is (_, fixed64_read depth_left k _ _ _ (omega arith) c.in_ok-u64_at-in-I64.ensures.ok)
 
 pub returns-in_ok-bytes_at-in-Len-clause-ok : goal.returns-in_ok-bytes_at-in-Len-clause-ok
-returns-in_ok-bytes_at-in-Len-clause-ok c = λ room k. rw c.in-Len.is (_, len_read room k _ _ _ (c.in_ok-bytes_at-in-Len.ensures.ok k))
+returns-in_ok-bytes_at-in-Len-clause-ok c = λ depth_left k. rw c.in-Len.is (_, len_read depth_left k _ _ _ (c.in_ok-bytes_at-in-Len.ensures.ok k))
 
 pub returns-in_ok-u32_at-in-I32-clause-ok : goal.returns-in_ok-u32_at-in-I32-clause-ok
-returns-in_ok-u32_at-in-I32-clause-ok c = λ room k. rw c.in-I32.is (_, fixed32_read room k _ _ _ (omega arith) c.in_ok-u32_at-in-I32.ensures.ok)
+returns-in_ok-u32_at-in-I32-clause-ok c = λ depth_left k. rw c.in-I32.is (_, fixed32_read depth_left k _ _ _ (omega arith) c.in_ok-u32_at-in-I32.ensures.ok)

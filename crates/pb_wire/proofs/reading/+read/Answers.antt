@@ -34,7 +34,7 @@ pub value_at-returns-in_err-inside-in-StartGroup-clause-fault : goal.value_at-re
 value_at-returns-in_err-inside-in-StartGroup-clause-fault t c =
     let p = err_from_is_err_and c.from_residual-in_err-inside-in-StartGroup.result c.from_residual-in_err-inside-in-StartGroup.ensures.1 in
     rw (p.1, p.2, c.in-StartGroup.is)
-    (value_from_group c.args.room c.args.number _ c.records_at.new.steps.items _ (c.requires.level (ap code_of c.in-StartGroup.is)) c.in_err-inside-in-StartGroup.ensures.fault)
+    (value_from_group c.args.depth_left c.args.number _ c.records_at.new.steps.items _ (c.requires.level (ap code_of c.in-StartGroup.is)) c.in_err-inside-in-StartGroup.ensures.fault)
 
 pub value_at-returns-in_ok-n-in-Varint-clause-ok : goal.value_at-returns-in_ok-n-in-Varint-clause-ok
 value_at-returns-in_ok-n-in-Varint-clause-ok t c = rw (payload_of-Varint, c.in-Varint.is) (record {
@@ -67,21 +67,21 @@ value_at-returns-in_ok-from_slice-in-Len-clause-ok t c = rw (payload_of-Len, c.i
 pub value_at-returns-in_ok-inside-in-StartGroup-clause-ok : goal.value_at-returns-in_ok-inside-in-StartGroup-clause-ok
 value_at-returns-in_ok-inside-in-StartGroup-clause-ok t c =
     rw (payload_of-Group, c.in-StartGroup.is)
-    (group_value c.args.room c.args.number _ _ _ (c.requires.level (ap code_of c.in-StartGroup.is)) c.in_ok-inside-in-StartGroup.ensures.ok)
+    (group_value c.args.depth_left c.args.number _ _ _ (c.requires.level (ap code_of c.in-StartGroup.is)) c.in_ok-inside-in-StartGroup.ensures.ok)
 
 pub records_at-records-init : goal.records_at-records-init
 records_at-records-init t c =
-    (omega arith, c.requires.at_in_bounds, c.requires.no_steps, rw c.new-records.ensures.items (front_none c.args.room c.args.bytes.now c.args.at))
+    (omega arith, c.requires.at_in_bounds, c.requires.no_steps, rw c.new-records.ensures.items (front_none c.args.depth_left c.args.bytes.now c.args.at))
 
 pub records_at-returns-in_err-number-clause-fault : goal.records_at-returns-in_err-number-clause-fault
 records_at-returns-in_err-number-clause-fault t c =
     let p = err_from_is_err_and c.from_residual.result c.from_residual.ensures.1 in
     rw (p.1, p.2, c.records.invariant.2)
-    (bad_from c.args.innermost c.args.bytes.now c.args.at c.records.here c.args.room _ _ (c.is_at_end.ensures.goes_on c.records-test.true) c.records.invariant.3
-    (bad_tag c.args.innermost _ _ c.args.room _ c.in_err-number.ensures.fault))
+    (bad_from c.args.innermost c.args.bytes.now c.args.at c.records.here c.args.depth_left _ _ (c.is_at_end.ensures.goes_on c.records-test.true) c.records.invariant.3
+    (bad_tag c.args.innermost _ _ c.args.depth_left _ c.in_err-number.ensures.fault))
 
-pub records_at-returns-then-room-eq0 : goal.records_at-returns-then-room-eq0
-records_at-returns-then-room-eq0 t c =
+pub records_at-returns-then-depth_left-eq0 : goal.records_at-returns-then-depth_left-eq0
+records_at-returns-then-depth_left-eq0 t c =
     let told : c.push.new.self.items ≡ step c.in_ok-number.number (records_of c.records.records.items) ∷ [] =
     c.in_ok-push.ensures.items ∙ ap (λ (xs : List PathStep). xs ++ c.step_behind.result ∷ []) c.records.invariant.2
     ∙ ap (λ (s : PathStep). s ∷ []) (rw c.deref.ensures.value at c.step_behind.ensures) in
@@ -92,8 +92,8 @@ records_at-returns-then-room-eq0 t c =
       steps = tt;
       fault =
           rw told
-          (bad_from c.args.innermost c.args.bytes.now c.args.at c.records.here c.args.room _ _ (c.is_at_end.ensures.goes_on c.records-test.true) c.records.invariant.3
-          (RecordFault.group_too_deep {k = c.in_ok-number.number} {q = place c.args.bytes.now c.in_ok-number.start} (rw c.in-StartGroup.is at c.in_ok-number.ensures.ok) c.if-room-eq0.true (rw c.refused.ensures refl)));
+          (bad_from c.args.innermost c.args.bytes.now c.args.at c.records.here c.args.depth_left _ _ (c.is_at_end.ensures.goes_on c.records-test.true) c.records.invariant.3
+          (RecordFault.group_too_deep {k = c.in_ok-number.number} {q = place c.args.bytes.now c.in_ok-number.start} (rw c.in-StartGroup.is at c.in_ok-number.ensures.ok) c.if-depth_left-eq0.true (rw c.refused.ensures refl)));
     }
 
 pub records_at-returns-in-Err : goal.records_at-returns-in-Err
@@ -103,7 +103,7 @@ records_at-returns-in-Err t c = record {
   ok = tt;
   steps = tt;
   fault =
-      bad_after c.args.innermost c.args.bytes.now c.args.at c.records.here c.in_ok-number.start c.args.room c.in_ok-number.number _ _
+      bad_after c.args.innermost c.args.bytes.now c.args.at c.records.here c.in_ok-number.start c.args.depth_left c.in_ok-number.number _ _
       c.value_at.new.steps.items c.push-in-Err.new.self.items c.in-Err.error (c.is_at_end.ensures.goes_on c.records-test.true) c.records.invariant.3
       c.in_ok-number.ensures.ok
       (c.in_ok-push-in-Err.ensures.items ∙ ap (λ (s : PathStep). c.value_at.new.steps.items ++ s ∷ []) (rw c.deref-in-Err.ensures.value at c.step_behind-in-Err.ensures))

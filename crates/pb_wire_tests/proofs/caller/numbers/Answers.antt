@@ -1,7 +1,7 @@
 use Rattle.std.proofs.Common.{◌++◌, ◌∷◌, [], List, ℕ, sym, ap, ◌∙◌, inr, Err}
 use Rattle.std.proofs.lemmas.List.{map-append}
 use Rattle.std.proofs.lemmas.Result.{err_from_is_err_and}
-use Rattle.pb_wire.specs.RecordIter.{Gives, all_ok, as_told}
+use Rattle.pb_wire.specs.RecordIter.{Gives, all_ok, without_path}
 use Rattle.pb_wire.specs.declared.iter.Payload.{Payload}
 use Rattle.pb_wire_tests.specs.declared.caller.NumbersError.TheVariants.{Fault}
 use Rattle.pb_wire.proofs.RecordIterRuns.{Given, given_ok, fault_after, records_alone, given_ok-push, shown_numbers, all_numbers, no_fault, fault_follows, one_follows}
@@ -30,9 +30,9 @@ returns-in_err-number-clause-text c = λ rs t.
 pub returns-in_err-number-clause-fault : goal.returns-in_err-number-clause-fault
 returns-in_err-number-clause-fault c = λ f h.
     let given = c.new-item-items.ensures.fault f h in
-    let started : Gives c.into_iter-item-iterator.result (all_ok given.0 ++ Err (as_told f) ∷ []) = rw c.into_iter-item-iterator.ensures.into_iter_gives given.2 in
-    let run = fault_after _ _ _ _ c.loop-item.invariant.2 _ _ c.in_err-number.field-0.0 (all_ok given.0 ++ Err (as_told f) ∷ []) c.loop-item.yielded_by c.loop-item.invariant.3 c.in-Some.is c.in_err-number.was c.next.ensures.steps started in
-    let same = one_follows given.0 c.loop-item.invariant.2 (as_told f) c.in_err-number.field-0.0 run.0 run.1 in
+    let started : Gives c.into_iter-item-iterator.result (all_ok given.0 ++ Err (without_path f) ∷ []) = rw c.into_iter-item-iterator.ensures.into_iter_gives given.2 in
+    let run = fault_after _ _ _ _ c.loop-item.invariant.2 _ _ c.in_err-number.field-0.0 (all_ok given.0 ++ Err (without_path f) ∷ []) c.loop-item.yielded_by c.loop-item.invariant.3 c.in-Some.is c.in_err-number.was c.next.ensures.steps started in
+    let same = one_follows given.0 c.loop-item.invariant.2 (without_path f) c.in_err-number.field-0.0 run.0 run.1 in
     let p = err_from_is_err_and c.from_residual.result c.from_residual.ensures.1 in
     rw p.1 (inr (p.2 ∙ ap Fault same))
 
@@ -46,6 +46,6 @@ returns-clause-text c = λ rs t.
 pub returns-clause-fault : goal.returns-clause-fault
 returns-clause-fault c = λ f h.
     let given = c.new-item-items.ensures.fault f h in
-    let started : Gives c.into_iter-item-iterator.result (all_ok given.0 ++ Err (as_told f) ∷ []) = rw c.into_iter-item-iterator.ensures.into_iter_gives given.2 in
-    let run = records_alone _ _ _ _ c.loop-item.invariant.2 _ (all_ok given.0 ++ Err (as_told f) ∷ []) c.loop-item.yielded_by c.loop-item.invariant.3 c.in-None.is c.next.ensures.steps started in
-    fault_follows given.0 c.loop-item.invariant.2 (as_told f) run
+    let started : Gives c.into_iter-item-iterator.result (all_ok given.0 ++ Err (without_path f) ∷ []) = rw c.into_iter-item-iterator.ensures.into_iter_gives given.2 in
+    let run = records_alone _ _ _ _ c.loop-item.invariant.2 _ (all_ok given.0 ++ Err (without_path f) ∷ []) c.loop-item.yielded_by c.loop-item.invariant.3 c.in-None.is c.next.ensures.steps started in
+    fault_follows given.0 c.loop-item.invariant.2 (without_path f) run

@@ -24,16 +24,16 @@ returns-in_err-value-in-Some-clause-within c =
     let returned = err_from_is_err_and c.from_residual.result c.from_residual.ensures.1 in
     rw (returned.1, returned.2) within
 
-pub returns-in_ok-put_scalar-in-Some-clause-stands : goal.returns-in_ok-put_scalar-in-Some-clause-stands
-returns-in_ok-put_scalar-in-Some-clause-stands c =
+pub returns-in_ok-put_scalar-in-Some-clause-reached : goal.returns-in_ok-put_scalar-in-Some-clause-reached
+returns-in_ok-put_scalar-in-Some-clause-reached c =
     λ m depth levels n base p0 u w parents scope begun size moves.
     let kind = c.in-Some.kind in
     let of = sym c.scalar_kind.ensures ∙ c.in-Some.is in
     payload_put c.args.number c.args.target n begun c.requires.can kind c.args.bytes.now (part_view c.put_scalar.new.part) of c.requires.rules c.in_ok-value-in-Some.ensures.text size moves
     (λ x is. c.in_ok-put_scalar-in-Some.ensures ∙ ap (put_datum c.args.pool.now c.args.number c.args.target (part_view c.args.part.now)) (reported_of _ _ x is c.in_ok-value-in-Some.ensures.value))
 
-pub returns-in_ok-put_unknown-in-None-clause-stands : goal.returns-in_ok-put_unknown-in-None-clause-stands
-returns-in_ok-put_unknown-in-None-clause-stands c =
+pub returns-in_ok-put_unknown-in-None-clause-reached : goal.returns-in_ok-put_unknown-in-None-clause-reached
+returns-in_ok-put_unknown-in-None-clause-reached c =
     λ m depth levels n base p0 u w parents scope begun size moves.
     unknown_payload_put c.args.number c.args.target n begun c.requires.can c.args.bytes.now (part_view c.put_unknown.new.part) c.requires.bytes (sym c.scalar_kind.ensures ∙ c.in-None.is) c.requires.rules size moves
     (c.in_ok-put_unknown-in-None.ensures ∙ ap (λ (z : Payload). put_record c.args.number z (part_view c.args.part.now)) (payload_of-Len c.in_ok-copy-in-None.copy ∙ ap len c.in_ok-copy-in-None.ensures.items))

@@ -9,7 +9,7 @@ use Rattle.pb_c.proofs.message.key.report_key.Goals as goal
 
 pub returns-in-Ok-clause-answered : goal.returns-in-Ok-clause-answered
 returns-in-Ok-clause-answered c =
-    done (key_in c.args.index) c.args.keys.now c.args.place.now c.args.message.now 0 (λ x. Reports x c.key_value.result c.args.out.now c.lay_over.new.room) (key_view c.in-Ok.found.now)
+    done (key_in c.args.index) c.args.keys.now c.args.place.now c.args.message.now 0 (λ x. Reports x c.key_value.result c.args.out.now c.lay_over.new.buffer) (key_view c.in-Ok.found.now)
     (rw c.view.ensures at c.in-Ok.ensures)
     (record { value = c.key_value.ensures; bytes = c.lay_over.ensures ∙ ap (λ b. laid_over b c.args.out.now) c.key_bytes.ensures }) refl
 

@@ -8,7 +8,7 @@ use Rattle.pb_value.specs.View.{body_view, key_view, value_view}
 use Rattle.pb_building.specs.declared.open.part.Part.TheVariants as part_kept
 use Rattle.pb_building.specs.declared.open.part.Slot.TheVariants as slot
 use Rattle.pb_building.specs.declared.open.target.Target.TheVariants.{Message}
-use Rattle.pb_building.specs.Open.Parents.{Part, entry_part, one_more_in, Stands}
+use Rattle.pb_building.specs.Open.Parents.{Part, entry_part, one_more_in, Reached}
 use Rattle.pb_building.specs.Open.PartView.{part_view}
 use Rattle.pb_building.specs.Open.Targets.{Means, part_context}
 use Rattle.pb_building.specs.Close.Mapped.{pairs_view, put_mapped, put_all_mapped}
@@ -81,7 +81,7 @@ pub read_message-put_message-requires : goal.read_message-put_message-requires
 read_message-put_message-requires t c =
     let from = c.requires.at_tag.can.is_open in
     let has = typed_tag c.args.at.bytes.now (Some c.args.at.left.remaining) c.args.at.tag.number c.args.at.tag.wire_type 2 c.args.at.tag.size c.requires.bytes c.requires.at_tag.there in
-    let read = message_inside from.at (Some c.args.at.left.remaining) c.args.at.bytes.now c.args.at.tag.number c.args.at.tag.size c.in_ok-start.start c.in_ok-start.size c.args.at.left.depth_left c.depth_left_in.result c.args.of_type c.args.slot (part_view c.take_message.new.outer) (body_view c.take_message.result) c.requires.at_tag.can.rules from.stands c.depth_left_in.ensures (has from.at) (c.in_ok-start.ensures.whole from.at c.args.at.tag.number c.args.at.tag.wire_type (c.requires.at_tag.there from.at)) c.requires.means (c.if-not-has_level.ensures.depth_left refl) c.take_message.ensures.left c.take_message.ensures.taken c.in_ok-read_records.ensures (ap part_view c.in_ok-message.ensures.1) in
+    let read = message_inside from.at (Some c.args.at.left.remaining) c.args.at.bytes.now c.args.at.tag.number c.args.at.tag.size c.in_ok-start.start c.in_ok-start.size c.args.at.left.depth_left c.depth_left_in.result c.args.of_type c.args.slot (part_view c.take_message.new.outer) (body_view c.take_message.result) c.requires.at_tag.can.rules from.reached c.depth_left_in.ensures (has from.at) (c.in_ok-start.ensures.whole from.at c.args.at.tag.number c.args.at.tag.wire_type (c.requires.at_tag.there from.at)) c.requires.means (c.if-not-has_level.ensures.depth_left refl) c.take_message.ensures.left c.take_message.ensures.taken c.in_ok-read_records.ensures (ap part_view c.in_ok-message.ensures.1) in
     parent_can_hold read.1
 
 pub read_message-returns : goal.read_message-returns
@@ -278,24 +278,24 @@ pub entry_after-key_or_default-key-requires : goal.entry_after-key_or_default-ke
 entry_after-key_or_default-key-requires t c =
     let from = c.requires.at_entry.is_open in
     let has = typed_tag c.args.at.bytes.now (Some c.args.at.left.remaining) c.args.at.tag.number c.args.at.tag.wire_type 2 c.args.at.tag.size c.requires.at_entry.bytes c.requires.at_entry.there in
-    let read = entry_inside from.at (Some c.args.at.left.remaining) c.args.at.bytes.now c.args.at.tag.number c.args.at.tag.size c.in_ok-start.start c.in_ok-start.size c.args.at.left.depth_left c.args.key_kind c.args.value_kind c.requires.at_entry.rules (from.scope, from.stands, from.level) (has from.at) (c.in_ok-start.ensures.whole from.at c.args.at.tag.number c.args.at.tag.wire_type (c.requires.at_entry.there from.at)) from.means c.requires.at_entry.level c.in_ok-read_entry.ensures (ap part_view c.in-Entry.is) in
+    let read = entry_inside from.at (Some c.args.at.left.remaining) c.args.at.bytes.now c.args.at.tag.number c.args.at.tag.size c.in_ok-start.start c.in_ok-start.size c.args.at.left.depth_left c.args.key_kind c.args.value_kind c.requires.at_entry.rules (from.scope, from.reached, from.level) (has from.at) (c.in_ok-start.ensures.whole from.at c.args.at.tag.number c.args.at.tag.wire_type (c.requires.at_entry.there from.at)) from.means c.requires.at_entry.level c.in_ok-read_entry.ensures (ap part_view c.in-Entry.is) in
     can_hold c.requires.at_entry.rules (entry_part c.in-Entry.entry.key_kind c.in-Entry.entry.value_kind (option_map key_view c.in-Entry.entry.key) (option_map value_view c.in-Entry.entry.value)) read.1
 
 pub entry_after-returns-in_ok-push-in-Entry-clause-put : goal.entry_after-returns-in_ok-push-in-Entry-clause-put
 entry_after-returns-in_ok-push-in-Entry-clause-put t c = (
   (c.key_or_default-key.result, c.value_or_missing-value.result),
   c.in_ok-push-in-Entry.ensures.items,
-  λ m depth levels at base p0 parents scope now stands level means.
+  λ m depth levels at base p0 parents scope now reached level means.
       let has = typed_tag c.args.at.bytes.now (Some c.args.at.left.remaining) c.args.at.tag.number c.args.at.tag.wire_type 2 c.args.at.tag.size c.requires.at_entry.bytes c.requires.at_entry.there in
-      let read = entry_inside at (Some c.args.at.left.remaining) c.args.at.bytes.now c.args.at.tag.number c.args.at.tag.size c.in_ok-start.start c.in_ok-start.size c.args.at.left.depth_left c.args.key_kind c.args.value_kind c.requires.at_entry.rules (scope, stands, level) (has at) (c.in_ok-start.ensures.whole at c.args.at.tag.number c.args.at.tag.wire_type (c.requires.at_entry.there at)) means c.requires.at_entry.level c.in_ok-read_entry.ensures (ap part_view c.in-Entry.is) in
-      entry_taken at (Some c.args.at.left.remaining) c.args.at.bytes.now c.args.at.tag.number c.in_ok-start.start c.in_ok-start.size (c.args.at.left.depth_left - 1) c.in-Entry.entry.key_kind c.in-Entry.entry.value_kind (option_map key_view c.in-Entry.entry.key) (option_map value_view c.in-Entry.entry.value) (key_view c.key_or_default-key.result) (value_view c.value_or_missing-value.result) c.requires.at_entry.rules stands read c.key_or_default-key.ensures c.value_or_missing-value.ensures,
+      let read = entry_inside at (Some c.args.at.left.remaining) c.args.at.bytes.now c.args.at.tag.number c.args.at.tag.size c.in_ok-start.start c.in_ok-start.size c.args.at.left.depth_left c.args.key_kind c.args.value_kind c.requires.at_entry.rules (scope, reached, level) (has at) (c.in_ok-start.ensures.whole at c.args.at.tag.number c.args.at.tag.wire_type (c.requires.at_entry.there at)) means c.requires.at_entry.level c.in_ok-read_entry.ensures (ap part_view c.in-Entry.is) in
+      entry_taken at (Some c.args.at.left.remaining) c.args.at.bytes.now c.args.at.tag.number c.in_ok-start.start c.in_ok-start.size (c.args.at.left.depth_left - 1) c.in-Entry.entry.key_kind c.in-Entry.entry.value_kind (option_map key_view c.in-Entry.entry.key) (option_map value_view c.in-Entry.entry.value) (key_view c.key_or_default-key.result) (value_view c.value_or_missing-value.result) c.requires.at_entry.rules reached read c.key_or_default-key.ensures c.value_or_missing-value.ensures,
 )
 
 -- ENTRY BY ENTRY
 pub entries_from-loop-next-init : goal.entries_from-loop-next-init
 entries_from-loop-next-init t c = record {
   within = omega arith;
-  put = λ m depth levels at base p0 parents scope now stands level means. none_read at (Some c.args.at.left.remaining) c.args.at.bytes.now c.args.at.tag.number c.new-entries.result.items c.new-entries.ensures.items stands;
+  put = λ m depth levels at base p0 parents scope now reached level means. none_read at (Some c.args.at.left.remaining) c.args.at.bytes.now c.args.at.tag.number c.in_ok-entries.entries.items c.in_ok-entries.ensures.items reached;
 }
 
 pub entries_from-entry_after-requires : goal.entries_from-entry_after-requires
@@ -315,16 +315,16 @@ entries_from-loop-next-preserved t c =
     let added = entry_there c.args.at entry here c.in_ok-size.size c.after.ensures c.in-Some.ensures.own.0 c.in-Some.ensures.begins c.in_ok-size.ensures.put.2 in
     record {
       within = omega (arith, size, enough, within);
-      put = λ m depth levels at base p0 parents scope now stands level means.
+      put = λ m depth levels at base p0 parents scope now reached level means.
           let p : Place = given_at at (Some c.args.at.left.remaining) c.args.at.bytes.now in
           let items = c.loop-next.entries.items in
-          let was = c.loop-next.invariant.put m depth levels at base p0 parents scope now stands level means in
+          let was = c.loop-next.invariant.put m depth levels at base p0 parents scope now reached level means in
           let after = place_after at (Some c.args.at.left.remaining) (Some (c.args.at.left.remaining - here)) c.args.at.bytes.now here refl in
-          let there = subst (Stands c.args.self.now.pool.now m depth levels base p0 parents (put_all_mapped number (pairs_view items) now) (more_in number (length items) scope)) after was.1 in
+          let there = subst (Reached c.args.self.now.pool.now m depth levels base p0 parents (put_all_mapped number (pairs_view items) now) (more_in number (length items) scope)) after was.1 in
           let reported = added m depth levels (at + here) base p0 parents (more_in number (length items) scope) (put_all_mapped number (pairs_view items) now) there
           (more_depth number (length items) scope ∙ level) (means_along c.args.self.now.pool.now number number (pairs_view items) now c.args.key_kind c.args.value_kind means) in
           run_further scope now p here c.in_ok-size.size number items c.entry_after.new.entries.items entry c.in_ok-size.ensures.put.1 was.0 reported.0
-          (subst (Stands c.args.self.now.pool.now m depth levels base p0 parents (put_mapped number (key_view entry.0, value_view entry.1) (put_all_mapped number (pairs_view items) now)) (one_more_in number (more_in number (length items) scope)))
+          (subst (Reached c.args.self.now.pool.now m depth levels base p0 parents (put_mapped number (key_view entry.0, value_view entry.1) (put_all_mapped number (pairs_view items) now)) (one_more_in number (more_in number (length items) scope)))
           (ap (λ (z : Place). passed z c.in_ok-size.size) (sym after)) reported.1);
     }
 
@@ -349,10 +349,10 @@ read_entries-entries_from-requires t c =
 pub read_entries-put_entries-requires-clause-fits : goal.read_entries-put_entries-requires-clause-fits
 read_entries-put_entries-requires-clause-fits t c =
     let from = c.requires.at_tag.can.is_open in
-    (c.in_ok-entries.ensures.put from.m from.depth from.levels from.at from.base from.p0 from.parents from.stands.0 (part_view c.args.part.now) from.stands.1 from.stands.2 c.requires.means).0
+    (c.in_ok-entries.ensures.put from.m from.depth from.levels from.at from.base from.p0 from.parents from.reached.0 (part_view c.args.part.now) from.reached.1 from.reached.2 c.requires.means).0
 
 pub read_entries-put_entries-requires-clause-rises : goal.read_entries-put_entries-requires-clause-rises
-read_entries-put_entries-requires-clause-rises t c = rises_in c.requires.at_tag.can.rules (part_view c.args.part.now) c.requires.at_tag.can.is_open.stands.1
+read_entries-put_entries-requires-clause-rises t c = rises_in c.requires.at_tag.can.rules (part_view c.args.part.now) c.requires.at_tag.can.is_open.reached.1
 
 pub read_entries-returns : goal.read_entries-returns
 read_entries-returns t c =
@@ -390,7 +390,7 @@ read_field_group-put_message-requires t c =
     let start = typed_tag c.args.at.bytes.now (Some c.args.at.left.remaining) c.args.at.tag.number c.args.at.tag.wire_type 3 c.args.at.tag.size c.requires.start c.requires.at_tag.there in
     let below = c.below-within.ensures ∙ ap (λ (z : Left). record { remaining = z.remaining; depth_left = z.depth_left - 1 }) c.after.ensures in
     let reads = subst (λ (z : Left). ReadsToEnd c.args.self.now.pool.now c.args.at.tag.number (part_view (part_kept.Message c.args.of_type c.take_message.result)) (part_view c.read_to_end.new.part) (take (length c.args.at.bytes.now - c.args.at.tag.size) (drop c.args.at.tag.size c.args.at.bytes.now)) z.remaining z.depth_left c.in_ok-size.size) below c.in_ok-size.ensures.read in
-    let read = field_group_inside from.at c.args.at.left.remaining c.args.at.bytes.now c.args.at.tag.number c.args.at.tag.size (c.args.at.left.remaining - c.args.at.tag.size) c.in_ok-size.size c.args.at.left.depth_left c.args.of_type c.args.slot (part_view c.take_message.new.outer) (body_view c.take_message.result) c.requires.at_tag.can.rules from.stands start c.requires.means c.requires.level c.take_message.ensures.left c.take_message.ensures.taken refl reads (ap part_view c.in_ok-message.ensures.1) in
+    let read = field_group_inside from.at c.args.at.left.remaining c.args.at.bytes.now c.args.at.tag.number c.args.at.tag.size (c.args.at.left.remaining - c.args.at.tag.size) c.in_ok-size.size c.args.at.left.depth_left c.args.of_type c.args.slot (part_view c.take_message.new.outer) (body_view c.take_message.result) c.requires.at_tag.can.rules from.reached start c.requires.means c.requires.level c.take_message.ensures.left c.take_message.ensures.taken refl reads (ap part_view c.in_ok-message.ensures.1) in
     parent_can_hold read.1.1
 
 pub read_field_group-returns : goal.read_field_group-returns

@@ -5,7 +5,7 @@ use Rattle.pb_wire.specs.Scan.{given_at, passed}
 use Rattle.pb_value.specs.View.{value_view}
 use Rattle.pb_building.specs.declared.open.target.Target.TheVariants.{Element}
 use Rattle.pb_building.specs.Open.Targets.{Means, part_context}
-use Rattle.pb_whole.specs.Reads.{StandsIn}
+use Rattle.pb_whole.specs.Reads.{ReachedIn}
 use Rattle.pb_building.proofs.RunLemmas.{listed_is}
 use Rattle.pb_building.specs.Open.Parents.{Part, one_more_in}
 use Rattle.pb_building.specs.Tokens.After.{tag}
@@ -48,7 +48,7 @@ returns-else-is_undeclared-clause-put c =
     let meant = subst (λ (z : ℕ). Means pool (part_context now) number z (Element kind)) (sym c.requires.at_element.own) means in
     let next = number_next number c.args.at.tag.wire_type (Element kind) c.requires.at_element.number there.1 (c.requires.at_element.there at) meant in
     let given = read_some kind c.in-Whole.number (reported.0 ∙ c.requires.at_element.own) in
-    subst (λ (z : Part). StandsIn pool m depth levels base p0 parents depth_left z (passed p (c.args.at.tag.size + c.in-Whole.size))) (sym (listed_is pool number kind now v)) (
+    subst (λ (z : Part). ReachedIn pool m depth levels base p0 parents depth_left z (passed p (c.args.at.tag.size + c.in-Whole.size))) (sym (listed_is pool number kind now v)) (
       one_more_in number there.0,
       number_put number c.in-Whole.number (Element kind) kind next.2 (next.1 ∙ ap (λ (z : ℕ). Some (tag number z (Element kind))) (sym reported.0)) refl given.0 (put_datum pool number (Element kind) now v) c.requires.at_element.rules (can_hold c.requires.at_element.rules now there.1) given.1
           (sym c.is_undeclared.ensures ∙ c.if-is_undeclared.false) follows (ap (put_datum pool number (Element kind) now) (reported_of _ _ given.0 given.1 c.number_value.ensures)),

@@ -26,7 +26,7 @@ returns-in-Ok c =
           let next = bytes_next c.args.at.tag.number c.in_ok-start.size c.args.target there.1 has c.requires.means c.requires.target l in
           let size = slice_size c.in_ok-start.start c.in_ok-start.size c.args.at.bytes.now within in (
             one_more_in c.args.at.tag.number there.0,
-            c.in-Ok.ensures.stands m depth levels c.in_ok-start.size base p0 (passed p c.in_ok-start.start) (passed p (c.in_ok-start.start + c.in_ok-start.size)) parents there.0 next size
+            c.in-Ok.ensures.reached m depth levels c.in_ok-start.size base p0 (passed p c.in_ok-start.start) (passed p (c.in_ok-start.start + c.in_ok-start.size)) parents there.0 next size
                 (payload_leads p c.in_ok-start.start c.in_ok-start.size (passed p c.args.at.tag.size) within l),
             there.2,
           );

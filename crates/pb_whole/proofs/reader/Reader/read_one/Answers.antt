@@ -17,7 +17,7 @@ put_number-requires-clause-can c = open_can c.requires.at_tag.can.rules c.requir
 pub returns-in_ok-put_number-in-Whole : goal.returns-in_ok-put_number-in-Whole
 returns-in_ok-put_number-in-Whole c =
     let is = ap length (slice_from c.args.at.tag.size c.args.at.bytes.now) ∙ length-drop c.args.at.tag.size c.args.at.bytes.now in
-    let after = (c.in-Whole.ensures 0).1 in
+    let after = (c.in-Whole.ensures 0).0 in
     let within = c.requires.at_tag.within in
     record {
       least = omega arith;
@@ -26,11 +26,11 @@ returns-in_ok-put_number-in-Whole c =
           let p = given_at at (Some c.args.at.left.remaining) c.args.at.bytes.now in
           let reported = c.in-Whole.ensures (at + c.args.at.tag.size) in
           let follows =
-          there_after (λ (q r : Place). Follows q (number_view c.in-Whole.value) r) at (Some c.args.at.left.remaining) c.left_after-after.result c.args.at.bytes.now c.args.at.tag.size c.in-Whole.size c.left_after-after.ensures reported.2 in
+          there_after (λ (q r : Place). Follows q (number_view c.in-Whole.value) r) at (Some c.args.at.left.remaining) c.left_after-after.result c.args.at.bytes.now c.args.at.tag.size c.in-Whole.size c.left_after-after.ensures reported.1.1 in
           let next = number_next c.args.at.tag.number c.args.at.tag.wire_type c.args.target c.requires.number there.1 (c.requires.at_tag.there at) c.requires.means in (
             one_more_in c.args.at.tag.number there.0,
             c.in_ok-put_number-in-Whole.ensures m depth levels base p0 (passed p c.args.at.tag.size) (passed p (c.args.at.tag.size + c.in-Whole.size)) parents there.0 next.0 next.2
-                (next.1 ∙ ap (λ (z : ℕ). Some (tag c.args.at.tag.number z c.args.target)) (sym reported.0)) follows,
+                (next.1 ∙ ap (λ (z : ℕ). Some (tag c.args.at.tag.number z c.args.target)) (sym reported.1.0)) follows,
             there.2,
           );
     }
@@ -38,7 +38,7 @@ returns-in_ok-put_number-in-Whole c =
 pub overflow_add-result : goal.overflow_add-result
 overflow_add-result c =
     let is = ap length (slice_from c.args.at.tag.size c.args.at.bytes.now) ∙ length-drop c.args.at.tag.size c.args.at.bytes.now in
-    let after = (c.in-Whole.ensures 0).1 in
+    let after = (c.in-Whole.ensures 0).0 in
     let within = c.requires.at_tag.within in
     let small = c.requires.at_tag.can.small in
     omega (arith, is, after, within, small)

@@ -7,7 +7,7 @@ use Rattle.pb_building.specs.Open.PartView.{part_view}
 use Rattle.pb_building.specs.Tokens.After.{After}
 use Rattle.pb_building.proofs.AnswerLemmas.{reported_of}
 use Rattle.pb_building.proofs.PlaceLemmas.{slice_from, slice_size}
-use Rattle.pb_whole.specs.Reads.{StandsIn}
+use Rattle.pb_whole.specs.Reads.{ReachedIn}
 use Rattle.pb_whole.proofs.Payloads.{payload_place, typed_tag, list_filled}
 use Rattle.pb_whole.proofs.reader.Reader.read_packed.Goals as goal
 
@@ -35,5 +35,5 @@ returns c =
           (λ outer scope begun.
           subst (λ (z : Part). After c.args.self.now.pool.now m depth levels base p0 parents (Elements number kind outer) z scope (passed (payload_place at bytes start size) (length (take ((start + size) - start) (drop start bytes))))) (sym c.in_ok-put_elements.ensures)
           (reported_of _ _ c.in-Some.values c.in-Some.is c.in_ok-values.ensures c.args.self.now.pool.now number size rest payload m depth levels (at + start) outer base p0 parents scope (part_view c.args.part.now) begun)) all in
-          subst (λ (z : ℕ). StandsIn c.args.self.now.pool.now m depth levels base p0 parents c.args.at.left.depth_left (part_view c.put_elements.new.part) (passed (given_at at (Some c.args.at.left.remaining) bytes) (start + z))) all filled;
+          subst (λ (z : ℕ). ReachedIn c.args.self.now.pool.now m depth levels base p0 parents c.args.at.left.depth_left (part_view c.put_elements.new.part) (passed (given_at at (Some c.args.at.left.remaining) bytes) (start + z))) all filled;
     }

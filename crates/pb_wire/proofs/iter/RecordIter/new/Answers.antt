@@ -19,7 +19,7 @@ returns-clause-fault c = λ f h.
     let given = fault_given c.args.limits c.args.bytes.now f h in
     (given.0, given.1, rw (c.min-end.ensures, c.max_bytes.ensures.same, c.max_depth.ensures.same, start-min c.args.limits c.args.bytes.now) given.2)
 
-pub returns-clause-told : goal.returns-clause-told
-returns-clause-told c =
+pub returns-clause-settled : goal.returns-clause-settled
+returns-clause-settled c =
     exactly blank tt c.args.limits c.args.bytes.now
     (All-from_get_or IsByte c.args.bytes.now 0 (λ i h. let fits = c.type_inv.bytes i in search (rules, fits)))

@@ -22,7 +22,7 @@ pub returns-in-Err-clause-steps : goal.returns-in-Err-clause-steps
 returns-in-Err-clause-steps c =
     let found = c.in-Err.ensures.fault in
     let f = fault_with c.in-Err.fault.byte found.0 c.in-Err.fault.cause in
-    rw (← c.self.view_is, c.told.ensures found.0)
+    rw (← c.self.view_is, c.fault_at_end.ensures found.0)
     (record {
       first = λ items given. fault_left c.self.inside.bytes.now c.self.inside.is_cut c.self.inside.at c.self.inside.max_depth f items
           (let within = c.self.invariant in let more = c.if-self-end.false in omega arith) found.1 given;

@@ -2,13 +2,13 @@
 use Rattle.std.proofs.Common.{ℕ, ◌+◌, refl, sym, subst, arith}
 use Rattle.pb_wire.specs.Fault.{HasTag}
 use Rattle.pb_wire.specs.Scan.{passed}
-use Rattle.pb_building.specs.Open.Parents.{Scope, Stands}
+use Rattle.pb_building.specs.Open.Parents.{Scope, Reached}
 use Rattle.pb_building.specs.Open.PartView.{part_view, scope_view}
 use Rattle.pb_building.proofs.PlaceLemmas.{slice_size}
 use Rattle.pb_decode.specs.Reader.{state_view, parents_view, here}
-use Rattle.pb_decode.proofs.ReaderLemmas.{stands_reads}
+use Rattle.pb_decode.proofs.ReaderLemmas.{reached_reads}
 use Rattle.pb_whole.proofs.Tags.{bytes_next, payload_leads}
-use Rattle.pb_decode.proofs.WholeRecords.{tag_stands, tag_can, tag_few, length_here}
+use Rattle.pb_decode.proofs.WholeRecords.{tag_reached, tag_can, tag_few, length_here}
 use Rattle.pb_decode.proofs.reader.state.State.take_bytes_record.Goals as goal
 
 pub put_payload-requires-clause-can : goal.put_payload-requires-clause-can
@@ -28,11 +28,11 @@ returns-in_ok-count_one-in-Ok-clause-taken c =
     let l =
     length_here (state_view c.args.self.now) c.args.bytes.now c.args.tag.number c.args.tag.wire_type c.args.tag.size c.in-Some.start c.in-Some.size c.left.ensures c.in-Some.ensures.whole c.requires.at.at_tag.there in
     let within = c.in-Some.ensures.within.1 in
-    let next = bytes_next c.args.tag.number c.in-Some.size c.args.target (tag_stands (state_view c.args.self.now) c.args.bytes.now begun c.requires.at.at_tag.step) has c.requires.at.means c.requires.target l in
+    let next = bytes_next c.args.tag.number c.in-Some.size c.args.target (tag_reached (state_view c.args.self.now) c.args.bytes.now begun c.requires.at.at_tag.step) has c.requires.at.means c.requires.target l in
     let size = slice_size c.in-Some.start c.in-Some.size c.args.bytes.now within in
-    stands_reads (state_view c.args.self.now)
+    reached_reads (state_view c.args.self.now)
     (record { at = c.args.self.now.at + (c.in-Some.start + c.in-Some.size); now = part_view c.put_payload.new.part; scope = scope_view c.count_one.new.scope; parents = parents_view c.args.self.now.parents.items; next = c.args.self.now.step })
     (c.in-Some.start + c.in-Some.size) c.args.bytes.now refl c.in_ok-count_one-in-Ok.ensures.same_end c.requires.at.at_tag.step
-    (subst (λ (z : Scope). Stands c.args.by.now.pool.now m depth levels base p0 (parents_view c.args.self.now.parents.items) (part_view c.put_payload.new.part) z (passed p (c.in-Some.start + c.in-Some.size))) (sym c.in_ok-count_one-in-Ok.ensures.more)
-    (c.in-Ok.ensures.stands m depth levels c.in-Some.size base p0 (passed p c.in-Some.start) (passed p (c.in-Some.start + c.in-Some.size)) (parents_view c.args.self.now.parents.items) (scope_view c.args.self.now.scope) next size
+    (subst (λ (z : Scope). Reached c.args.by.now.pool.now m depth levels base p0 (parents_view c.args.self.now.parents.items) (part_view c.put_payload.new.part) z (passed p (c.in-Some.start + c.in-Some.size))) (sym c.in_ok-count_one-in-Ok.ensures.more)
+    (c.in-Ok.ensures.reached m depth levels c.in-Some.size base p0 (passed p c.in-Some.start) (passed p (c.in-Some.start + c.in-Some.size)) (parents_view c.args.self.now.parents.items) (scope_view c.args.self.now.scope) next size
     (payload_leads p c.in-Some.start c.in-Some.size (passed p c.args.tag.size) within l)))

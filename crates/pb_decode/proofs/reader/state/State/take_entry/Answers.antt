@@ -6,7 +6,7 @@ use Rattle.pb_wire.specs.Scan.{given_at, passed}
 use Rattle.pb_building.specs.Open.PartView.{part_view, scope_view}
 use Rattle.pb_building.specs.Open.Parents.{up_to}
 use Rattle.pb_decode.specs.Reader.{state_view, parents_view, left_of, here}
-use Rattle.pb_decode.proofs.WholeRecords.{tag_few, tag_can, tag_stands, length_here, entry_in_reader, inner_passed}
+use Rattle.pb_decode.proofs.WholeRecords.{tag_few, tag_can, tag_reached, length_here, entry_in_reader, inner_passed}
 use Rattle.pb_building.proofs.PlaceLemmas.{slice_from}
 use Rattle.pb_whole.proofs.Held.{part_fits}
 use Rattle.pb_whole.proofs.Payloads.{entry_inside, none_left}
@@ -35,7 +35,7 @@ close_part-requires-clause-fits c =
     let has = subst (λ (z : ℕ). HasTag (here s c.args.bytes.now) c.args.tag.number z (passed (here s c.args.bytes.now) c.args.tag.size)) c.requires.bytes c.requires.at_tag.there in
     let l = length_here s c.args.bytes.now c.args.tag.number c.args.tag.wire_type c.args.tag.size c.in-Some.start c.in-Some.size c.left.ensures c.in-Some.ensures.whole c.requires.at_tag.there in
     let level = c.if-self-eq0.false in
-    let read = entry_inside s.at (left_of s) c.args.bytes.now c.args.tag.number c.args.tag.size c.in-Some.start c.in-Some.size s.scope.depth_left c.args.key_kind c.args.value_kind c.requires.at_tag.rules (s.scope, tag_stands s c.args.bytes.now c.requires.at_tag.reading.reads c.requires.at_tag.step, refl) has l c.requires.means (omega (arith, level)) c.in-Ok.ensures refl in
+    let read = entry_inside s.at (left_of s) c.args.bytes.now c.args.tag.number c.args.tag.size c.in-Some.start c.in-Some.size s.scope.depth_left c.args.key_kind c.args.value_kind c.requires.at_tag.rules (s.scope, tag_reached s c.args.bytes.now c.requires.at_tag.reading.reads c.requires.at_tag.step, refl) has l c.requires.means (omega (arith, level)) c.in-Ok.ensures refl in
     part_fits c.requires.at_tag.rules (part_view c.read_entry.new.entry) read.1
 
 pub close_part-requires-clause-few : goal.close_part-requires-clause-few
@@ -51,7 +51,7 @@ returns-clause-taken c =
     let has = subst (λ (z : ℕ). HasTag (here s c.args.bytes.now) c.args.tag.number z (passed (here s c.args.bytes.now) c.args.tag.size)) c.requires.bytes c.requires.at_tag.there in
     let l = length_here s c.args.bytes.now c.args.tag.number c.args.tag.wire_type c.args.tag.size c.in-Some.start c.in-Some.size c.left.ensures c.in-Some.ensures.whole c.requires.at_tag.there in
     let level = c.if-self-eq0.false in
-    let read = entry_inside s.at (left_of s) c.args.bytes.now c.args.tag.number c.args.tag.size c.in-Some.start c.in-Some.size s.scope.depth_left c.args.key_kind c.args.value_kind c.requires.at_tag.rules (s.scope, tag_stands s c.args.bytes.now begun c.requires.at_tag.step, refl) has l c.requires.means (omega (arith, level)) c.in-Ok.ensures refl in
+    let read = entry_inside s.at (left_of s) c.args.bytes.now c.args.tag.number c.args.tag.size c.in-Some.start c.in-Some.size s.scope.depth_left c.args.key_kind c.args.value_kind c.requires.at_tag.rules (s.scope, tag_reached s c.args.bytes.now begun c.requires.at_tag.step, refl) has l c.requires.means (omega (arith, level)) c.in-Ok.ensures refl in
     let q = passed (given_at (c.args.self.now.at + c.in-Some.start) (Some c.in-Some.size) (take (length c.args.bytes.now - c.in-Some.start) (drop c.in-Some.start c.args.bytes.now))) c.in-Some.size in
     inner_passed s
     (record { at = c.args.self.now.at + (c.in-Some.start + c.in-Some.size); now = part_view c.close_part.new.outer; scope = scope_view c.close_part.new.scope; parents = parents_view c.args.self.now.parents.items; next = c.args.self.now.step })

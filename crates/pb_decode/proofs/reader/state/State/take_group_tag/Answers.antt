@@ -1,5 +1,5 @@
 -- After the tag the group is open, or the reader is in what holds it.
-use Rattle.std.proofs.Common.{ℕ, ◌≡◌, refl, sym, ◌∙◌, subst}
+use Rattle.std.proofs.Common.{ℕ, refl, sym, ◌∙◌, subst}
 use Rattle.pb_wire.specs.Fault.{HasTag}
 use Rattle.pb_wire.specs.Scan.{passed}
 use Rattle.pb_building.specs.Open.Openings.{innermost_group}

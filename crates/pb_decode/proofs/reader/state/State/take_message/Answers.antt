@@ -10,7 +10,7 @@ use Rattle.pb_building.specs.Open.Parents.{up_to}
 use Rattle.pb_building.proofs.PlaceLemmas.{slice_from}
 use Rattle.pb_whole.proofs.Held.{part_fits}
 use Rattle.pb_whole.proofs.Payloads.{message_inside, none_left}
-use Rattle.pb_decode.proofs.WholeRecords.{tag_few, tag_can, tag_stands, length_here, message_in_reader, inner_passed}
+use Rattle.pb_decode.proofs.WholeRecords.{tag_few, tag_can, tag_reached, length_here, message_in_reader, inner_passed}
 use Rattle.pb_decode.proofs.reader.state.State.take_message.Goals as goal
 
 pub read_records-requires-clause-can : goal.read_records-requires-clause-can
@@ -42,7 +42,7 @@ close_part-requires-clause-fits c =
     let has = subst (λ (z : ℕ). HasTag (here s c.args.bytes.now) c.args.tag.number z (passed (here s c.args.bytes.now) c.args.tag.size)) c.requires.bytes c.requires.at_tag.there in
     let l = length_here s c.args.bytes.now c.args.tag.number c.args.tag.wire_type c.args.tag.size c.in-Some.start c.in-Some.size c.left.ensures c.in-Some.ensures.whole c.requires.at_tag.there in
     let free = c.if-not-is_free.ensures refl in
-    let read = message_inside s.at (left_of s) c.args.bytes.now c.args.tag.number c.args.tag.size c.in-Some.start c.in-Some.size s.scope.depth_left c.depth_left_in.result c.args.message_type c.args.slot s.now (body_view c.empty_body.result) c.requires.at_tag.rules (s.scope, tag_stands s c.args.bytes.now c.requires.at_tag.reading.reads c.requires.at_tag.step, refl) c.depth_left_in.ensures has l c.requires.means (c.if-not-has_level.ensures.depth_left refl) (sym free.1) (c.empty_body.ensures ∙ sym free.0) c.in-Ok.ensures refl in
+    let read = message_inside s.at (left_of s) c.args.bytes.now c.args.tag.number c.args.tag.size c.in-Some.start c.in-Some.size s.scope.depth_left c.depth_left_in.result c.args.message_type c.args.slot s.now (body_view c.empty_body.result) c.requires.at_tag.rules (s.scope, tag_reached s c.args.bytes.now c.requires.at_tag.reading.reads c.requires.at_tag.step, refl) c.depth_left_in.ensures has l c.requires.means (c.if-not-has_level.ensures.depth_left refl) (sym free.1) (c.empty_body.ensures ∙ sym free.0) c.in-Ok.ensures refl in
     part_fits c.requires.at_tag.rules (part_view c.read_records.new.part) read.1
 
 pub returns-clause-taken : goal.returns-clause-taken
@@ -52,7 +52,7 @@ returns-clause-taken c =
     let has = subst (λ (z : ℕ). HasTag (here s c.args.bytes.now) c.args.tag.number z (passed (here s c.args.bytes.now) c.args.tag.size)) c.requires.bytes c.requires.at_tag.there in
     let l = length_here s c.args.bytes.now c.args.tag.number c.args.tag.wire_type c.args.tag.size c.in-Some.start c.in-Some.size c.left.ensures c.in-Some.ensures.whole c.requires.at_tag.there in
     let free = c.if-not-is_free.ensures refl in
-    let read = message_inside s.at (left_of s) c.args.bytes.now c.args.tag.number c.args.tag.size c.in-Some.start c.in-Some.size s.scope.depth_left c.depth_left_in.result c.args.message_type c.args.slot s.now (body_view c.empty_body.result) c.requires.at_tag.rules (s.scope, tag_stands s c.args.bytes.now begun c.requires.at_tag.step, refl) c.depth_left_in.ensures has l c.requires.means (c.if-not-has_level.ensures.depth_left refl) (sym free.1) (c.empty_body.ensures ∙ sym free.0) c.in-Ok.ensures refl in
+    let read = message_inside s.at (left_of s) c.args.bytes.now c.args.tag.number c.args.tag.size c.in-Some.start c.in-Some.size s.scope.depth_left c.depth_left_in.result c.args.message_type c.args.slot s.now (body_view c.empty_body.result) c.requires.at_tag.rules (s.scope, tag_reached s c.args.bytes.now begun c.requires.at_tag.step, refl) c.depth_left_in.ensures has l c.requires.means (c.if-not-has_level.ensures.depth_left refl) (sym free.1) (c.empty_body.ensures ∙ sym free.0) c.in-Ok.ensures refl in
     let q = passed (given_at (c.args.self.now.at + c.in-Some.start) (Some c.in-Some.size) (take (length c.args.bytes.now - c.in-Some.start) (drop c.in-Some.start c.args.bytes.now))) c.in-Some.size in
     inner_passed s
     (record { at = c.args.self.now.at + (c.in-Some.start + c.in-Some.size); now = part_view c.close_part.new.outer; scope = scope_view c.close_part.new.scope; parents = parents_view c.args.self.now.parents.items; next = c.args.self.now.step })

@@ -5,11 +5,11 @@ use Rattle.pb_wire.specs.Scan.{given_at, passed}
 use Rattle.pb_wire.specs.declared.scan.Scanned.TheVariants as token
 use Rattle.pb_building.specs.Tokens.Numbers.{TellsNumber}
 use Rattle.pb_building.specs.declared.tokens.step.Step.TheVariants.{Tag}
-use Rattle.pb_building.specs.Open.Parents.{Scope, Stands}
+use Rattle.pb_building.specs.Open.Parents.{Scope, Reached}
 use Rattle.pb_building.specs.Open.PartView.{part_view, scope_view}
 use Rattle.pb_building.specs.Tokens.After.{tag}
 use Rattle.pb_decode.specs.Reader.{state_view, here, path_here}
-use Rattle.pb_decode.proofs.ReaderLemmas.{number_short, number_refused, stands_reads, fault_reported}
+use Rattle.pb_decode.proofs.ReaderLemmas.{number_short, number_refused, reached_reads, fault_reported}
 use Rattle.pb_building.proofs.NumberTokens.{size_some}
 use Rattle.pb_decode.proofs.ReaderSafe.{awaited_can, awaited_few}
 use Rattle.pb_decode.proofs.WaitLemmas.{number_waits}
@@ -48,10 +48,10 @@ returns-in_ok-count_one-in-Whole-clause-taken c =
     let s = state_view c.args.self.now in
     let reported = subst (λ (z : Option ℕ). TellsNumber c.args.wire_type (given_at c.args.self.now.at z c.args.bytes.now) (token.Whole c.in-Whole.value c.in-Whole.size)) c.left.ensures (c.in-Whole.ensures c.args.self.now.at) in
     let w = passed (here s c.args.bytes.now) c.in-Whole.size in
-    stands_reads s
+    reached_reads s
     (record { at = s.at + c.in-Whole.size; now = part_view c.put_number.new.part; scope = scope_view c.count_one.new.scope; parents = s.parents; next = Tag })
     c.in-Whole.size c.args.bytes.now refl c.in_ok-count_one-in-Whole.ensures.same_end refl
-    (subst (λ (z : Scope). Stands c.args.by.now.pool.now m depth levels base p0 s.parents (part_view c.put_number.new.part) z w) (sym c.in_ok-count_one-in-Whole.ensures.more)
+    (subst (λ (z : Scope). Reached c.args.by.now.pool.now m depth levels base p0 s.parents (part_view c.put_number.new.part) z w) (sym c.in_ok-count_one-in-Whole.ensures.more)
     (c.in_ok-put_number-in-Whole.ensures m depth levels base p0 (here s c.args.bytes.now) w s.parents s.scope s.next begun
     (c.requires.step ∙ ap (λ (z : ℕ). Some (tag c.args.number z c.args.target)) (sym reported.0)) reported.2))
 

@@ -4,14 +4,14 @@ use Rattle.pb_wire.specs.Fault.{Place}
 use Rattle.pb_wire.specs.Scan.{passed}
 use Rattle.pb_building.specs.Tokens.Number.{number_view}
 use Rattle.pb_building.specs.Tokens.Numbers.{Follows}
-use Rattle.pb_building.specs.Open.Parents.{Scope, Stands}
+use Rattle.pb_building.specs.Open.Parents.{Scope, Reached}
 use Rattle.pb_building.specs.Open.PartView.{part_view, scope_view}
 use Rattle.pb_building.specs.Tokens.After.{tag}
 use Rattle.pb_decode.specs.Reader.{state_view, parents_view, left_of, here}
-use Rattle.pb_decode.proofs.ReaderLemmas.{stands_reads}
+use Rattle.pb_decode.proofs.ReaderLemmas.{reached_reads}
 use Rattle.pb_building.proofs.PlaceLemmas.{slice_from}
 use Rattle.pb_whole.proofs.Tags.{there_after, number_next}
-use Rattle.pb_decode.proofs.WholeRecords.{tag_stands, tag_can, tag_few}
+use Rattle.pb_decode.proofs.WholeRecords.{tag_reached, tag_can, tag_few}
 use Rattle.pb_decode.proofs.reader.state.State.take_number_record.Goals as goal
 
 pub target_of-target-requires : goal.target_of-target-requires
@@ -34,13 +34,13 @@ returns-in_ok-count_one-in-Whole-clause-taken c =
     let follows =
     there_after (λ (p q : Place). Follows p (number_view c.in-Whole.value) q) c.args.self.now.at (left_of (state_view c.args.self.now)) c.left_after-after.result c.args.bytes.now c.args.tag.size c.in-Whole.size after reported.2 in
     let next =
-    number_next c.args.tag.number c.args.tag.wire_type c.target_of-target.result c.requires.number (tag_stands (state_view c.args.self.now) c.args.bytes.now begun c.requires.at_tag.step) c.requires.at_tag.there c.target_of-target.ensures in
+    number_next c.args.tag.number c.args.tag.wire_type c.target_of-target.result c.requires.number (tag_reached (state_view c.args.self.now) c.args.bytes.now begun c.requires.at_tag.step) c.requires.at_tag.there c.target_of-target.ensures in
     let u = passed (here (state_view c.args.self.now) c.args.bytes.now) c.args.tag.size in
     let w = passed (here (state_view c.args.self.now) c.args.bytes.now) (c.args.tag.size + c.in-Whole.size) in
-    stands_reads (state_view c.args.self.now)
+    reached_reads (state_view c.args.self.now)
     (record { at = c.args.self.now.at + (c.args.tag.size + c.in-Whole.size); now = part_view c.put_number.new.part; scope = scope_view c.count_one.new.scope; parents = parents_view c.args.self.now.parents.items; next = c.args.self.now.step })
     (c.args.tag.size + c.in-Whole.size) c.args.bytes.now refl c.in_ok-count_one-in-Whole.ensures.same_end c.requires.at_tag.step
-    (subst (λ (z : Scope). Stands c.args.by.now.pool.now m depth levels base p0 (parents_view c.args.self.now.parents.items) (part_view c.put_number.new.part) z w) (sym c.in_ok-count_one-in-Whole.ensures.more)
+    (subst (λ (z : Scope). Reached c.args.by.now.pool.now m depth levels base p0 (parents_view c.args.self.now.parents.items) (part_view c.put_number.new.part) z w) (sym c.in_ok-count_one-in-Whole.ensures.more)
     (c.in_ok-put_number-in-Whole.ensures m depth levels base p0 u w (parents_view c.args.self.now.parents.items) (scope_view c.args.self.now.scope) next.0 next.2
     (next.1 ∙ ap (λ (z : ℕ). Some (tag c.args.tag.number z c.target_of-target.result)) (sym reported.0)) follows))
 

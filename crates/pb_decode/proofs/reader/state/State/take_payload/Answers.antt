@@ -1,14 +1,14 @@
 -- The payload is there in full, or it is cut; a string that is not UTF-8 is refused.
-use Rattle.std.proofs.Common.{◌≤◌, length, ◌∙◌, ap, ◌+◌, ℕ, refl, sym, subst, arith}
+use Rattle.std.proofs.Common.{◌≤◌, length, ◌+◌, refl, sym, subst, arith}
 use Rattle.std.proofs.lemmas.List.{length-take-le}
 use Rattle.pb_wire.specs.Fault.{fault}
 use Rattle.pb_wire.specs.Scan.{passed}
 use Rattle.pb_wire.specs.declared.fault.Cause.TheVariants.{BadText}
 use Rattle.pb_building.specs.declared.tokens.step.Step.TheVariants.{Tag}
-use Rattle.pb_building.specs.Open.Parents.{Scope, Stands}
+use Rattle.pb_building.specs.Open.Parents.{Scope, Reached}
 use Rattle.pb_building.specs.Open.PartView.{part_view, scope_view}
 use Rattle.pb_decode.specs.Reader.{state_view, here, path_here}
-use Rattle.pb_decode.proofs.ReaderLemmas.{stands_reads, fault_reported}
+use Rattle.pb_decode.proofs.ReaderLemmas.{reached_reads, fault_reported}
 use Rattle.pb_decode.proofs.PayloadTaken.{payload_can, payload_few, payload_moves, payload_next, payload_refused, payload_short}
 use Rattle.pb_decode.proofs.WaitLemmas.{payload_waits}
 use Rattle.pb_decode.proofs.reader.state.State.take_payload.Goals as goal
@@ -39,10 +39,10 @@ returns-in_ok-count_one-in-Ok-clause-taken c =
     let within : c.args.size ≤ length c.args.bytes.now = omega arith in
     let w = passed (here s c.args.bytes.now) c.args.size in
     let moves = payload_moves s c.args.bytes.now c.args.number c.args.target c.args.size begun c.requires.step within in
-    stands_reads s (record { at = s.at + c.args.size; now = part_view c.put_payload.new.part; scope = scope_view c.count_one.new.scope; parents = s.parents; next = Tag }) c.args.size c.args.bytes.now
+    reached_reads s (record { at = s.at + c.args.size; now = part_view c.put_payload.new.part; scope = scope_view c.count_one.new.scope; parents = s.parents; next = Tag }) c.args.size c.args.bytes.now
     refl c.in_ok-count_one-in-Ok.ensures.same_end refl
-    (subst (λ (z : Scope). Stands c.args.by.now.pool.now m depth levels base p0 s.parents (part_view c.put_payload.new.part) z w) (sym c.in_ok-count_one-in-Ok.ensures.more)
-    (c.in-Ok.ensures.stands m depth levels c.args.size base p0 (here s c.args.bytes.now) w s.parents s.scope
+    (subst (λ (z : Scope). Reached c.args.by.now.pool.now m depth levels base p0 s.parents (part_view c.put_payload.new.part) z w) (sym c.in_ok-count_one-in-Ok.ensures.more)
+    (c.in-Ok.ensures.reached m depth levels c.args.size base p0 (here s c.args.bytes.now) w s.parents s.scope
     (payload_next s c.args.bytes.now c.args.number c.args.target c.args.size begun c.requires.step) (length-take-le c.args.size c.args.bytes.now within) moves))
 
 pub returns-in-Err-BadText-clause-refused : goal.returns-in-Err-BadText-clause-refused

@@ -9,13 +9,13 @@ use Rattle.pb_tokens.specs.declared.refusal.Refusal.TheVariants as refusal
 use Rattle.pb_tokens.specs.SymbolView.{symbols_of}
 use Rattle.pb_tokens.specs.Fault.{fault, out_of_memory}
 use Rattle.pb_tokens.specs.declared.fault.SourceFault.{SourceFault}
-use Rattle.pb_tokens.specs.Language.{told}
+use Rattle.pb_tokens.specs.Language.{reported}
 use Rattle.pb_source.specs.Source.{place_in}
 
 -- the cause of symbols that are refused so: a file without symbols does not begin with its syntax
 abbrev pub cause_at : List Placed → Option Rule → SourceCause
 cause_at [] rule = NotProto3
-cause_at (p ∷ ps) rule = told rule
+cause_at (p ∷ ps) rule = reported rule
 
 -- the fault of symbols that are refused so, where the source ends at this byte
 abbrev pub fault_at : List Placed → ℕ → Refusal → SourceFault
