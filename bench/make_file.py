@@ -1,5 +1,5 @@
 #!/usr/bin/env python3
-"""Writes a message file of about so many megabytes, the same each time: make_file.py KIND MEGABYTES FILE.
+"""Writes a message file of about this many megabytes, the same each time: make_file.py KIND MEGABYTES FILE.
 
 KIND is `log` or `small`. The records of `log` are like those of a log: an entry with numbers, a fixed value, a name and a
 body, some of them in groups. Those of `small` take two bytes each, which is the least that a record takes."""

@@ -36,7 +36,7 @@ def run(*words, **how):
 
 
 def lines_of(crates, libraries):
-    """The lines of crates.txt beside a folder of crates, of these libraries and of those that they stand on, by crate."""
+    """The lines of crates.txt beside a folder of crates, of these libraries and of those below them, by crate."""
     with open(os.path.join(os.path.dirname(os.path.abspath(crates)), "crates.txt")) as listed:
         lines = {line.split(":")[0].split()[0]: line for line in listed if ":" in line and not line.startswith("#")}
     found, left = {}, list(libraries)
@@ -49,7 +49,7 @@ def lines_of(crates, libraries):
 
 
 def build_ours(name, crates, work, libraries, sources):
-    """A Rattle program over libraries of a folder of crates, proved and built in a copy of what they stand on: the path of the program.
+    """A Rattle program over libraries of a folder of crates, proved and built in a copy of these and of those below them: the path of the program.
 
     The copy is WORK/NAME. What `rt check` kept in the crates' out folders serves there too, and where that is not all, what `rt ci` keeps."""
     copy, lines = os.path.join(work, name), lines_of(crates, libraries)
@@ -102,10 +102,10 @@ def library():
 
 
 def texts(work, scale):
-    """The texts of bench/texts/make_texts.py in a folder, made where they are not there yet."""
+    """The inputs of bench/texts/make_texts.py in a folder, made where they are not there yet."""
     folder = os.path.join(work, f"texts.{scale}")
     if not os.path.exists(folder):
-        say("making the texts")
+        say("making the inputs")
         run(sys.executable, os.path.join(HERE, "texts", "make_texts.py"), folder + ".new", str(scale))
         os.rename(folder + ".new", folder)
     return folder
@@ -126,7 +126,7 @@ class Process:
 
     def in_turn(self, commands, rounds):
         """By name of a command (its words, and a file that it is given): the best seconds, the best processor time, the most memory and the
-        statuses of so many runs of each, in turn."""
+        statuses of a number of runs of each, in turn."""
         taken = {name: [] for name in commands}
         for _ in range(rounds):
             for name, command in commands.items():
@@ -158,7 +158,7 @@ def machine():
 
 
 def written(figures):
-    """The file's text: a line for each fact of a part, and for each row of a list."""
+    """What the file holds: a line for each fact of a part, and for each row of a list."""
     def line(value):
         if isinstance(value, list) and value and isinstance(value[0], dict):
             return "[\n   " + ",\n   ".join(map(line, value)) + "\n  ]"

@@ -1,4 +1,4 @@
-// Runs a command and tells what it took: process INPUT COMMAND..
+// Runs a command and reports what it took: process INPUT COMMAND..
 //
 // The command has INPUT as its standard input, and what it prints is dropped. Printed are its seconds, those of processor time (user and
 // kernel), the most memory that it held, in KB, and its status. It is a program of its own and small, since what runs a command counts in

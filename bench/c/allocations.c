@@ -153,7 +153,7 @@ static uint32_t from_json_cut(struct outputs *outputs)
 {
     return mb_from_json(&pool, type, (const uint8_t *)json_text, sizeof json_text - 2, false, OUT, &outputs->count);
 }
-/* Makes a call on a decoder that has received so many bytes of the message with ample memory. If it gives the message, or answers another than MB_DONE,
+/* Makes a call on a decoder that has received some bytes of the message with ample memory. If it gives the message, or answers another than MB_DONE,
  * the decoder has to be finished, and else it must not be: or this answers 99. */
 static uint32_t on_decoder(size_t len, uint32_t (*call)(struct outputs *), struct outputs *outputs)
 {
@@ -403,7 +403,7 @@ int main(int argc, char **argv)
     message = read_file(argv[3]);
     source = read_file(argv[4]);
     lenient = read_file(argv[5]);
-    /* A message of less than 128 bytes, behind its length. */
+    /* A message of less than 128 bytes, after its length. */
     framed[0] = (uint8_t)message.len;
     memcpy(framed + 1, message.at, message.len);
     frame = (struct mb_bytes){framed, message.len + 1};

@@ -2,8 +2,8 @@
 // json SET TYPE ROUNDS FILE..
 //
 // SET is what protoc --include_imports --descriptor_set_out wrote; the files are those of bench/texts/make_texts.py. The messages of a file are decoded
-// first, by both. What libprotobuf writes of each is the text that both read, and that is read by each once as what the other wrote. Then each round
-// times each call on all messages or texts of the file in turn, by processor time. A line for each file and call tells the bytes of JSON and the
+// first, by both. Both read what libprotobuf writes of each, and each reads once what the other wrote. Then each round
+// times each call on all messages of the file, or their JSON, in turn, by processor time. A line for each file and call has the bytes of JSON and the
 // nanoseconds of each round.
 #include "../texts/texts.h"
 #include "mabristu.h"
@@ -75,12 +75,12 @@ static bool are_same(const Message& one, const Message& other) {
 }
 
 // Decodes a message, and has each read what the other writes of it.
-static bool make(const std::string& text, Pair& pair) {
-    if (mb_message_decode(&types, number, bytes_of(text), text.size(), MB_MAX_BYTES, MB_MAX_DEPTH, &pair.here, &fault, path, MB_MAX_STEPS) != MB_DONE)
+static bool make(const std::string& input, Pair& pair) {
+    if (mb_message_decode(&types, number, bytes_of(input), input.size(), MB_MAX_BYTES, MB_MAX_DEPTH, &pair.here, &fault, path, MB_MAX_STEPS) != MB_DONE)
         return false;
     pair.there.reset(prototype->New());
     size_t size = 0;
-    if (!pair.there->ParseFromString(text) || !util::MessageToJsonString(*pair.there, &pair.json).ok() || !write_here(pair, size)) return false;
+    if (!pair.there->ParseFromString(input) || !util::MessageToJsonString(*pair.there, &pair.json).ok() || !write_here(pair, size)) return false;
     mb_message read = {};
     std::unique_ptr<Message> other(prototype->New()), again(prototype->New());
     const std::string written(reinterpret_cast<const char*>(out.data()), size);
@@ -109,12 +109,12 @@ static const std::vector<std::pair<const char*, Call>> calls = {
 };
 
 static bool time_all(const char* file, int rounds) {
-    std::vector<std::string> texts = texts_of(contents(file));
-    std::vector<Pair> pairs(texts.size());
+    std::vector<std::string> inputs = inputs_of(contents(file));
+    std::vector<Pair> pairs(inputs.size());
     std::vector<std::vector<long long>> spent(calls.size());
     size_t size = 0;
-    for (size_t k = 0; k < texts.size(); k++) {
-        if (!make(texts[k], pairs[k])) {
+    for (size_t k = 0; k < inputs.size(); k++) {
+        if (!make(inputs[k], pairs[k])) {
             fprintf(stderr, "%s: message %zu is not the same in both\n", file, k);
             return false;
         }

@@ -1,7 +1,7 @@
 /* How much stack each call takes: stack SET. Each is made in a thread of its own, whose stack was painted before. The messages and groups nest 100
  * deep, as deep as they may, and the sources 64 deep. In the maps each map has seventeen entries, the last with the next map in its value; in the
  * lone entries each map has one. Where they are cut off inside, the innermost message has a fault, whose path has 201 steps. In the turned ones the
- * value stands before its key, where the next map is in it. */
+ * value comes before its key, where the next map is in it. */
 #define _GNU_SOURCE
 #include "mabristu.h"
 
@@ -307,7 +307,7 @@ static size_t wrap(uint8_t *at, size_t len, uint8_t tag)
     return put(at, len, front, size);
 }
 
-/* An entry of a value, with a key before it, or behind it. */
+/* An entry of a value, with a key before it, or after it. */
 static size_t key_before(uint8_t *at, size_t len)
 {
     return wrap(at, put(at, len, "\x0a\x01z", 3), 0x12);

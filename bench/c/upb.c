@@ -3,7 +3,7 @@
 
 #include "php-upb.h"
 
-/* As deep as the texts nest: by itself upb takes 64 levels. */
+/* As deep as the inputs nest: by itself upb takes 64 levels. */
 enum { DEPTH = 100 };
 
 static const upb_MiniTable *table;
@@ -30,34 +30,34 @@ bool upb_link_set(const char *set, size_t set_len, const char *type_name)
     return type != NULL;
 }
 
-/* The message that a text is, or null. */
-static upb_Message *decoded(const char *text, size_t len, upb_Arena *arena)
+/* The message that an input encodes, or null. */
+static upb_Message *decoded(const char *input, size_t len, upb_Arena *arena)
 {
     upb_Message *message = _upb_Message_New(table, arena);
-    return upb_Decode(text, len, message, table, NULL, UPB_DECODE_MAXDEPTH(DEPTH), arena) == kUpb_DecodeStatus_Ok ? message : NULL;
+    return upb_Decode(input, len, message, table, NULL, UPB_DECODE_MAXDEPTH(DEPTH), arena) == kUpb_DecodeStatus_Ok ? message : NULL;
 }
 
-bool upb_read(const char *text, size_t len)
+bool upb_read(const char *input, size_t len)
 {
     upb_Arena *arena = upb_Arena_New();
-    bool is_read = decoded(text, len, arena) != NULL;
+    bool is_read = decoded(input, len, arena) != NULL;
     upb_Arena_Free(arena);
     return is_read;
 }
 
-bool upb_rewrite(const char *text, size_t len, size_t *size)
+bool upb_rewrite(const char *input, size_t len, size_t *size)
 {
     upb_Arena *arena = upb_Arena_New();
-    upb_Message *message = decoded(text, len, arena);
+    upb_Message *message = decoded(input, len, arena);
     bool is_written = message != NULL && upb_Encode(message, table, kUpb_Encode_Deterministic | UPB_ENCODE_MAXDEPTH(DEPTH), arena, size) != NULL;
     upb_Arena_Free(arena);
     return is_written;
 }
 
-bool upb_route(const char *text, size_t len, uint32_t field, uint64_t *value, size_t *size)
+bool upb_route(const char *input, size_t len, uint32_t field, uint64_t *value, size_t *size)
 {
     upb_Arena *arena = upb_Arena_New();
-    upb_Message *message = decoded(text, len, arena);
+    upb_Message *message = decoded(input, len, arena);
     bool is_written = message != NULL;
 
     if (is_written) {

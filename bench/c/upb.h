@@ -14,13 +14,13 @@ extern "C" {
 bool upb_link_set(const char *set, size_t set_len, const char *type_name);
 
 /* Reads a message and drops it. */
-bool upb_read(const char *text, size_t len);
+bool upb_read(const char *input, size_t len);
 
 /* Reads a message and writes it again, with map entries in order. Tells how many bytes it wrote, into memory of its own. */
-bool upb_rewrite(const char *text, size_t len, size_t *size);
+bool upb_rewrite(const char *input, size_t len, size_t *size);
 
 /* Reads a message, and the field of an integer of 64 bits in it, and writes the message again. Tells how many bytes it wrote. */
-bool upb_route(const char *text, size_t len, uint32_t field, uint64_t *value, size_t *size);
+bool upb_route(const char *input, size_t len, uint32_t field, uint64_t *value, size_t *size);
 
 #ifdef __cplusplus
 }

@@ -1,6 +1,6 @@
 //! A plain decoder by recursion, which answers a message or nothing.
 //!
-//! A run of records of one field is one loop; the room of a packed list is counted first; a map is built at once of a run of entries.
+//! A run of records of one field is one loop; the elements of a packed list are counted first; a map is built at once of a run of entries.
 use crate::tree::Map;
 use crate::types::{Field, Kind, Shape, Types};
 
@@ -223,9 +223,9 @@ pub struct Decoder<'a> {
 }
 
 impl Decoder<'_> {
-    pub fn decode(&self, of_type: usize, text: &[u8]) -> Option<Body> {
+    pub fn decode(&self, of_type: usize, input: &[u8]) -> Option<Body> {
         let mut body = Body::new();
-        self.message(of_type, &mut Input(text), None, 100, &mut body)?;
+        self.message(of_type, &mut Input(input), None, 100, &mut body)?;
         Some(body)
     }
 
@@ -249,7 +249,7 @@ impl Decoder<'_> {
         if group.is_none() { Some(()) } else { None }
     }
 
-    /// Reads a record of a field, and those of the same tag behind it. The answer is whether it is one by its wire type.
+    /// Reads a record of a field, and those of the same tag after it. The answer is whether it is one by its wire type.
     #[inline(always)]
     fn record(&self, field: Field, tag: u64, input: &mut Input, levels: u32, body: &mut Body) -> Option<bool> {
         let (wire, own) = (tag & 7, wire_type(field.kind));
@@ -316,7 +316,7 @@ impl Decoder<'_> {
         Some(())
     }
 
-    /// A field of one value. A later part of a message goes on in the earlier one. The types of the texts have no oneof of two members.
+    /// A field of one value. A later part of a message goes on in the earlier one. The types of the inputs have no oneof of two members.
     #[inline(always)]
     fn one(&self, field: Field, input: &mut Input, levels: u32, body: &mut Body) -> Option<()> {
         let value = match field.kind {
@@ -345,7 +345,7 @@ impl Decoder<'_> {
         Some(Value::Message(body))
     }
 
-    /// An entry of a map. What else stands in it is dropped.
+    /// An entry of a map. What else is in it is dropped.
     fn entry(&self, keys: Kind, values: Kind, mut input: Input, levels: u32) -> Option<(Key, Value)> {
         let levels = levels.checked_sub(1)?;
         let (mut of_key, mut of_value) = (None, None);

@@ -1,7 +1,7 @@
 //! The floor that the types of pb_value set: how fast a plain decoder in Rust reads into values that are laid out as they are, with the same
 //! nodes of maps: floor TABLE TYPE decode|held ROUNDS FILE..
 //!
-//! It proves nothing and tells no fault. The words and what is printed are those of bench/texts/main.rt.txt.
+//! It proves nothing and reports no fault. The words and what is printed are those of bench/texts/main.rt.txt.
 // What is read is dropped and never looked at.
 #[allow(dead_code)]
 mod decode;
@@ -31,14 +31,14 @@ fn now() -> i64 {
     time.seconds * 1_000_000_000 + time.nanoseconds
 }
 
-fn texts_of(mut file: &[u8]) -> Vec<&[u8]> {
-    let mut texts = vec![];
-    while let Some((size, behind)) = file.split_first_chunk::<4>() {
-        let (text, behind) = behind.split_at(u32::from_le_bytes(*size) as usize);
-        texts.push(text);
-        file = behind;
+fn inputs_of(mut file: &[u8]) -> Vec<&[u8]> {
+    let mut inputs = vec![];
+    while let Some((size, rest)) = file.split_first_chunk::<4>() {
+        let (input, rest) = rest.split_at(u32::from_le_bytes(*size) as usize);
+        inputs.push(input);
+        file = rest;
     }
-    texts
+    inputs
 }
 
 fn main() {
@@ -49,34 +49,34 @@ fn main() {
     let decoder = Decoder { types: &types };
     for path in &words[5..] {
         let file = std::fs::read(path).unwrap();
-        let texts = texts_of(&file);
+        let inputs = inputs_of(&file);
         for _ in 0..words[4].parse().unwrap() {
             match words[3].as_str() {
-                "held" => measure_held(&decoder, of_type, path, &texts),
-                _ => time_decode(&decoder, of_type, path, &texts),
+                "held" => measure_held(&decoder, of_type, path, &inputs),
+                _ => time_decode(&decoder, of_type, path, &inputs),
             }
         }
     }
 }
 
-fn time_decode(decoder: &Decoder, of_type: usize, path: &str, texts: &[&[u8]]) {
+fn time_decode(decoder: &Decoder, of_type: usize, path: &str, inputs: &[&[u8]]) {
     let (start, mut read) = (now(), 0);
-    for text in texts {
-        if decoder.decode(of_type, text).is_some() {
-            read += text.len();
+    for input in inputs {
+        if decoder.decode(of_type, input).is_some() {
+            read += input.len();
         }
     }
     println!("{path} decode {read} {}", now() - start);
 }
 
-fn measure_held(decoder: &Decoder, of_type: usize, path: &str, texts: &[&[u8]]) {
+fn measure_held(decoder: &Decoder, of_type: usize, path: &str, inputs: &[&[u8]]) {
     let (mut read, mut held) = (0, 0);
-    for text in texts {
+    for input in inputs {
         let start = now();
-        let message = decoder.decode(of_type, text);
+        let message = decoder.decode(of_type, input);
         held += now() - start;
         if message.is_some() {
-            read += text.len();
+            read += input.len();
         }
     }
     println!("{path} held {read} {held}");

@@ -5,14 +5,14 @@ use std::ptr::{copy, drop_in_place};
 
 pub const PAIRS: usize = 15;
 
-/// Up to 15 pairs where they stand. One count serves both rows, as in the kit's nodes.
+/// Up to 15 pairs in place. One count serves both rows, as in the kit's nodes.
 struct Pairs<K, V> {
     keys: [MaybeUninit<K>; PAIRS],
     values: [MaybeUninit<V>; PAIRS],
     len: u16,
 }
 
-/// Makes room for one item in a row of so many, and puts it there.
+/// Moves the items from an index on by one, and puts an item there.
 fn put_in_row<T>(row: &mut [MaybeUninit<T>; PAIRS], len: usize, at: usize, item: T) {
     assert!(at <= len && len < PAIRS);
     let place = unsafe { row.as_mut_ptr().add(at) };
@@ -82,7 +82,7 @@ struct Node<K, V> {
     edges: Option<Box<Edges<K, V>>>,
 }
 
-/// A pair that goes up where a node was full, and the node behind it.
+/// A pair that goes up where a node was full, and the node after it.
 type Split<K, V> = (K, V, Box<Node<K, V>>);
 
 impl<K: Ord, V> Node<K, V> {
@@ -104,8 +104,8 @@ impl<K: Ord, V> Node<K, V> {
             (Ok(at), _) => self.pairs.values()[at] = value,
             (Err(at), None) => return self.put(at, key, value, None),
             (Err(at), Some(edges)) => {
-                let (key, value, behind) = edges[at].insert(key, value)?;
-                return self.put(at, key, value, Some(behind));
+                let (key, value, after) = edges[at].insert(key, value)?;
+                return self.put(at, key, value, Some(after));
             }
         }
         None
@@ -120,15 +120,15 @@ impl<K: Ord, V> Node<K, V> {
             return None;
         }
         let half = PAIRS / 2;
-        let mut behind = Node::new(self.edges.as_mut().map(|edges| Box::new(edges.split_off(half + 1))));
-        behind.pairs = self.pairs.split_off(half + 1);
+        let mut after = Node::new(self.edges.as_mut().map(|edges| Box::new(edges.split_off(half + 1))));
+        after.pairs = self.pairs.split_off(half + 1);
         let (middle, of_middle) = self.pairs.pop()?;
         if at <= half {
             self.put(at, key, value, edge);
         } else {
-            behind.put(at - half - 1, key, value, edge);
+            after.put(at - half - 1, key, value, edge);
         }
-        Some((middle, of_middle, behind))
+        Some((middle, of_middle, after))
     }
 }
 
@@ -159,9 +159,9 @@ impl<K: Ord, V> Map<K, V> {
 
     pub fn insert(&mut self, key: K, value: V) {
         let root = self.root.get_or_insert_with(|| Node::new(None));
-        if let Some((key, value, behind)) = root.insert(key, value) {
+        if let Some((key, value, after)) = root.insert(key, value) {
             let before = std::mem::replace(root, Node::new(None));
-            root.edges = Some(Box::new(vec![before, behind]));
+            root.edges = Some(Box::new(vec![before, after]));
             root.pairs.push(key, value);
             self.height += 1;
         }

@@ -77,7 +77,7 @@ impl Types {
         types
     }
 
-    /// The name behind that of the parent; the package is left out.
+    /// The name after that of the parent; the package is left out.
     fn full_name(&self, words: &[&str]) -> String {
         match words[3].parse::<usize>() {
             Ok(parent) => format!("{}.{}", self.messages[parent].name, words[1]),

@@ -1,8 +1,8 @@
 // Under LD_PRELOAD: the clock of a process's processor time counts bytes of heap in place of nanoseconds.
 //
-// A block counts as what the C library's heap gives for it, with the eight bytes of its head. The clock tells the bytes that are held now,
+// A block counts as what the C library's heap gives for it, with the eight bytes of its head. The clock counts the bytes that are held now,
 // and under HEAP_CLOCK=most at each second time that it is read the most that were held since it was last read. So a program that reads the
-// clock before and after a call tells how much the call left held, or held at most, and nothing in it is made for that.
+// clock before and after a call shows how much the call left held, or held at most, and nothing in it is made for that.
 #define _GNU_SOURCE
 #include <errno.h>
 #include <malloc.h>
@@ -41,7 +41,7 @@ void *aligned_alloc(size_t alignment, size_t size) { return memalign(alignment, 
 
 int posix_memalign(void **block, size_t alignment, size_t size) { return (*block = memalign(alignment, size)) ? 0 : ENOMEM; }
 
-// A block that grows is taken to grow where it stands, with no second one beside it.
+// A block that grows is taken to grow in place, with no second one beside it.
 void *realloc(void *block, size_t size) {
     size_t before = block ? malloc_usable_size(block) + 8 : 0;
     void *grown = __libc_realloc(block, size);

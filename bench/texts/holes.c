@@ -1,6 +1,6 @@
 // Under LD_PRELOAD: when a process first reads the clock of its processor time, the holes in its heap are filled.
 //
-// What a program did before, here the making of its types, leaves free blocks behind, other ones in each program. How long malloc looks for a
+// What a program did before, here the making of its types, leaves free blocks, other ones in each program. How long malloc looks for a
 // block depends on them, by up to a tenth of what it takes to decode groups of a few fields. So each program begins with a heap that has none:
 // blocks of falling sizes are taken, and kept, until each comes from the heap's end. Behind them a block of HEAP_START bytes is kept too, if that is
 // set: where the heap begins to be used moves what malloc takes by up to a twentieth, in one program for one place and in another for another.

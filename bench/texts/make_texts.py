@@ -1,13 +1,13 @@
 #!/usr/bin/env python3
-"""Writes texts of the types in messages.proto and old.proto, the same each time, and wide.proto, whose enum is large:
+"""Writes encodings of messages of the types in messages.proto and old.proto, the same each time, and wide.proto, whose enum is large:
 make_texts.py FOLDER [SCALE].
 
-A file FOLDER/SIZE/TYPE/SHAPE has texts of one shape and of about one size, each behind its length in four bytes, the lowest first: one of
+A file FOLDER/SIZE/TYPE/SHAPE has inputs of one shape and of about one size, each after its length in four bytes, the lowest first: one of
 10 MB, one of 2 MB, 4 KB each, and 30 to 500 bytes each, the last two 2 MB together. SCALE, as 0.1, makes the files smaller.
 
-Each text of the types Texts and Old is the canonical bytes of its message: fields by rising number, map entries by rising key, the shortest
-spelling of each record. So what a codec encodes again is the text itself. Not so those in a folder TYPE.decode, which are decoded
-alone: in Old.decode undeclared numbers of closed enums stand inside runs of declared ones, in Texts.decode the entries of maps in no order."""
+Each input of the types Texts and Old is the canonical bytes of its message: fields by rising number, map entries by rising key, the shortest
+spelling of each record. So what a codec encodes again is the input itself. Not so those in a folder TYPE.decode, which are decoded
+alone: in Old.decode undeclared numbers of closed enums are among declared ones, in Texts.decode the entries of maps are in no order."""
 import os
 import sys
 
@@ -44,7 +44,7 @@ def small(i):
 
 
 def long(i, size):
-    """Long texts, in ASCII and beyond it, and byte strings."""
+    """Long strings, in ASCII and beyond it, and byte strings."""
     part = "%s spricht %s, " % (word(i), "größer" if i % 2 else "smaller")
     return length_delimited(2, (part * (size // len(part) + 1)).encode())
 
@@ -134,7 +134,7 @@ def wide_proto():
 
 
 def until(size, first, part, again=100_000):
-    """Parts until there are so many bytes. Beyond so many parts they come again, since making them takes long."""
+    """Parts until their bytes reach a size. After a number of parts they come again, since making them takes long."""
     out, ends = bytearray(), [0]
     while len(out) < size and len(ends) <= again:
         out += part(first + len(ends) - 1)
@@ -164,7 +164,7 @@ def maps(size, first):
 
 
 def unsorted(size, first):
-    """The same maps, whose entries stand in no order."""
+    """The same maps, whose entries are in no order."""
     out = []
     for part in counted, entry:
         entries, held = [], 0
@@ -176,7 +176,7 @@ def unsorted(size, first):
 
 
 def deep(part, levels, least):
-    """Nests of so many levels, which take so many bytes at least, and one of less levels where the size asks for less."""
+    """Nests of a number of levels, of a number of bytes at least, and one of fewer levels where the size asks for less."""
     return lambda size, first: until(size, first, lambda i: part(i, min(levels, 1 + size * levels // least)))
 
 
@@ -184,7 +184,7 @@ def parts(part):
     return lambda size, first: until(size, first, part)
 
 
-# By folder and name: what makes a text of a size, from parts that begin with a number.
+# By folder and name: what makes an input of a size, from parts that begin with a number.
 SHAPES = {
     "Texts/small": parts(small),
     "Texts/strings": strings,
@@ -206,7 +206,7 @@ SHAPES = {
     "Old.decode/allgaps": run_of(4, few, 1),
 }
 
-# By folder: how large all texts are together, and how large each is at least, by its number.
+# By folder: how large all inputs are together, and how large each is at least, by its number.
 SIZES = {
     "10MB": (10_000_000, lambda i: 10_000_000),
     "2MB": (2_000_000, lambda i: 2_000_000),
@@ -216,15 +216,15 @@ SIZES = {
 
 
 def write(path, shape, total, size_of, scale):
-    """Writes texts until they take as much together as they have to."""
+    """Writes inputs until they take as much together as they have to."""
     os.makedirs(os.path.dirname(path), exist_ok=True)
     with open(path, "wb") as out:
         count = 0
         while out.tell() < total * scale:
             size = size_of(count)
-            # Each text has other parts, and those of a text follow on each other.
-            text = shape(int(size * scale) if size == total else size, count * 1000)
-            out.write(len(text).to_bytes(4, "little") + text)
+            # Each input has other parts, and those of an input follow each other.
+            made = shape(int(size * scale) if size == total else size, count * 1000)
+            out.write(len(made).to_bytes(4, "little") + made)
             count += 1
 
 

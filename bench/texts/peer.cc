@@ -1,4 +1,4 @@
-// Measures libprotobuf's dynamic messages on texts: peer SET TYPE CALLS ROUNDS FILE..
+// Measures libprotobuf's dynamic messages on inputs: peer SET TYPE CALLS ROUNDS FILE..
 //
 // SET is what protoc --include_imports --descriptor_set_out wrote. The other words and what is printed are those of main.rt.txt.
 #include "texts.h"
@@ -16,35 +16,35 @@
 using namespace google::protobuf;
 
 // A message is made, read and dropped.
-static void time_decode(const Message& prototype, const char* path, const std::vector<std::string>& texts) {
+static void time_decode(const Message& prototype, const char* path, const std::vector<std::string>& inputs) {
     size_t read = 0;
     long long start = now();
-    for (const std::string& text : texts) {
+    for (const std::string& input : inputs) {
         std::unique_ptr<Message> message(prototype.New());
-        if (message->ParseFromString(text)) read += text.size();
+        if (message->ParseFromString(input)) read += input.size();
     }
     printf("%s decode %zu %lld\n", path, read, now() - start);
 }
 
-static void measure_held(const Message& prototype, const char* path, const std::vector<std::string>& texts) {
+static void measure_held(const Message& prototype, const char* path, const std::vector<std::string>& inputs) {
     size_t read = 0;
     long long held = 0;
-    for (const std::string& text : texts) {
+    for (const std::string& input : inputs) {
         long long start = now();
         std::unique_ptr<Message> message(prototype.New());
-        bool is_read = message->ParseFromString(text);
+        bool is_read = message->ParseFromString(input);
         held += now() - start;
-        if (is_read) read += text.size();
+        if (is_read) read += input.size();
     }
     printf("%s held %zu %lld\n", path, read, held);
 }
 
-// The messages of all texts stand in memory before they are encoded.
-static void time_encode(const Message& prototype, const char* path, const std::vector<std::string>& texts, int rounds) {
+// All inputs are decoded before their messages are encoded.
+static void time_encode(const Message& prototype, const char* path, const std::vector<std::string>& inputs, int rounds) {
     std::vector<std::unique_ptr<Message>> messages;
-    for (const std::string& text : texts) {
+    for (const std::string& input : inputs) {
         messages.emplace_back(prototype.New());
-        messages.back()->ParseFromString(text);
+        messages.back()->ParseFromString(input);
     }
     for (int round = 0; round < rounds; round++) {
         size_t written = 0;
@@ -70,12 +70,12 @@ int main(int count, char** words) {
     std::string calls(words[3]);
     int rounds = atoi(words[4]);
     for (int k = 5; k < count; k++) {
-        std::vector<std::string> texts = texts_of(contents(words[k]));
+        std::vector<std::string> inputs = inputs_of(contents(words[k]));
         for (int round = 0; round < rounds; round++) {
-            if (calls == "held") measure_held(*prototype, words[k], texts);
-            else time_decode(*prototype, words[k], texts);
+            if (calls == "held") measure_held(*prototype, words[k], inputs);
+            else time_decode(*prototype, words[k], inputs);
         }
-        if (calls == "both") time_encode(*prototype, words[k], texts, rounds);
+        if (calls == "both") time_encode(*prototype, words[k], inputs, rounds);
     }
     return 0;
 }

@@ -1,7 +1,7 @@
 #!/usr/bin/env python3
 """Writes the types of a descriptor set as lines of words, so that a program takes them without reading a set: table.py SET.
 
-The lines, an index being a place among the lines of its kind, and `-` standing for none:
+The lines, an index counts the lines of its kind, and `-` means none:
     file NAME SYNTAX PACKAGE IMPORT..       the imports by index
     message NAME FILE PARENT                file and parent by index
     oneof NAME                              of the message whose line came last, as are the fields

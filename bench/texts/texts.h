@@ -1,4 +1,4 @@
-// What the programs in C++ that time libprotobuf share: files of texts, and the clock.
+// What the programs in C++ that time libprotobuf share: files of inputs, and the clock.
 #ifndef TEXTS_H
 #define TEXTS_H
 
@@ -13,15 +13,15 @@ inline std::string contents(const char* path) {
     return std::string(std::istreambuf_iterator<char>(in), std::istreambuf_iterator<char>());
 }
 
-// The texts of a file, each behind its length in four bytes, the lowest first, as make_texts.py writes them.
-inline std::vector<std::string> texts_of(const std::string& file) {
-    std::vector<std::string> texts;
+// The inputs of a file, each after its length in four bytes, the lowest first, as make_texts.py writes them.
+inline std::vector<std::string> inputs_of(const std::string& file) {
+    std::vector<std::string> inputs;
     for (size_t at = 0, size; at + 4 <= file.size(); at += 4 + size) {
         size = 0;
         for (int k = 3; k >= 0; k--) size = size << 8 | (unsigned char)file[at + k];
-        texts.push_back(file.substr(at + 4, size));
+        inputs.push_back(file.substr(at + 4, size));
     }
-    return texts;
+    return inputs;
 }
 
 // Processor time of the process, in nanoseconds.

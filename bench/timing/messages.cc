@@ -52,9 +52,9 @@ static void time_all(const char* name, const Message& message, int rounds) {
         unsigned long long bytes = 0;
         long long start = now();
         for (int i = 0; i < rounds; i++) {
-            std::string text;
-            message.SerializeToString(&text);
-            bytes += text.size();
+            std::string bytes_written;
+            message.SerializeToString(&bytes_written);
+            bytes += bytes_written.size();
         }
         printf("%s libprotobuf %d %llu %lld\n", name, rounds, bytes, now() - start);
     }
