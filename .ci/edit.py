@@ -56,7 +56,7 @@ def edits_in(folder):
 
 
 def is_of_definitions(edit):
-    """Whether an edit changes definitions, as the files that it names tell, and not code."""
+    """Whether an edit changes definitions and not code, by the files that it names."""
     with open(edit, encoding="utf-8") as it:
         return any(line.startswith("file: specs/") for line in it)
 
@@ -96,7 +96,7 @@ def edited(edit, folder):
         elif word == "old":
             old = text
             if after[path].count(old) != 1:
-                return before, f"its old text stands in {path} {after[path].count(old)} times"
+                return before, f"its old text is in {path} {after[path].count(old)} times"
         elif word.rstrip(":") == "new":
             after[path] = after[path].replace(old, text)
     return before, after
@@ -123,7 +123,7 @@ def cycle_of(lines, head):
 
 
 def function_at(lines, at):
-    """The function that a line stands in, as a check names it in its module, and its cycle of calls, or none."""
+    """The function that a line is in, as a check names it in its module, and its cycle of calls, or none."""
     for head in range(min(at, len(lines) - 1), -1, -1):
         found = HEAD.match(lines[head])
         if found and not any(re.fullmatch(rf" {{0,{len(found[1])}}}\}}", line) for line in lines[head:at]):
@@ -139,7 +139,7 @@ def places_of(edit, folder):
     lines = {path: text.split("\n") for path, text in before.items()}
     changed = [(path, at) for path in lines for at, new in enumerate(after[path].split("\n")) if new != lines[path][at]]
     found = {(path, *function_at(lines[path], at)) for path, at in changed}
-    return found if all(function for _, function, _ in found) else "it changes what stands in no function"
+    return found if all(function for _, function, _ in found) else "it changes what is in no function"
 
 
 def write(texts, folder):

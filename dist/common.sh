@@ -1,7 +1,7 @@
 # What dist/program, dist/library, dist/release, .ci/library and .ci/run share: what was made of what. Whoever reads this in has set `top`, the
 # repository's folder.
 
-# The folders of sources of a crate of this repository and of those that it stands on: src, specs and proofs. Whoever calls it is in `top`.
+# The folders of sources of a crate of this repository and of those below it: src, specs and proofs. Whoever calls it is in `top`.
 source_folders() {
     local name part
     for name in $(stack "$1"); do
@@ -11,7 +11,7 @@ source_folders() {
     done
 }
 
-# The lines of crates.txt of a crate and of those that it stands on.
+# The lines of crates.txt of a crate and of those below it.
 crate_lines() {
     stack "$1" | sed 's/.*/^&[ :]/' | grep -f - "$top/crates.txt"
 }
@@ -60,7 +60,7 @@ is_of_these() {
     [ -f "$1/libmabristu.so" ] && [ "$(recorded library "$2")" = "$(sources_hash pb_c)" ] && [ "$(recorded header "$2")" = "$(sum_of "$top/include/mabristu.h")" ]
 }
 
-# The crates of this repository that a crate stands on, lowest first, and the crate itself.
+# The crates of this repository below a crate, lowest first, and the crate itself.
 stack() {
     awk -v of="$1" '
         function visit(name, count, its, at) {

@@ -1,5 +1,5 @@
 #!/usr/bin/env python3
-"""Prints what `pbtool raw` tells of a file, by a small decoder of its own: the expected texts beside the examples.
+"""Prints what `pbtool raw` prints of a file, by a small decoder of its own: the expected texts beside the examples.
 
 It knows the wire rules alone (encoding guide, "Message Structure" and "Groups"), and of the faults only the end of the
 input, which is all that the examples show.

@@ -58,7 +58,7 @@ def files_of(extension):
     names = sorted(os.listdir(f"{HERE}/mabristu"))
     found = [(f"mabristu/{it}", read(f"{HERE}/mabristu/{it}")) for it in names if it.endswith((".py", ".pyi", ".typed"))]
     found.append(("mabristu/_mabristu.abi3.so", read(extension)))
-    # By the hash a wheel tells which library it has.
+    # The hash says which library a wheel has.
     found.append(("mabristu/_library.txt", f"{hashlib.sha256(read(library())).hexdigest()}\n".encode()))
     info = f"mabristu-{project('version')}.dist-info"
     found.append((f"{info}/METADATA", metadata()))

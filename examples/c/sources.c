@@ -1,4 +1,4 @@
-/* sources [--lenient] ROOT FILE..: tells whether sources of proto3 make types, as `pbtool compile` does, by the strict grammar or leniently. Each FILE is named as imports name it, from ROOT on. What a
+/* sources [--lenient] ROOT FILE..: says whether sources of proto3 make types, as `pbtool compile` does, by the strict grammar or leniently. Each FILE is named as imports name it, from ROOT on. What a
  * source imports has to be among them. */
 #include "common.h"
 

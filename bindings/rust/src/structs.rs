@@ -22,7 +22,7 @@ pub struct Handle {
     pub full: bool,
 }
 
-/// What a field is: kinds by the numbers of types in descriptor.proto, the shape and the type by the numbers that mabristu.h tells.
+/// What a field is: kinds by the numbers of types in descriptor.proto, the shape and the type by the numbers in mabristu.h.
 #[repr(C)]
 #[derive(Clone, Copy, Debug, Default, PartialEq, Eq)]
 pub struct Field {
