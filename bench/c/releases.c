@@ -4,7 +4,8 @@
 
    `git show COMMIT:dist/libmabristu.so > OLD.so` gets a release. SET holds a descriptor set, and a FILE messages of TYPE, each after its length in
    four bytes, as bench/texts/make_texts.py writes them. In each turn each release decodes the whole file, and the one that begins changes from turn
-   to turn. A ratio above 1 says that NEW is slower. Build with: cc -O2 -I include -o releases bench/c/releases.c -ldl */
+   to turn. Before each message comes an unknown record in a spelling that is not canonical: so the message is built, and not the bytes copied. A
+   ratio above 1 says that NEW is slower. Build with: cc -O2 -I include -o releases bench/c/releases.c -ldl */
 #include <dlfcn.h>
 #include <stdio.h>
 #include <stdlib.h>
@@ -20,6 +21,8 @@ struct release {
 };
 
 static struct mb_step path[MB_MAX_STEPS];
+/* The greatest field number, a varint, and a zero in two bytes. */
+static const uint8_t unknown[] = {0xf8, 0xff, 0xff, 0xff, 0x0f, 0x80, 0x00};
 
 static uint8_t *read_file(const char *name, size_t *size) {
     FILE *file = fopen(name, "rb");
@@ -58,12 +61,29 @@ static void load(struct release *it, const char *library, const uint8_t *set, si
     if (find(&it->pool, (const uint8_t *)type, strlen(type), &it->type)) exit(2);
 }
 
+/* The inputs of a file, each with the unknown record before it and its length in four bytes before that. */
+static uint8_t *with_unknown(const uint8_t *bytes, size_t size, size_t *new_size) {
+    uint8_t *made = malloc(size + size / 4 * sizeof unknown + 1);
+    if (!made) exit(2);
+    *new_size = 0;
+    for (size_t at = 0; at + 4 <= size;) {
+        uint32_t length = bytes[at] | bytes[at + 1] << 8 | bytes[at + 2] << 16 | (uint32_t)bytes[at + 3] << 24, whole = length + sizeof unknown;
+        memcpy(made + *new_size, &whole, 4);
+        memcpy(made + *new_size + 4, unknown, sizeof unknown);
+        memcpy(made + *new_size + 4 + sizeof unknown, bytes + at + 4, length);
+        *new_size += 4 + whole;
+        at += 4 + length;
+    }
+    return made;
+}
+
 static double decode_all(struct release *it, const uint8_t *bytes, size_t size, int times) {
     struct mb_fault fault;
     double start = processor_time();
     for (int k = 0; k < times; k++)
         for (size_t at = 0; at + 4 <= size;) {
-            size_t length = bytes[at] | bytes[at + 1] << 8 | bytes[at + 2] << 16 | (size_t)bytes[at + 3] << 24;
+            uint32_t length;
+            memcpy(&length, bytes + at, 4);
             struct mb_message message = {0};
             if (it->decode(&it->pool, it->type, bytes + at + 4, length, MB_MAX_BYTES, MB_MAX_DEPTH, &message, &fault, path, MB_MAX_STEPS)) exit(2);
             it->free(&message);
@@ -82,7 +102,8 @@ int main(int argc, char **argv) {
     double *ratios = malloc(turns * sizeof *ratios);
     if (turns < 1 || !ratios) return 2;
     for (int file = 6; file < argc; file++) {
-        uint8_t *bytes = read_file(argv[file], &size);
+        uint8_t *read = read_file(argv[file], &size), *bytes = with_unknown(read, size, &size);
+        free(read);
         double first = decode_all(&both[0], bytes, size, 1), spent[2];
         decode_all(&both[1], bytes, size, 1);
         int times = 3e7 / first + 1;
