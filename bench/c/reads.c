@@ -154,7 +154,7 @@ static uint32_t check_and_show(void)
 /* How often each call may read what is a message, and what is refused: docs/C.md lists them. mb_show calls `decode`. */
 static const struct call { const char *name; uint32_t (*call)(void); double whole, refused; } calls[] = {
     {"mb_raw_check", raw_check, 1, 2}, {"mb_raw_short", raw_short, 1, 1}, {"mb_check", check, 1, 3}, {"mb_check of more than the limit", check_most, 1, 3},
-    {"mb_frames", frames, 1, 4}, {"mb_show", show, 2, 3.5}, {"mb_message_merge", merge, 2, 6}, {"mb_canon", canon, 4, 6}, {"mb_message_decode", decode, 4, 6},
+    {"mb_frames", frames, 1, 4}, {"mb_show", show, 2, 3}, {"mb_message_merge", merge, 2, 6}, {"mb_canon", canon, 4, 6}, {"mb_message_decode", decode, 4, 6},
     {"mb_decoder_feed of one piece", one_piece, 2, 6}, {"mb_decoder_feed of pieces of 100 bytes", pieces, 1, 1},
     {"mb_find of a number", find_number, 1, 5}, {"mb_find of a string", find_string, 1, 5}, {"mb_find of a member of a oneof", find_member, 1, 5},
     {"mb_find of a string in messages", find_inside, 1, 5},

@@ -6,5 +6,6 @@ pub(crate) mod check;
 pub(crate) mod find;
 pub(crate) mod frames;
 pub(crate) mod from_json;
+pub(crate) mod input;
 pub(crate) mod show;
 pub(crate) mod show_decimal;

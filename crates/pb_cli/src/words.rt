@@ -13,6 +13,15 @@ use std::alloc::{AllocError, Global};
 /// What `--version` prints.
 const VERSION: &str = "0.1.0";
 
+/// What the help says of a file with a message.
+const BYTES: &str = "The file with the bytes of the message";
+
+/// What the help says of a file with a stream.
+const STREAM: &str = "The file with the bytes of the stream";
+
+/// What the help says of a file with a message as JSON.
+const JSON: &str = "The file with the JSON of the message";
+
 /// The definition of the command line.
 pub fn definition<'a>(alloc: Global) -> Result<Command<'a>, AllocError>
     ensures app { IfOk result (λ c. app_of c ≡ tool) }
@@ -82,7 +91,7 @@ fn check<'a>(alloc: Global) -> Result<Command<'a>, AllocError>
     ensures local { IfOk result (λ c. (out-Command c).has_globals ≡ false) }
 {
     let command = Command::new(alloc, "check").about("Say that a file is a message of a type");
-    let whole = with_source(alloc, command)?;
+    let whole = with_source(alloc, command, BYTES)?;
     Ok(whole)
 }
 
@@ -93,7 +102,7 @@ fn show<'a>(alloc: Global) -> Result<Command<'a>, AllocError>
     let command = Command::new(alloc, "show").about("Print the fields of a message");
     let decimal = decimal_option(alloc);
     let with_decimal = command.arg(decimal)?;
-    let whole = with_source(alloc, with_decimal)?;
+    let whole = with_source(alloc, with_decimal, BYTES)?;
     Ok(whole)
 }
 
@@ -109,7 +118,7 @@ fn canon<'a>(alloc: Global) -> Result<Command<'a>, AllocError>
         "Print the canonical bytes of a message as one line of hexadecimal",
     );
     let with_out = command.arg(out)?;
-    let whole = with_source(alloc, with_out)?;
+    let whole = with_source(alloc, with_out, BYTES)?;
     Ok(whole)
 }
 
@@ -123,7 +132,7 @@ fn json<'a>(alloc: Global) -> Result<Command<'a>, AllocError>
         .help("Put each member and each element on its own line");
     let command = Command::new(alloc, "json").about("Print a message as JSON");
     let with_pretty = command.arg(pretty)?;
-    let whole = with_source(alloc, with_pretty)?;
+    let whole = with_source(alloc, with_pretty, BYTES)?;
     Ok(whole)
 }
 
@@ -132,7 +141,7 @@ fn frames<'a>(alloc: Global) -> Result<Command<'a>, AllocError>
     ensures local { IfOk result (λ c. (out-Command c).has_globals ≡ false) }
 {
     let command = Command::new(alloc, "frames").about(
-        "Print the messages of a stream, each behind its length",
+        "Print the messages of a stream, each after its length",
     );
     let decimal = decimal_option(alloc);
     let with_decimal = command.arg(decimal)?;
@@ -140,7 +149,7 @@ fn frames<'a>(alloc: Global) -> Result<Command<'a>, AllocError>
     let with_json = with_decimal.arg(json)?;
     let keep_going = keep_going_option(alloc);
     let with_keep_going = with_json.arg(keep_going)?;
-    let whole = with_source(alloc, with_keep_going)?;
+    let whole = with_source(alloc, with_keep_going, STREAM)?;
     Ok(whole)
 }
 
@@ -219,7 +228,7 @@ fn from_json<'a>(alloc: Global) -> Result<Command<'a>, AllocError>
     let command = Command::new(alloc, "from-json").about(
         "Write the canonical bytes of a message that is given as JSON",
     );
-    let with_source = with_source(alloc, command)?;
+    let with_source = with_source(alloc, command, JSON)?;
     let out = wanted(alloc, "OUT", "The file to write");
     let whole = with_source.arg(out)?;
     Ok(whole)
@@ -291,8 +300,12 @@ fn keep_going_option<'a>(alloc: Global) -> Arg<'a>
         .help("Pass over frames that are refused, and report them all at the end")
 }
 
-/// The command with the arguments that name a message and its type.
-fn with_source<'a>(alloc: Global, command: Command<'a>) -> Result<Command<'a>, AllocError>
+/// The command with the arguments that name a type and a file of its messages. `help` says what the file holds.
+fn with_source<'a>(
+    alloc: Global,
+    command: Command<'a>,
+    help: &'a str,
+) -> Result<Command<'a>, AllocError>
     ensures app { (out-Command command.entry).has_globals ≡ false → IfOk result (λ c. app_of c ≡ of_source (app_of command.entry)) }
     ensures local { (out-Command command.entry).has_globals ≡ false → IfOk result (λ c. (out-Command c).has_globals ≡ false) }
 {
@@ -304,7 +317,7 @@ fn with_source<'a>(alloc: Global, command: Command<'a>) -> Result<Command<'a>, A
     let with_set = with_lenient.arg(set)?;
     let name = wanted(alloc, "TYPE", "The full name of the message type");
     let with_type = with_set.arg(name)?;
-    let file = wanted(alloc, "FILE", "The file with the bytes");
+    let file = wanted(alloc, "FILE", help);
     let whole = with_type.arg(file)?;
     Ok(whole)
 }

@@ -1,4 +1,4 @@
--- What is reached along a graph from some indexes, and the bits that tell it.
+-- What is reached along a graph from some indexes, and the bits that say so.
 use Rattle.std.specs.Prelude.{◌≡◌, ◌<◌, ◌≤◌, ◌+◌, ◌*◌, ◌↔◌, ◌⊎◌, ℕ, List, [], ◌++◌, length, Bool}
 use Rattle.std.specs.Prelude.{false, cond, IsTrue, unwrap_or, slice_get, Contains, sum_by}
 use Rattle.std.specs.List.{slice_index_or, AllByRecursion}

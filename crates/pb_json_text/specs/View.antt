@@ -1,4 +1,4 @@
--- The JSON values that the code's values stand for.
+-- The JSON values that the code's values represent.
 use Rattle.std.specs.Prelude.{ℕ, List, [], ◌∷◌, map, string_bytes}
 use Rattle.pb_json_text.specs.Json.{Json, null, boolean, number, string, array, object, Elements, no_elements, element, Members, no_members, member, Placed}
 use Rattle.pb_json_text.specs.declared.value.JsonValue.{JsonValue, fold-JsonValue}

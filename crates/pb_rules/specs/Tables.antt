@@ -47,7 +47,7 @@ pub record AreTablesOf (w : World) (ds : List Declaration) (n : Names) (map_mark
   pub names : AreNamesOf w n
   pub maps : map_marks ≡ holds_table w cause.BadMap
 
--- what the tables tell at a place
+-- what the tables hold at a place
 pub record TellsAt (w : World) (place : ℕ) (d : Declaration) (a : At) : Type 0 where
   pub file_is_first : a.file_is_first ≡ holds w place d cause.TwoFiles
   pub imports_are_there : a.imports_are_there ≡ holds w place d cause.MissingImport

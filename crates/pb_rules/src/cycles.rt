@@ -97,7 +97,7 @@ fn find_cycle(
     Ok(None)
 }
 
-/// The place of the first file that reaches itself. Most sets have none, and one quick walk tells that.
+/// The place of the first file that reaches itself. Most sets have none, and one quick walk finds that.
 pub(crate) fn first_cycle(
     alloc: Global,
     row: &[Declaration],

@@ -77,7 +77,7 @@ fn may_be_closed(proto2: bool, message: &MessageDecl) -> bool
     proto2 && !message.map_entry
 }
 
-/// The least cause at a declaration, by what the tables tell at its place.
+/// The least cause at a declaration, by what the tables hold at its place.
 pub(crate) fn judge(
     files: &[FileDecl],
     row: &[Declaration],

@@ -62,7 +62,7 @@ fn names_at(found: &[TypeNames], place: usize) -> TypeNames
     }
 }
 
-/// What the tables tell at a place.
+/// What the tables hold at a place.
 pub(crate) fn at_place(names: &Names, map_marks: &[bool], place: usize) -> At
     ensures { result ≡ at_place names.now map_marks.now place }
 {

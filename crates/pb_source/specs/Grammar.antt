@@ -242,8 +242,8 @@ file_statement g rules (FileStatement.a_service s) = service g rules s
 abbrev pub syntax_said : Symbol → List ℕ → Language
 syntax_said first b = one first ▸ mark "=" ▸ one (text b) ▸ mark ";"
 
--- The syntax of a file, and the grammar of its other statements. Read strictly it is `proto3`; where the rule on it is left out, any symbol may be
--- first, and any text. Read leniently it is `proto2`, as where none is said, or `proto3`; where the rule is left out, any text.
+-- The syntax of a file, and the grammar of its other statements. Read strictly it is `proto3`; where the rule on it is left out, any symbol may
+-- come first, and then any string. Read leniently it is `proto2`, as where none is given, or `proto3`; where the rule is left out, any string.
 abbrev pub syntax_line : Reading → Rules → Grammar → Language
 syntax_line reading.Strict rules Strict ts =
     syntax_said (word (codes "syntax")) (codes "proto3") ts ⊎ ((rules syntax_first ≡ false) × (s : Symbol) × (b : List ℕ) × syntax_said s b ts)

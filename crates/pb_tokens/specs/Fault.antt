@@ -1,4 +1,4 @@
--- Faults as the calls tell them.
+-- Faults as the calls report them.
 use Rattle.std.specs.Prelude.{ℕ}
 use Rattle.pb_tokens.specs.declared.fault.SourceCause.{SourceCause}
 use Rattle.pb_tokens.specs.declared.fault.SourceCause.TheVariants.{Memory}

@@ -87,7 +87,7 @@ fn symbols<'a>(alloc: Global, tokens: &[Token<'a>]) -> Result<Vec<Placed<'a>>, A
 
 /// The symbols of a source, in order: its tokens, of which texts that follow one another are one symbol.
 ///
-/// The fault is that of a source that has no tokens, as `lex` tells it, or `Memory`.
+/// The fault is that of a source that has no tokens, as `lex` reports it, or `Memory`.
 pub fn source_symbols<'a>(alloc: Global, source: &'a str) -> Result<Vec<Placed<'a>>, SourceFault>
     ensures symbols { IfOk result (λ ss. HasSymbols source.now (symbols_of ss.items)) }
     ensures fault { IfErr result (λ e. (e ≡ out_of_memory) ⊎ LexFault source.now e.byte e.cause) }

@@ -1,6 +1,6 @@
 //! Map entries. Those of one map that follow each other go into it at once: many are sorted first.
 
-ghost use Rattle.std.specs.Prelude.{◌≡◌, ◌≤◌, ◌<◌, ◌^◌, length, IfOk, IfSome};
+ghost use Rattle.std.specs.Prelude.{◌≡◌, ◌≤◌, ◌<◌, length, IfOk, IfSome};
 ghost use Rattle.pb_building.specs.declared.open.target.Target.TheVariants as targets;
 ghost use Rattle.pb_building.specs.Values.PayloadValue.{IsBytesTarget};
 ghost use Rattle.pb_whole.specs.Reads.{Begins, CanRead, IsAtTag, MeansIn, ReadsAll, ReadsOne};
@@ -8,14 +8,13 @@ ghost use Rattle.pb_whole.specs.Entries.{IsAtEntry, AddsEntry, ReadsEntries};
 
 use crate::heap::keep_heap_after_list;
 use crate::reader::{AtTag, Left, Read, Reader, Used};
-use crate::tokens::{is_number, payload_after, payload_at, tag_again, tag_at};
+use crate::tokens::{is_number, payload_at, tag_again, tag_at};
 use pb_building::{
     Entry, NoMemory, Part, RecordTag, Target, key_or_default, put_entries, target_of,
     value_or_missing,
 };
 use pb_schema::Kind;
 use pb_value::{MapKey, Value};
-use pb_wire::before_end;
 
 /// After a shorter record no more are read before those so far are in the map, so that the memory for them follows their bytes, also
 /// where keys repeat.
@@ -34,43 +33,6 @@ fn entry_again(first: RecordTag, last: usize, bytes: &[u8], left: Left) -> Optio
         return None;
     }
     tag_again(first, bytes, left)
-}
-
-/// The most entries that memory is asked for before they are read.
-const MAX_ENTRIES_AHEAD: usize = 4096;
-
-/// How many bytes the record that begins some bytes takes, if it has this tag, is complete there, and is not too short for a run.
-fn size_again(tag: &[u8], bytes: &[u8]) -> Option<usize>
-    requires small { length bytes.now < 2 ^ 31 }
-    ensures within { IfSome result (λ n. n ≤ length bytes.now) }
-{
-    if !bytes.starts_with(tag) {
-        return None;
-    }
-    let (start, size) = payload_after(tag.len(), bytes, None)?;
-    let end = start + size as usize;
-    if end < MIN_RUN_ENTRY_BYTES {
-        return None;
-    }
-    Some(end)
-}
-
-/// How many records with the tag of this one follow each other: how many entries memory is asked for. Their payloads are not read.
-fn entries_ahead(at: AtTag) -> usize
-    requires within { at.tag.size ≤ length at.bytes.now }
-    requires small { length at.bytes.now < 2 ^ 31 }
-{
-    let end = before_end(at.bytes, Some(at.left.remaining));
-    let mut rest = &at.bytes[..end];
-    let mut count = 0usize;
-    for _ in 0..MAX_ENTRIES_AHEAD.min(end) {
-        let Some(size) = size_again(&at.bytes[..at.tag.size], rest) else {
-            return count;
-        };
-        rest = &rest[size..];
-        count = count.wrapping_add(1);
-    }
-    count
 }
 
 impl Reader<'_> {
@@ -168,7 +130,7 @@ impl Reader<'_> {
         ensures within { IfOk result (λ r. r.1 ≤ length at.entry.bytes.now) }
         ensures put { ReadsEntries self.now.pool.now key_kind value_kind at.entry result }
     {
-        let mut entries = Vec::with_capacity(self.alloc, entries_ahead(at))?;
+        let mut entries = Vec::new(self.alloc);
         let mut here = 0;
         let mut last = MIN_RUN_ENTRY_BYTES;
         while let Some(next) = entry_again(at.tag, last, &at.bytes[here..], at.left.after(here)) {

@@ -10,17 +10,18 @@ ghost use Rattle.pb_canonical.specs.Canonical.{IsCanonical};
 ghost use Rattle.pb_encode.specs.Encoding.{bytes_of};
 ghost use Rattle.pb_decode.specs.Push.{IsFaultOf};
 ghost use Rattle.pb_c.specs.Held.{types_held};
+ghost use Rattle.pb_c.specs.Typed.Input.{AreCanonical, Encodes, HasFault, IsTyped, IsUntyped, canon_of};
 ghost use Rattle.pb_c_reports.specs.Reporting.{AreLimits, IsLaid, Tells, bounds};
 ghost use Rattle.pb_c_reports.specs.Typed.{HasType, LacksType};
 
 use crate::handle::{PoolHandle, put, take};
 use crate::typed::canonical::is_known_canonical;
+use crate::typed::input::TypedInput;
 use pb_c_reports::{
     BAD_LIMITS, DONE, EMPTY, FAULT, FaultReport, MEMORY, NO_TYPE, Step, TOO_LARGE, read_message,
     write_out,
 };
 use pb_encode::{EncodeError, encode};
-use pb_schema::Pool;
 use pb_value::DynamicMessage;
 use pb_wire::Limits;
 use std::alloc::Global;
@@ -81,17 +82,13 @@ pub extern "C" fn mb_canon(
     let Some(shared) = take(alloc, pool) else {
         return EMPTY;
     };
-    let answer = canon_message(
-        alloc,
-        &shared.pool,
-        message_type,
+    let input = TypedInput {
+        pool: &shared.pool,
+        type_number: message_type,
         bytes,
         limits,
-        out,
-        size,
-        fault,
-        path,
-    );
+    };
+    let answer = canon_message(alloc, input, out, size, fault, path);
     put(pool, shared);
     answer
 }
@@ -99,39 +96,50 @@ pub extern "C" fn mb_canon(
 /// Writes the canonical bytes of the message that the bytes are, by its type's number.
 fn canon_message(
     alloc: Global,
-    pool: &Pool,
-    number: u32,
-    bytes: &[u8],
-    limits: Limits,
+    input: TypedInput<'_>,
     out: &mut [u8],
     size: &mut usize,
     fault: &mut FaultReport,
     path: &mut [Step],
 ) -> u32
-    ensures text { result ≡ DONE → (v : Message) × Text pool.now number limits bytes.now v
-        × (length (canon_bytes pool.now number v) < 2 ^ 31) × IsLaid (canon_bytes pool.now number v) out.old out.new size.new }
-    ensures too_large { result ≡ TOO_LARGE → (v : Message) × Text pool.now number limits bytes.now v
-        × (2 ^ 31 ≤ length (canon_bytes pool.now number v)) }
-    ensures fault { result ≡ FAULT → (f : Fault) × IsFaultOf pool.now number limits bytes.now f × Tells f fault.new path.old path.new }
+    ensures text { result ≡ DONE → (v : Message) × Encodes input.entry v
+        × (length (canon_of input.entry v) < 2 ^ 31) × IsLaid (canon_of input.entry v) out.old out.new size.new }
+    ensures too_large { result ≡ TOO_LARGE → (v : Message) × Encodes input.entry v
+        × (2 ^ 31 ≤ length (canon_of input.entry v)) }
+    ensures fault { result ≡ FAULT → (f : Fault) × HasFault input.entry f × Tells f fault.new path.old path.new }
     ensures unwritten { result ≢ DONE → (out.new ≡ out.old) × (size.new ≡ size.old) }
     ensures untold { result ≢ FAULT → (fault.new ≡ fault.old) × (path.new ≡ path.old) }
-    ensures no_type { result ≡ NO_TYPE ↔ length pool.now.messages ≤ number }
+    ensures no_type { result ≡ NO_TYPE ↔ IsUntyped input.entry }
     ensures answers { (result ≡ DONE) ⊎ (result ≡ TOO_LARGE) ⊎ (result ≡ NO_TYPE) ⊎ (result ≡ FAULT) ⊎ (result ≡ MEMORY) }
-    ensures accepted { number < length pool.now.messages → (v : Message) → Text pool.now number limits bytes.now v
-        → length (canon_bytes pool.now number v) < 2 ^ 31
-        → ((result ≡ DONE) × IsLaid (canon_bytes pool.now number v) out.old out.new size.new) ⊎ (result ≡ MEMORY) }
-    ensures oversized { number < length pool.now.messages → (v : Message) → Text pool.now number limits bytes.now v
-        → 2 ^ 31 ≤ length (canon_bytes pool.now number v) → (result ≡ TOO_LARGE) ⊎ (result ≡ MEMORY) }
-    ensures refused { number < length pool.now.messages → (f : Fault) → IsFaultOf pool.now number limits bytes.now f
+    ensures accepted { IsTyped input.entry → (v : Message) → Encodes input.entry v
+        → length (canon_of input.entry v) < 2 ^ 31
+        → ((result ≡ DONE) × IsLaid (canon_of input.entry v) out.old out.new size.new) ⊎ (result ≡ MEMORY) }
+    ensures oversized { IsTyped input.entry → (v : Message) → Encodes input.entry v
+        → 2 ^ 31 ≤ length (canon_of input.entry v) → (result ≡ TOO_LARGE) ⊎ (result ≡ MEMORY) }
+    ensures refused { IsTyped input.entry → (f : Fault) → HasFault input.entry f
         → ((result ≡ FAULT) × Tells f fault.new path.old path.new) ⊎ (result ≡ MEMORY) }
-    ensures copied { number < length pool.now.messages → IsCanonical pool.now number bytes.now
-        → (v : Message) → Text pool.now number limits bytes.now v → result ≡ DONE }
+    ensures copied { IsTyped input.entry → AreCanonical input.entry
+        → (v : Message) → Encodes input.entry v → result ≡ DONE }
 {
-    if is_known_canonical(alloc, pool, number, bytes, limits) {
-        write_out(bytes, out, size);
+    if is_known_canonical(
+        alloc,
+        input.pool,
+        input.type_number,
+        input.bytes,
+        input.limits,
+    ) {
+        write_out(input.bytes, out, size);
         return DONE;
     }
-    match read_message(alloc, pool, number, bytes, limits, fault, path) {
+    match read_message(
+        alloc,
+        input.pool,
+        input.type_number,
+        input.bytes,
+        input.limits,
+        fault,
+        path,
+    ) {
         Ok(message) => write_canonical(&message, out, size),
         Err(answer) => answer,
     }

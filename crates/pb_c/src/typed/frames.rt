@@ -4,11 +4,13 @@ ghost use Rattle.std.specs.Prelude.{◌≡◌, ◌≢◌, ◌+◌, ◌*◌, ◌<
 ghost use Rattle.pb_wire.specs.Fault.{Fault};
 ghost use Rattle.pb_schema.specs.Types.{Types};
 ghost use Rattle.pb_c.specs.Held.{types_held};
+ghost use Rattle.pb_c.specs.Typed.Input.{BeginsWithFrame, BeginsWithNoFrame, IsPartOfFrame, IsTyped, IsUntyped};
 ghost use Rattle.pb_c_reports.specs.Reporting.{AreLimits, Tells, bounds};
 ghost use Rattle.pb_c_reports.specs.Typed.{ByFault, HasType, LacksType};
 ghost use Rattle.pb_c.specs.Typed.Frames.{AnswersFault, IsFramed, IsNoFrame, IsPart, IsSpan};
 
 use crate::handle::{PoolHandle, put, take};
+use crate::typed::input::TypedInput;
 use pb_c_reports::{
     BAD_LIMITS, DONE, EMPTY, FAULT, FaultReport, MEMORY, NO_TYPE, PART, Step, tell_error,
     type_numbered,
@@ -79,16 +81,13 @@ pub extern "C" fn mb_frames(
     let Some(shared) = take(alloc, pool) else {
         return EMPTY;
     };
-    let answer = check_frame(
-        alloc,
-        &shared.pool,
-        message_type,
+    let input = TypedInput {
+        pool: &shared.pool,
+        type_number: message_type,
         bytes,
         limits,
-        frame,
-        fault,
-        path,
-    );
+    };
+    let answer = check_frame(alloc, input, frame, fault, path);
     put(pool, shared);
     answer
 }
@@ -96,37 +95,42 @@ pub extern "C" fn mb_frames(
 /// Checks the frame that the bytes begin with, a message of the type of a number after its length.
 fn check_frame(
     alloc: Global,
-    pool: &Pool,
-    number: u32,
-    bytes: &[u8],
-    limits: Limits,
+    input: TypedInput<'_>,
     frame: &mut FrameReport,
     fault: &mut FaultReport,
     path: &mut [Step],
 ) -> u32
-    ensures framed { result ≡ DONE → IsFramed pool.now number limits bytes.now frame.new }
-    ensures part { result ≡ PART → IsPart pool.now number limits bytes.now }
-    ensures fault { result ≡ FAULT → (f : Fault) × IsNoFrame pool.now number limits bytes.now f × Tells f fault.new path.old path.new }
-    ensures span { (result ≡ PART) ⊎ (result ≡ FAULT) → IsSpan bytes.now frame.new }
+    ensures framed { result ≡ DONE → BeginsWithFrame input.entry frame.new }
+    ensures part { result ≡ PART → IsPartOfFrame input.entry }
+    ensures fault { result ≡ FAULT → (f : Fault) × BeginsWithNoFrame input.entry f × Tells f fault.new path.old path.new }
+    ensures span { (result ≡ PART) ⊎ (result ≡ FAULT) → IsSpan input.entry.bytes.now frame.new }
     ensures unframed { result ≢ DONE → result ≢ PART → result ≢ FAULT → frame.new ≡ frame.old }
     ensures untold { result ≢ FAULT → (fault.new ≡ fault.old) × (path.new ≡ path.old) }
-    ensures no_type { result ≡ NO_TYPE ↔ length pool.now.messages ≤ number }
+    ensures no_type { result ≡ NO_TYPE ↔ IsUntyped input.entry }
     ensures answers { (result ≡ DONE) ⊎ (result ≡ PART) ⊎ (result ≡ NO_TYPE) ⊎ (result ≡ FAULT) ⊎ (result ≡ MEMORY) }
-    ensures accepted { number < length pool.now.messages → (r : FrameReport) → IsFramed pool.now number limits bytes.now r
+    ensures accepted { IsTyped input.entry → (r : FrameReport) → BeginsWithFrame input.entry r
         → (result ≡ DONE) × (frame.new ≡ r) }
-    ensures parted { number < length pool.now.messages → IsPart pool.now number limits bytes.now → (result ≡ PART) ⊎ (result ≡ MEMORY) }
-    ensures refused { number < length pool.now.messages → (f : Fault) → IsNoFrame pool.now number limits bytes.now f
+    ensures parted { IsTyped input.entry → IsPartOfFrame input.entry → (result ≡ PART) ⊎ (result ≡ MEMORY) }
+    ensures refused { IsTyped input.entry → (f : Fault) → BeginsWithNoFrame input.entry f
         → ((result ≡ FAULT) × Tells f fault.new path.old path.new) ⊎ (result ≡ MEMORY) }
 {
-    let Some(message_type) = type_numbered(pool, number) else {
+    let Some(message_type) = type_numbered(input.pool, input.type_number) else {
         return NO_TYPE;
     };
-    if let Some(found) = find_frame(alloc, pool, message_type, bytes, limits) {
+    if let Some(found) = find_frame(alloc, input.pool, message_type, input.bytes, input.limits) {
         *frame = found;
         return DONE;
     }
-    let answer = tell_no_frame(alloc, pool, message_type, bytes, limits, fault, path);
-    report_span(answer, bytes, frame);
+    let answer = tell_no_frame(
+        alloc,
+        input.pool,
+        message_type,
+        input.bytes,
+        input.limits,
+        fault,
+        path,
+    );
+    report_span(answer, input.bytes, frame);
     answer
 }
 

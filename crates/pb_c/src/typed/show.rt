@@ -1,6 +1,6 @@
 //! The listing of a message.
 
-ghost use Rattle.std.specs.Prelude.{◌≡◌, ◌≢◌, ◌+◌, ◌*◌, ◌<◌, ◌≤◌, ◌↔◌, ◌⊎◌, None, length};
+ghost use Rattle.std.specs.Prelude.{◌≡◌, ◌≢◌, ◌+◌, ◌*◌, ◌≤◌, ◌↔◌, ◌⊎◌, None};
 ghost use Rattle.pb_wire.specs.Fault.{Fault};
 ghost use Rattle.pb_schema.specs.Types.{Types};
 ghost use Rattle.pb_value.specs.Data.{Message};
@@ -8,15 +8,16 @@ ghost use Rattle.pb_value.specs.Derives.{Text};
 ghost use Rattle.pb_decode.specs.Push.{IsFaultOf};
 ghost use Rattle.pb_listing.specs.Listing.{listing};
 ghost use Rattle.pb_c.specs.Held.{types_held};
+ghost use Rattle.pb_c.specs.Typed.Input.{Encodes, HasFault, IsTyped, IsUntyped, typed_message};
 ghost use Rattle.pb_c_reports.specs.Reporting.{AreLimits, IsLaid, Tells, bounds};
 ghost use Rattle.pb_c_reports.specs.Typed.{HasType, LacksType, message_of};
 
 use crate::handle::{PoolHandle, put, take};
+use crate::typed::input::TypedInput;
 use pb_c_reports::{
     BAD_LIMITS, DONE, EMPTY, FAULT, FaultReport, MEMORY, NO_TYPE, Step, read_message, write_out,
 };
 use pb_listing::write_message;
-use pb_schema::Pool;
 use pb_value::DynamicMessage;
 use pb_wire::{FailurePlan, Limits, MemOutput};
 use std::alloc::Global;
@@ -65,17 +66,13 @@ pub extern "C" fn mb_show(
     let Some(shared) = take(alloc, pool) else {
         return EMPTY;
     };
-    let answer = show_message(
-        alloc,
-        &shared.pool,
-        message_type,
+    let input = TypedInput {
+        pool: &shared.pool,
+        type_number: message_type,
         bytes,
         limits,
-        out,
-        size,
-        fault,
-        path,
-    );
+    };
+    let answer = show_message(alloc, input, out, size, fault, path);
     put(pool, shared);
     answer
 }
@@ -83,28 +80,33 @@ pub extern "C" fn mb_show(
 /// Writes the listing of the message that the bytes are, by its type's number.
 fn show_message(
     alloc: Global,
-    pool: &Pool,
-    number: u32,
-    bytes: &[u8],
-    limits: Limits,
+    input: TypedInput<'_>,
     out: &mut [u8],
     size: &mut usize,
     fault: &mut FaultReport,
     path: &mut [Step],
 ) -> u32
-    ensures text { result ≡ DONE → (v : Message) × Text pool.now number limits bytes.now v
-        × IsLaid (listing (message_of pool.now number v)) out.old out.new size.new }
-    ensures fault { result ≡ FAULT → (f : Fault) × IsFaultOf pool.now number limits bytes.now f × Tells f fault.new path.old path.new }
+    ensures text { result ≡ DONE → (v : Message) × Encodes input.entry v
+        × IsLaid (listing (typed_message input.entry v)) out.old out.new size.new }
+    ensures fault { result ≡ FAULT → (f : Fault) × HasFault input.entry f × Tells f fault.new path.old path.new }
     ensures unwritten { result ≢ DONE → (out.new ≡ out.old) × (size.new ≡ size.old) }
     ensures untold { result ≢ FAULT → (fault.new ≡ fault.old) × (path.new ≡ path.old) }
-    ensures no_type { result ≡ NO_TYPE ↔ length pool.now.messages ≤ number }
+    ensures no_type { result ≡ NO_TYPE ↔ IsUntyped input.entry }
     ensures answers { (result ≡ DONE) ⊎ (result ≡ NO_TYPE) ⊎ (result ≡ FAULT) ⊎ (result ≡ MEMORY) }
-    ensures accepted { number < length pool.now.messages → (v : Message) → Text pool.now number limits bytes.now v
-        → ((result ≡ DONE) × IsLaid (listing (message_of pool.now number v)) out.old out.new size.new) ⊎ (result ≡ MEMORY) }
-    ensures refused { number < length pool.now.messages → (f : Fault) → IsFaultOf pool.now number limits bytes.now f
+    ensures accepted { IsTyped input.entry → (v : Message) → Encodes input.entry v
+        → ((result ≡ DONE) × IsLaid (listing (typed_message input.entry v)) out.old out.new size.new) ⊎ (result ≡ MEMORY) }
+    ensures refused { IsTyped input.entry → (f : Fault) → HasFault input.entry f
         → ((result ≡ FAULT) × Tells f fault.new path.old path.new) ⊎ (result ≡ MEMORY) }
 {
-    match read_message(alloc, pool, number, bytes, limits, fault, path) {
+    match read_message(
+        alloc,
+        input.pool,
+        input.type_number,
+        input.bytes,
+        input.limits,
+        fault,
+        path,
+    ) {
         Ok(message) => write_listing(alloc, &message, out, size),
         Err(answer) => answer,
     }

@@ -1,6 +1,6 @@
 //! The listing of a message, with floats in decimal.
 
-ghost use Rattle.std.specs.Prelude.{◌≡◌, ◌≢◌, ◌+◌, ◌*◌, ◌<◌, ◌≤◌, ◌↔◌, ◌⊎◌, None, length};
+ghost use Rattle.std.specs.Prelude.{◌≡◌, ◌≢◌, ◌+◌, ◌*◌, ◌≤◌, ◌↔◌, ◌⊎◌, None};
 ghost use Rattle.pb_wire.specs.Fault.{Fault};
 ghost use Rattle.pb_schema.specs.Types.{Types};
 ghost use Rattle.pb_value.specs.Data.{Message};
@@ -8,15 +8,16 @@ ghost use Rattle.pb_value.specs.Derives.{Text};
 ghost use Rattle.pb_decode.specs.Push.{IsFaultOf};
 ghost use Rattle.pb_c.specs.Held.{types_held};
 ghost use Rattle.pb_c.specs.Message.Listed.{IsListedDecimal};
+ghost use Rattle.pb_c.specs.Typed.Input.{Encodes, HasFault, IsTyped, IsUntyped, typed_message};
 ghost use Rattle.pb_c_reports.specs.Reporting.{AreLimits, Tells, bounds};
 ghost use Rattle.pb_c_reports.specs.Typed.{HasType, LacksType, message_of};
 
 use crate::handle::{PoolHandle, put, take};
 use crate::message::show_decimal::write_decimal;
+use crate::typed::input::TypedInput;
 use pb_c_reports::{
     BAD_LIMITS, DONE, EMPTY, FAULT, FaultReport, MEMORY, NO_TYPE, Step, read_message,
 };
-use pb_schema::Pool;
 use pb_wire::Limits;
 use std::alloc::Global;
 
@@ -64,17 +65,13 @@ pub extern "C" fn mb_show_decimal(
     let Some(shared) = take(alloc, pool) else {
         return EMPTY;
     };
-    let answer = decimal_message(
-        alloc,
-        &shared.pool,
-        message_type,
+    let input = TypedInput {
+        pool: &shared.pool,
+        type_number: message_type,
         bytes,
         limits,
-        out,
-        size,
-        fault,
-        path,
-    );
+    };
+    let answer = decimal_message(alloc, input, out, size, fault, path);
     put(pool, shared);
     answer
 }
@@ -82,28 +79,33 @@ pub extern "C" fn mb_show_decimal(
 /// Writes the listing of the message that the bytes are, with floats in decimal, by its type's number.
 fn decimal_message(
     alloc: Global,
-    pool: &Pool,
-    number: u32,
-    bytes: &[u8],
-    limits: Limits,
+    input: TypedInput<'_>,
     out: &mut [u8],
     size: &mut usize,
     fault: &mut FaultReport,
     path: &mut [Step],
 ) -> u32
-    ensures text { result ≡ DONE → (v : Message) × Text pool.now number limits bytes.now v
-        × IsListedDecimal (message_of pool.now number v) out.old out.new size.new }
-    ensures fault { result ≡ FAULT → (f : Fault) × IsFaultOf pool.now number limits bytes.now f × Tells f fault.new path.old path.new }
+    ensures text { result ≡ DONE → (v : Message) × Encodes input.entry v
+        × IsListedDecimal (typed_message input.entry v) out.old out.new size.new }
+    ensures fault { result ≡ FAULT → (f : Fault) × HasFault input.entry f × Tells f fault.new path.old path.new }
     ensures unwritten { result ≢ DONE → (out.new ≡ out.old) × (size.new ≡ size.old) }
     ensures untold { result ≢ FAULT → (fault.new ≡ fault.old) × (path.new ≡ path.old) }
-    ensures no_type { result ≡ NO_TYPE ↔ length pool.now.messages ≤ number }
+    ensures no_type { result ≡ NO_TYPE ↔ IsUntyped input.entry }
     ensures answers { (result ≡ DONE) ⊎ (result ≡ NO_TYPE) ⊎ (result ≡ FAULT) ⊎ (result ≡ MEMORY) }
-    ensures accepted { number < length pool.now.messages → (v : Message) → Text pool.now number limits bytes.now v
-        → ((result ≡ DONE) × IsListedDecimal (message_of pool.now number v) out.old out.new size.new) ⊎ (result ≡ MEMORY) }
-    ensures refused { number < length pool.now.messages → (f : Fault) → IsFaultOf pool.now number limits bytes.now f
+    ensures accepted { IsTyped input.entry → (v : Message) → Encodes input.entry v
+        → ((result ≡ DONE) × IsListedDecimal (typed_message input.entry v) out.old out.new size.new) ⊎ (result ≡ MEMORY) }
+    ensures refused { IsTyped input.entry → (f : Fault) → HasFault input.entry f
         → ((result ≡ FAULT) × Tells f fault.new path.old path.new) ⊎ (result ≡ MEMORY) }
 {
-    match read_message(alloc, pool, number, bytes, limits, fault, path) {
+    match read_message(
+        alloc,
+        input.pool,
+        input.type_number,
+        input.bytes,
+        input.limits,
+        fault,
+        path,
+    ) {
         Ok(message) => write_decimal(alloc, &message, out, size),
         Err(answer) => answer,
     }

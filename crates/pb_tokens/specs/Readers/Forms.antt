@@ -102,7 +102,7 @@ abbrev pub by_rule : {A : Type 0} → Rule → Bool → Option (A × Bool) → V
 by_rule r holds None = Err None
 by_rule r holds (Some x) = if x.1 then Ok x.0 else (if holds then Err (Some r) else Ok x.0)
 
--- a test that tells too whether the symbol keeps a rule
+-- a test that also answers whether the symbol keeps a rule
 abbrev pub judged : {A : Type 0} → Rule → (Symbol → Option (A × Bool)) → Rules → Symbol → Verdict A
 judged r g rules s = by_rule r (rules r) (g s)
 

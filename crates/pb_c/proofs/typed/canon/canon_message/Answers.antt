@@ -8,16 +8,16 @@ use Rattle.pb_c.proofs.typed.canon.canon_message.Goals as goal
 
 pub returns-in-Ok-clause-accepted : goal.returns-in-Ok-clause-accepted
 returns-in-Ok-clause-accepted c within v text small =
-    let same = the_message c.in-Ok.message c.args.pool.now c.args.number v c.in-Ok.ensures.of_type.0 c.in-Ok.ensures.of_type.1 (c.in-Ok.ensures.accepted within v text) in
+    let same = the_message c.in-Ok.message c.args.input.pool.now c.args.input.type_number v c.in-Ok.ensures.of_type.0 c.in-Ok.ensures.of_type.1 (c.in-Ok.ensures.accepted within v text) in
     written c.write_canonical.result (λ b. IsLaid b c.args.out.now c.write_canonical.new.out c.write_canonical.new.size)
-    (bytes_of c.in-Ok.message) (canon_bytes c.args.pool.now c.args.number v) (ap bytes_of same)
+    (bytes_of c.in-Ok.message) (canon_bytes c.args.input.pool.now c.args.input.type_number v) (ap bytes_of same)
     c.write_canonical.ensures.written c.write_canonical.ensures.too_large c.write_canonical.ensures.answers small
 
 pub returns-in-Ok-clause-oversized : goal.returns-in-Ok-clause-oversized
 returns-in-Ok-clause-oversized c within v text large =
-    let same = the_message c.in-Ok.message c.args.pool.now c.args.number v c.in-Ok.ensures.of_type.0 c.in-Ok.ensures.of_type.1 (c.in-Ok.ensures.accepted within v text) in
+    let same = the_message c.in-Ok.message c.args.input.pool.now c.args.input.type_number v c.in-Ok.ensures.of_type.0 c.in-Ok.ensures.of_type.1 (c.in-Ok.ensures.accepted within v text) in
     too_many c.write_canonical.result (λ b. IsLaid b c.args.out.now c.write_canonical.new.out c.write_canonical.new.size)
-    (bytes_of c.in-Ok.message) (canon_bytes c.args.pool.now c.args.number v) (ap bytes_of same)
+    (bytes_of c.in-Ok.message) (canon_bytes c.args.input.pool.now c.args.input.type_number v) (ap bytes_of same)
     c.write_canonical.ensures.written c.write_canonical.ensures.answers large
 
 pub returns-in-Err-clause-accepted : goal.returns-in-Err-clause-accepted

@@ -6,7 +6,7 @@ use Rattle.pb_c.proofs.typed.show.show_message.Goals as goal
 
 pub returns-in-Ok-clause-accepted : goal.returns-in-Ok-clause-accepted
 returns-in-Ok-clause-accepted c within v text =
-    let same = the_message c.in-Ok.message c.args.pool.now c.args.number v c.in-Ok.ensures.of_type.0 c.in-Ok.ensures.of_type.1 (c.in-Ok.ensures.accepted within v text) in
+    let same = the_message c.in-Ok.message c.args.input.pool.now c.args.input.type_number v c.in-Ok.ensures.of_type.0 c.in-Ok.ensures.of_type.1 (c.in-Ok.ensures.accepted within v text) in
     elim c.write_listing.ensures.answers [
       | inl is ↦ inl (is, subst (λ d. IsLaid (listing d) c.args.out.now c.write_listing.new.out c.write_listing.new.size) same (c.write_listing.ensures.written is))
       | inr is ↦ inr is

@@ -295,7 +295,7 @@ entry_after-returns-in_ok-push-in-Entry-clause-put t c = (
 pub entries_from-loop-next-init : goal.entries_from-loop-next-init
 entries_from-loop-next-init t c = record {
   within = omega arith;
-  put = λ m depth levels at base p0 parents scope now reached level means. none_read at (Some c.args.at.left.remaining) c.args.at.bytes.now c.args.at.tag.number c.in_ok-entries.entries.items c.in_ok-entries.ensures.items reached;
+  put = λ m depth levels at base p0 parents scope now reached level means. none_read at (Some c.args.at.left.remaining) c.args.at.bytes.now c.args.at.tag.number c.new-entries.result.items c.new-entries.ensures.items reached;
 }
 
 pub entries_from-entry_after-requires : goal.entries_from-entry_after-requires
