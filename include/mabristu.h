@@ -3,6 +3,18 @@
  * Link a pool of types once, from a descriptor set or from sources, and find the number of a type by its name. Then check, rewrite or show as many
  * messages of it as there are. Free the pool. Names and sources are bytes with a length, and no zero byte ends them. docs/C.md has it in examples.
  *
+ * Who owns what:
+ * - You own each buffer, name and struct that you pass. No call keeps a pointer to one.
+ * - The library owns what a handle holds: a pool, a message or a decoder. You keep the handle, 16 bytes that are all zeros at first.
+ * - Free each handle when you are done: mb_pool_free, mb_message_free, mb_decoder_free. A second free does nothing.
+ * - A call that puts something into a handle frees what the handle held before.
+ * - Do not copy a handle that holds something. mb_pool_share and mb_message_copy fill a second one.
+ * - A message and a decoder hold the types that they need, so their pool may be freed before them.
+ * - One call at a time uses a handle. A pool may go to another thread; a message and a decoder stay on theirs.
+ * - A buffer that is too small is filled, and the whole length is reported: call again with a buffer of that length.
+ * - Each call returns MB_DONE, or a number that says why it did not do what was asked. It then reports what its comment says, and writes nothing else.
+ * - Memory comes from malloc. After MB_MEMORY nothing has changed, except that a decoder has lost its message.
+ *
  * What a caller owes, and nothing checks:
  * - A pointer and the length after it describe one stretch of memory. It may be read, and written where it is not const, during the whole call.
  *   Where the length is 0 the pointer may be null. No other pointer may be null.
@@ -17,7 +29,7 @@
  *   fork of a process with threads). They align a block to each power of two up to 16 that divides its size.
  *
  * A call prints nothing, has no state but what its handles hold, and always returns: it never aborts. It needs up to 500 KB of stack, for what nests
- * 100 deep (docs/C.md). What a call does not answer by its number it does not write: out-parameters are as they were.
+ * 100 deep (docs/C.md). An output that a call does not report keeps the value that it had before the call.
  */
 #ifndef MABRISTU_H
 #define MABRISTU_H
@@ -43,8 +55,8 @@ enum {
     MB_BAD_NAME = 4,    /* the name of a source is not UTF-8, or there are not as many names as sources */
     MB_PART = 5,        /* the bytes end before their frame does: come again with more */
     MB_ABSENT = 6,      /* the type has no such field; the message has nothing at the place, or nothing that is asked for there */
-    MB_BAD_PLACE = 7,   /* the steps say no place */
-    MB_BAD_VALUE = 8,   /* the value is none: of no kind, too large for its kind, or its string is not given or not UTF-8 */
+    MB_BAD_PLACE = 7,   /* a step has no kind of this header, a number too large for its kind, or a string that is not given or not UTF-8 */
+    MB_BAD_VALUE = 8,   /* the value has no kind of this header, a number too large for its kind, or a string that is not given or not UTF-8 */
     MB_FAULT = 13,      /* the bytes have a fault, which is reported */
     MB_MEMORY = 14,     /* memory ran out: the same call may be made again, but not mb_decoder_feed and mb_decoder_finish */
     MB_TOO_LARGE = 31,  /* what would be written has more than MB_MAX_BYTES bytes */
@@ -351,7 +363,8 @@ uint32_t mb_message_decode(struct mb_pool *pool, uint32_t type, const uint8_t *b
 uint32_t mb_message_copy(struct mb_message *message, struct mb_message *other);
 
 /* Reports whether two messages are equal: 1 where they are of the same type, by pools that hold the same, and have the same fields and the same unknown
- * records in the same order; else 0. Floats are compared by their bits. The two handles are different ones. MB_TOO_LARGE as mb_message_copy has it. */
+ * records in the same order; else 0. Floats are compared by their bits. The two handles are different ones: a message is equal to itself, so compare the pointers first where they may be
+ * the same. MB_TOO_LARGE as mb_message_copy has it. */
 uint32_t mb_message_equal(struct mb_message *message, struct mb_message *other, uint32_t *equal);
 
 /* Decodes the bytes onto the message: then it is what its canonical bytes followed by these bytes decode to. A scalar is replaced, a message in a

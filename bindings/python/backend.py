@@ -49,7 +49,7 @@ def compiled(folder, flags=()):
 
 def metadata():
     lines = ["Metadata-Version: 2.1", f"Name: {project('name')}", f"Version: {project('version')}", f"Summary: {project('description')}",
-             f"Requires-Python: {project('requires-python')}"]
+             f"License: {project('license')}", f"Requires-Python: {project('requires-python')}"]
     return "\n".join(lines).encode() + b"\n"
 
 
@@ -62,6 +62,9 @@ def files_of(extension):
     found.append(("mabristu/_library.txt", f"{hashlib.sha256(read(library())).hexdigest()}\n".encode()))
     info = f"mabristu-{project('version')}.dist-info"
     found.append((f"{info}/METADATA", metadata()))
+    # pip may build from a copy of this folder alone.
+    if os.path.isfile(f"{TOP}/LICENSE"):
+        found.append((f"{info}/LICENSE", read(f"{TOP}/LICENSE")))
     found.append((f"{info}/WHEEL", f"Wheel-Version: 1.0\nGenerator: mabristu\nRoot-Is-Purelib: false\nTag: {TAG}\n".encode()))
     return info, found
 

@@ -50,7 +50,7 @@ fn number(answer: Result<(), Error>) -> u32 {
         Err(Error::NoField) => 6,
         Err(Error::BadValue) => 8,
         Err(Error::Memory) => 14,
-        Err(Error::Change { cause }) => cause.number(),
+        Err(Error::Change { cause, .. }) => cause.number(),
         Err(Error::Answer(answer)) => answer,
         Err(_) => 1,
     }

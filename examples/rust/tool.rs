@@ -13,7 +13,7 @@ mod files;
 mod values;
 
 use files::{failure, hexadecimal, print, read, refused, Failure};
-use mabristu::{raw_check, raw_short, Error, Field, JsonForm, Limits, Message, MessageType, Pool, StreamError};
+use mabristu::{raw_check, raw_short, Error, Field, JsonForm, JsonInput, Limits, Message, MessageType, Pool, StreamError};
 use std::process::ExitCode;
 
 /// The messages of a stream, each after its length.
@@ -41,7 +41,7 @@ fn encode(message: Result<Message, Error>) -> Result<(), Failure> {
 
 fn message_type(pool: &Pool, name: &str) -> Result<MessageType, Failure> {
     pool.message_type(name).map_err(|error| match error {
-        Error::NoType => (format!("type {name} unknown"), 1),
+        Error::UnknownType { .. } => (error.to_string(), 1),
         _ => refused(error),
     })
 }
@@ -49,7 +49,7 @@ fn message_type(pool: &Pool, name: &str) -> Result<MessageType, Failure> {
 /// What a field is, by the numbers of struct mb_field.
 fn field(found: &MessageType, name: &str) -> Result<(), Failure> {
     let Field { number, kind, shape, key, type_of } = found.field(name).map_err(|error| match error {
-        Error::NoField => (format!("field {name} unknown"), 1),
+        Error::UnknownField { .. } => (format!("field {name} unknown"), 1),
         _ => refused(error),
     })?;
     print(format!("{number} {kind} {} {} {type_of}\n", shape as u32, key.unwrap_or(0)).as_bytes())
@@ -85,9 +85,9 @@ fn whole(message: &Message, more: &[u8]) -> Result<(), Failure> {
 fn json_bytes(found: &MessageType, command: &str, json: &[u8], lenient: bool) -> Result<Vec<u8>, Error> {
     match (command, lenient) {
         ("from-json", false) => found.from_json(json)?.encode(),
-        ("from-json", true) => found.from_json_lenient(json)?.encode(),
+        ("from-json", true) => found.from_json_with(json, JsonInput { ignore_unknown: true })?.encode(),
         (_, false) => found.canonical_from_json(json),
-        (_, true) => found.canonical_from_json_lenient(json),
+        (_, true) => found.canonical_from_json_with(json, JsonInput { ignore_unknown: true }),
     }
 }
 
@@ -125,7 +125,7 @@ fn run(words: &[&str]) -> Result<(), Failure> {
         let new = message_type(&Pool::link(&read(new_set)?).map_err(of_set)?, new_name)?;
         let found = old.compat(&new).map_err(refused)?;
         return found.iter().try_for_each(|it| {
-            print(format!("{it} {}\n", it.new_type).as_bytes())?;
+            print(format!("{} {} {} {}\n", it.old_type, it.number, it.severity.name(), it.new_type).as_bytes())?;
             let Some(shown) = old.witness(&new, it).map_err(refused)? else {
                 return Ok(());
             };

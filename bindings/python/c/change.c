@@ -3,173 +3,275 @@
 
 PyObject *change_functions;
 
-const char append_doc[] = "append(value)\n--\n\nPuts a value at the end. A message is given as a dict.";
-const char extend_doc[] = "extend(values)\n--\n\nPuts each value at the end.";
-const char clear_doc[] = "clear()\n--\n\nLeaves no values.";
+const char append_doc[] = "append($self, value, /)\n--\n\nPuts a value at the end. A message is given as a dict or as a message.";
+const char extend_doc[] = "extend($self, values, /)\n--\n\nPuts each value at the end.";
+const char clear_doc[] = "clear($self, /)\n--\n\nLeaves no values.";
 const char make_doc[] = "_make([name or key])\n--\n\nPuts an empty message here, and returns it as a part.";
-const char make_at_doc[] = "_make_at(index)\n--\n\nPuts an empty message in place of the one here, and returns it as a part.";
-const char drop_unknown_doc[] = "drop_unknown()\n--\n\nDrops the unknown records of this message, but not of messages in it.";
-const char to_dict_doc[] = "to_dict()\n--\n\nThe fields that are set, by their names: messages and maps as dicts, lists as lists. Unknown records are"
-                           "\nnot in it.";
+const char make_at_doc[] = "_make_at($self, index, /)\n--\n\nPuts an empty message in place of the one here, and returns it as a part.";
+const char move_doc[] = "_move($self, index, count, /)\n--\n\nMoves this many elements from the end of the list to an index.";
+const char drop_unknown_doc[] = "drop_unknown($self, /)\n--\n\nDrops the unknown records of this message, but not of messages in it.";
 
 /* A call that changes a message, and those of them that take a value. */
 typedef uint32_t changer(struct mb_message *, const struct mb_value *, size_t, const struct mb_bytes *, size_t);
 typedef uint32_t putter(struct mb_message *, const struct mb_value *, size_t, const struct mb_bytes *, size_t, const struct mb_value *);
 
-/* ---- Values ---- */
+/* ---- The way to a part that is not there ---- */
 
-/* A value as the library takes it; held keeps the bytes of a string or of bytes. */
-struct given {
-    struct mb_value value;
-    PyObject *held;
+/* The field that a step of a place is a step into. The reference is borrowed, from a type that its pool keeps. */
+static Field *field_at_step(Node *node, size_t step)
+{
+    MessageType *type = root_of(node)->type;
+
+    for (size_t i = 0;; i++) {
+        Field *field = node->place[i].kind == MB_FIELD ? field_by_number(type, (uint32_t)node->place[i].number) : NULL;
+        if (node->place[i].kind == MB_FIELD && (field == NULL || i == step))
+            return field;
+        if (field != NULL && is_message_kind(field->is.kind)) {
+            type = type_by_number(field->pool, (uint32_t)field->is.type_of, NULL);
+            if (type == NULL)
+                return NULL;
+            Py_DECREF(type);
+        }
+    }
+}
+
+/* The messages that were made on a way: how many steps lead to the first, 0 for none; and the whole message before, if a member of a oneof was cleared. */
+struct way {
+    size_t first;
+    struct mb_message before;
 };
 
-static bool is_message_kind(uint32_t kind)
+/* The member that is set of the oneof that a field is in, at a place; 0 where there is none. Returns whether it could be read. */
+static bool member_set(Node *node, const struct mb_value *place, size_t place_len, Field *field, uint32_t *member)
 {
-    return kind == 10 || kind == MB_MESSAGE;
-}
-
-static bool out_of_range(void)
-{
-    PyErr_SetString(PyExc_ValueError, "the value is out of range");
-    return false;
-}
-
-static bool wrong_type(const char *wanted, PyObject *object)
-{
-    PyObject *type = PyObject_GetAttrString((PyObject *)Py_TYPE(object), "__name__");
-
-    if (type != NULL)
-        PyErr_Format(PyExc_TypeError, "the value is %s, and not %U", wanted, type);
-    Py_XDECREF(type);
-    return false;
-}
-
-static bool give_signed(PyObject *object, struct given *given)
-{
-    int overflow = 0;
-    long long number = PyLong_AsLongLongAndOverflow(object, &overflow);
-
-    given->value.number = (uint64_t)number;
-    return overflow == 0 ? !PyErr_Occurred() : out_of_range();
-}
-
-static bool give_unsigned(PyObject *object, struct given *given)
-{
-    given->value.number = PyLong_AsUnsignedLongLong(object);
-    if (!PyErr_Occurred())
+    *member = 0;
+    if (field->is.shape != SHAPE_ONEOF)
         return true;
-    PyErr_Clear();
-    return out_of_range();
+    if (!field->has_detail && !read_detail(field))
+        return false;
+    uint32_t answer = mb_message_oneof(&root_of(node)->handle, place, place_len, node->keys, node->keys_len, field->detail, member);
+    if (answer != MB_DONE && answer != MB_ABSENT)
+        nothing_there(answer);
+    return answer == MB_DONE || answer == MB_ABSENT;
 }
 
-static bool give_real(uint32_t kind, PyObject *object, struct given *given)
+/* The place of a member of a oneof is that of another one but for its last step: the parts of it are gone. */
+static void lose_member(Node *node, const struct mb_value *place, size_t place_len, uint32_t member)
 {
-    double number = PyFloat_AsDouble(object);
-    float half = (float)number;
-    uint32_t bits;
+    struct reached reached;
 
-    if (PyErr_Occurred())
+    if (member == 0 || !has_parts(node))
+        return;
+    if (!reach(node, NULL, NULL, &reached)) {
+        PyErr_Clear();
+        lose_all(root_of(node));
+        return;
+    }
+    if (place_len <= reached.place_len) {
+        for (size_t i = 0; i < place_len; i++)
+            reached.place[i] = place[i];
+        reached.place_len = place_len;
+        reached.place[place_len - 1].number = member;
+        lose(root_of(node), &reached);
+    }
+    leave(&reached);
+}
+
+/* Makes the message that the first steps of a node's place lead to. */
+static bool make_message(Node *node, size_t steps, struct way *way)
+{
+    struct mb_value empty = {MB_MESSAGE, 0};
+    struct mb_message *handle = &root_of(node)->handle;
+    Field *field = field_at_step(node, steps - 1);
+    uint32_t member = 0;
+
+    if (field == NULL || !member_set(node, node->place, steps - 1, field, &member))
         return false;
-    if (kind == MB_DOUBLE) {
-        memcpy(&given->value.number, &number, sizeof number);
-    } else {
-        memcpy(&bits, &half, sizeof bits);
-        given->value.number = bits;
+    uint32_t answer = member != 0 && !way->before.full ? mb_message_copy(handle, &way->before) : MB_DONE;
+    if (answer == MB_DONE)
+        answer = mb_message_set(handle, node->place, steps, node->keys, node->keys_len, &empty);
+    if (answer != MB_DONE) {
+        nothing_there(answer);
+        return false;
+    }
+    if (way->first == 0)
+        way->first = steps;
+    lose_member(node, node->place, steps, member);
+    return true;
+}
+
+/* Makes the messages on the way to a node, and the one that it is, that are not there. Returns whether it could. */
+static bool make_way(Node *node, struct way *way)
+{
+    size_t steps = node->place_len - (node->type == NULL);
+    struct mb_value found;
+
+    for (size_t i = 1; i <= steps; i++) {
+        bool is_one = node->place[i - 1].kind == MB_FIELD && (i == steps || node->place[i].kind == MB_FIELD);
+        if (is_one && mb_message_get(&root_of(node)->handle, node->place, i, node->keys, node->keys_len, &found) == MB_ABSENT && !make_message(node, i, way))
+            return false;
     }
     return true;
 }
 
-/* What an object is as a value of a kind of field, 1 to 18, that is no message. Returns whether it is one; else an exception is set. */
-static bool give(uint32_t kind, PyObject *object, struct given *given)
+/* Takes back what was made on a way, where the change at its end is refused. */
+static void unmake_way(Node *node, struct way *way)
 {
-    bool is_integer = PyLong_Check(object) && !PyBool_Check(object);
+    struct mb_message *handle = &root_of(node)->handle;
 
-    *given = (struct given){{kind, 0}, NULL};
-    switch (kind) {
-    case MB_DOUBLE: case MB_FLOAT:
-        return is_integer || PyFloat_Check(object) ? give_real(kind, object, given) : wrong_type("a number", object);
-    case MB_BOOL:
-        given->value.number = object == Py_True;
-        return PyBool_Check(object) ? true : wrong_type("True or False", object);
-    case MB_STRING:
-        if (!PyUnicode_Check(object))
-            return wrong_type("a str", object);
-        given->held = PyUnicode_AsUTF8String(object);
-        return given->held != NULL;
-    case MB_BYTES:
-        if (!PyBytes_Check(object) && !PyByteArray_Check(object) && !PyMemoryView_Check(object))
-            return wrong_type("bytes", object);
-        given->held = PyBytes_FromObject(object);
-        return given->held != NULL;
-    case MB_UINT32: case MB_UINT64: case 6: case 7:
-        return is_integer ? give_unsigned(object, given) : wrong_type("an int", object);
-    default:
-        return is_integer ? give_signed(object, given) : wrong_type("an int", object);
+    if (way->before.full) {
+        struct mb_message now = *handle;
+        *handle = way->before;
+        way->before = now;
+    } else if (way->first > 0) {
+        mb_message_clear(handle, node->place, way->first, node->keys, node->keys_len);
     }
 }
 
 /* ---- Calls ---- */
 
+/* A change one step further in than a node, or of the node itself without a step: the call, the field that is changed, and the value where the call takes
+ * one. */
+struct act {
+    Node *node;
+    Field *field;
+    const struct mb_value *step;
+    PyObject *key;
+    changer *change;
+    putter *put;
+    struct given *given;
+};
+
+/* What a change takes away: the member of a oneof that is set before, and whether something is at the place. */
+struct lost {
+    uint32_t member;
+    bool was_there;
+};
+
+static uint32_t make_call(const struct act *act, const struct reached *place)
+{
+    struct mb_message *handle = &root_of(act->node)->handle;
+
+    return act->put != NULL ? act->put(handle, PLACE(place), &act->given->value) : act->change(handle, PLACE(place));
+}
+
 /* Sets the exception where an answer is not MB_DONE. Returns whether it is. */
-static bool is_changed(uint32_t answer)
+static bool is_changed(const struct act *act, uint32_t answer)
 {
     if (answer == MB_DONE)
         return true;
-    if (answer == MB_BAD_VALUE)
-        return out_of_range();
+    if (answer == MB_BAD_VALUE && act->field != NULL)
+        return out_of_range(act->field, false, NULL);
     nothing_there(answer);
     return false;
 }
 
-/* Changes what is one step further in than a node, or the node itself without a step. */
-static bool change(Node *node, const struct mb_value *step, PyObject *key, changer *call)
+/* What a change will take away, where the message has parts that it may concern. */
+static bool before_change(const struct act *act, const struct reached *place, struct lost *lost)
 {
-    struct mb_message *handle = handle_of(node);
-    struct reached place;
-
-    if (handle == NULL || !reach(node, step, key, &place))
-        return false;
-    uint32_t answer = call(handle, PLACE(&place));
-    leave(&place);
-    return is_changed(answer);
-}
-
-/* The same, with a value. A string of it comes after the keys. */
-static bool put_given(Node *node, const struct mb_value *step, PyObject *key, putter *call, struct given *given)
-{
-    struct mb_message *handle = handle_of(node);
-    struct reached place;
-
-    if (handle == NULL || !reach(node, step, key, &place))
-        return false;
-    if (given->held != NULL) {
-        given->value.number = place.keys_len;
-        place.keys[place.keys_len++] = (struct mb_bytes){(const uint8_t *)PyBytes_AsString(given->held), (size_t)PyBytes_Size(given->held)};
+    *lost = (struct lost){0, false};
+    if (!has_parts(act->node))
+        return true;
+    bool is_message = act->put == mb_message_set && act->given->value.kind == MB_MESSAGE;
+    if (act->change == mb_message_clear || is_message) {
+        int answer = is_there(act->node, place);
+        if (answer < 0)
+            return false;
+        lost->was_there = answer;
     }
-    uint32_t answer = call(handle, PLACE(&place), &given->value);
-    leave(&place);
-    return is_changed(answer);
+    if (act->put == mb_message_set && act->field != NULL && place->place[place->place_len - 1].kind == MB_FIELD)
+        return member_set(act->node, place->place, place->place_len - 1, act->field, &lost->member);
+    return true;
 }
 
-static bool put(Node *node, const struct mb_value *step, PyObject *key, putter *call, uint32_t kind, PyObject *object)
+static void after_change(const struct act *act, const struct reached *place, const struct lost *lost)
 {
-    struct given given;
-    bool done = give(kind, object, &given) && put_given(node, step, key, call, &given);
+    Node *root = root_of(act->node);
+
+    has_changed(root);
+    if (!has_parts(act->node))
+        return;
+    if (act->change == mb_message_remove && place->place[place->place_len - 1].kind == MB_INDEX)
+        lose_element(root, place);
+    else if (lost->was_there || act->change == mb_message_remove || act->put == mb_message_insert)
+        lose(root, place);
+    if (lost->member != 0 && act->field->is.number != lost->member) {
+        uint64_t number = place->place[place->place_len - 1].number;
+        place->place[place->place_len - 1].number = lost->member;
+        lose(root, place);
+        place->place[place->place_len - 1].number = number;
+    }
+}
+
+/* Makes a call where the node is a part that is not there: what clears or removes has nothing to do, and what puts makes the way. */
+static uint32_t call_where_absent(const struct act *act, const struct reached *place)
+{
+    struct way way = {0, {NULL, false}};
+    uint32_t answer = MB_DONE;
+
+    if (act->change != NULL)
+        return MB_DONE;
+    if (make_way(act->node, &way))
+        answer = make_call(act, place);
+    if (PyErr_Occurred() || answer != MB_DONE)
+        unmake_way(act->node, &way);
+    mb_message_free(&way.before);
+    return answer;
+}
+
+/* Makes a change. Returns whether it was made; else an exception is set. A string of the value comes after the keys. */
+static bool make_change(const struct act *act)
+{
+    struct reached place;
+    struct lost lost;
+
+    if (handle_of(act->node) == NULL || !reach(act->node, act->step, act->key, &place))
+        return false;
+    if (act->given != NULL && act->given->held != NULL) {
+        act->given->value.number = place.keys_len;
+        place.keys[place.keys_len++] =
+            (struct mb_bytes){(const uint8_t *)PyBytes_AsString(act->given->held), (size_t)PyBytes_Size(act->given->held)};
+    }
+    bool is_done = before_change(act, &place, &lost);
+    if (is_done) {
+        uint32_t answer = make_call(act, &place);
+        if (answer == MB_ABSENT && act->node->root != NULL)
+            answer = call_where_absent(act, &place);
+        is_done = !PyErr_Occurred() && is_changed(act, answer);
+    }
+    if (is_done)
+        after_change(act, &place, &lost);
+    leave(&place);
+    return is_done;
+}
+
+static bool change(Node *node, Field *field, const struct mb_value *step, PyObject *key, changer *call)
+{
+    struct act act = {node, field, step, key, call, NULL, NULL};
+
+    return make_change(&act);
+}
+
+static bool put(Node *node, Field *field, const struct mb_value *step, PyObject *key, putter *call, PyObject *object)
+{
+    struct given given = {{0, 0}, NULL};
+    struct act act = {node, field, step, key, NULL, call, &given};
+    bool is_done = give(field, object, &given) && make_change(&act);
 
     Py_XDECREF(given.held);
-    return done;
+    return is_done;
 }
 
-static bool put_message(Node *node, const struct mb_value *step, PyObject *key, putter *call)
+static bool put_message(Node *node, Field *field, const struct mb_value *step, PyObject *key, putter *call)
 {
     struct given given = {{MB_MESSAGE, 0}, NULL};
+    struct act act = {node, field, step, key, NULL, call, &given};
 
-    return put_given(node, step, key, call, &given);
+    return make_change(&act);
 }
 
 /* Calls a function of _change.py with these objects. */
-static PyObject *call_change(const char *name, PyObject *one, PyObject *two, PyObject *three)
+PyObject *call_change(const char *name, PyObject *one, PyObject *two, PyObject *three)
 {
     PyObject *function = PyObject_GetAttrString(change_functions, name);
     PyObject *answer = function == NULL ? NULL : PyObject_CallFunctionObjArgs(function, one, two, three, NULL);
@@ -193,52 +295,35 @@ static PyObject *none_if(bool is_done)
 
 /* ---- Messages ---- */
 
-/* The field that an argument names, whole. The reference is borrowed. */
-static Field *named_field(Node *node, PyObject *name)
-{
-    struct mb_field is;
-
-    if (Py_TYPE(name) == (PyTypeObject *)field_type)
-        return (Field *)name;
-    if (PyLong_Check(name))
-        return field_of(node, name, &is) ? field_by_number(node->type, is.number) : NULL;
-    return field_by_name(node->type, name);
-}
-
 int message_assign(PyObject *self, PyObject *name, PyObject *value)
 {
     Node *node = (Node *)self;
-    Field *field = named_field(node, name);
+    Field *field = field_of(node, name);
 
     if (field == NULL)
         return -1;
     struct mb_value step = {MB_FIELD, field->is.number};
     if (value == NULL)
-        return change(node, &step, NULL, mb_message_clear) ? 0 : -1;
-    if (field->is.shape >= 3 || is_message_kind(field->is.kind))
+        return change(node, field, &step, NULL, mb_message_clear) ? 0 : -1;
+    if (field->is.shape >= SHAPE_LIST || is_message_kind(field->is.kind))
         return answered(call_change("set_field", self, (PyObject *)field, value));
-    return put(node, &step, NULL, mb_message_set, field->is.kind, value) ? 0 : -1;
+    return put(node, field, &step, NULL, mb_message_set, value) ? 0 : -1;
 }
 
 PyObject *message_make(PyObject *self, PyObject *name)
 {
     Node *node = (Node *)self;
-    Field *field = named_field(node, name);
+    Field *field = field_of(node, name);
 
     if (field == NULL)
         return NULL;
     struct mb_value step = {MB_FIELD, field->is.number};
-    return put_message(node, &step, NULL, mb_message_set) ? PyObject_GetItem(self, name) : NULL;
+    return put_message(node, field, &step, NULL, mb_message_set) ? PyObject_GetItem(self, name) : NULL;
 }
 
 PyObject *message_drop_unknown(PyObject *self, PyObject *Py_UNUSED(ignored))
 {
-    return none_if(change((Node *)self, NULL, NULL, mb_message_drop_unknown));
-}
-
-PyObject *message_to_dict(PyObject *self, PyObject *Py_UNUSED(ignored))
-{
-    return call_change("to_dict", self, NULL, NULL);
+    return none_if(change((Node *)self, NULL, NULL, NULL, mb_message_drop_unknown));
 }
 
 /* The fields that are set, by rising number. */
@@ -264,7 +349,7 @@ PyObject *message_iter(PyObject *self)
 
 /* ---- Raw calls ---- */
 
-const char change_doc[] = "_change(call, place, strings, value)\n--\n\nMakes a call of the library, by steps and a value as it takes them, and"
+const char change_doc[] = "_change($self, call, place, strings, value, /)\n--\n\nMakes a call of the library, by steps and a value as it takes them, and"
                           "\nreturns the answer.";
 
 /* The kind and the number of a pair. */
@@ -297,48 +382,75 @@ static uint32_t raw_answer(struct mb_message *handle, const char *call, const st
     return MB_BAD_VALUE;
 }
 
-PyObject *message_change(PyObject *self, PyObject *args)
-{
-    struct mb_message *handle = handle_of((Node *)self);
-    struct mb_value place[256], value = {0, 0};
+/* What a raw call is given. The steps and the strings are owned, since reading a number may run Python code, which may change the lists. */
+struct raw {
+    PyObject *steps, *given;
+    struct mb_value place[256], value;
     struct mb_bytes strings[64];
-    const char *call;
-    PyObject *steps, *given, *of;
-    Py_ssize_t count = 0, strings_count = 0;
+    size_t count, strings_count;
+};
 
-    if (handle == NULL || !PyArg_ParseTuple(args, "sO!O!O", &call, &PyList_Type, &steps, &PyList_Type, &given, &of))
-        return NULL;
-    for (; count < PyList_Size(steps) && count < 256; count++)
-        if (!take_pair(PyList_GetItem(steps, count), &place[count]))
-            return NULL;
-    for (; strings_count < PyList_Size(given) && strings_count < 64; strings_count++) {
-        PyObject *it = PyList_GetItem(given, strings_count);
+static bool take_steps(struct raw *raw)
+{
+    raw->count = (size_t)PyTuple_Size(raw->steps);
+    if (raw->count > sizeof raw->place / sizeof *raw->place) {
+        PyErr_SetString(PyExc_ValueError, "a place has at most 256 steps");
+        return false;
+    }
+    for (size_t i = 0; i < raw->count; i++)
+        if (!take_pair(PyTuple_GetItem(raw->steps, (Py_ssize_t)i), &raw->place[i]))
+            return false;
+    return true;
+}
+
+static bool take_strings(struct raw *raw)
+{
+    raw->strings_count = (size_t)PyTuple_Size(raw->given);
+    if (raw->strings_count > sizeof raw->strings / sizeof *raw->strings) {
+        PyErr_SetString(PyExc_ValueError, "a place has at most 64 strings");
+        return false;
+    }
+    for (size_t i = 0; i < raw->strings_count; i++) {
+        PyObject *it = PyTuple_GetItem(raw->given, (Py_ssize_t)i);
         if (!PyBytes_Check(it)) {
             PyErr_SetString(PyExc_TypeError, "a string is bytes");
-            return NULL;
+            return false;
         }
-        strings[strings_count] = (struct mb_bytes){(const uint8_t *)PyBytes_AsString(it), (size_t)PyBytes_Size(it)};
+        raw->strings[i] = (struct mb_bytes){(const uint8_t *)PyBytes_AsString(it), (size_t)PyBytes_Size(it)};
     }
-    if (of != Py_None && !take_pair(of, &value))
+    return true;
+}
+
+PyObject *message_change(PyObject *self, PyObject *args)
+{
+    struct raw raw = {0};
+    const char *call;
+    PyObject *steps, *given, *of, *answer = NULL;
+
+    if (!PyArg_ParseTuple(args, "sO!O!O", &call, &PyList_Type, &steps, &PyList_Type, &given, &of))
         return NULL;
-    return PyLong_FromUnsignedLong(raw_answer(handle, call, place, (size_t)count, strings, (size_t)strings_count, &value));
+    raw.steps = PyList_AsTuple(steps);
+    raw.given = raw.steps == NULL ? NULL : PyList_AsTuple(given);
+    if (raw.given != NULL && take_steps(&raw) && (of == Py_None || take_pair(of, &raw.value)) && take_strings(&raw)) {
+        struct mb_message *handle = handle_of((Node *)self);
+        if (handle != NULL) {
+            uint32_t answered = raw_answer(handle, call, raw.place, raw.count, raw.strings, raw.strings_count, &raw.value);
+            has_changed(root_of((Node *)self));
+            lose_all(root_of((Node *)self));
+            answer = PyLong_FromUnsignedLong(answered);
+        }
+    }
+    Py_XDECREF(raw.steps);
+    Py_XDECREF(raw.given);
+    return answer;
 }
 
 /* ---- Lists and maps ---- */
 
-/* What a list or a map was reached by says of its values; of one that _read gave, nothing is known. */
-static bool has_kind(Node *part)
-{
-    if (part->kind != 0)
-        return true;
-    PyErr_SetString(PyExc_TypeError, "reach the list or the map by the name of its field to change it");
-    return false;
-}
-
-/* The type of its values. */
+/* The type of the messages that a list or a map has. */
 static PyObject *type_of_values(Node *part)
 {
-    return (PyObject *)type_by_number(part->root->type->pool, part->of, NULL);
+    return (PyObject *)type_by_number(part->field->pool, (uint32_t)part->field->is.type_of, NULL);
 }
 
 PyObject *list_append(PyObject *self, PyObject *value)
@@ -346,10 +458,8 @@ PyObject *list_append(PyObject *self, PyObject *value)
     Node *part = (Node *)self;
     PyObject *type, *answer;
 
-    if (!has_kind(part))
-        return NULL;
-    if (!is_message_kind(part->kind))
-        return none_if(put(part, NULL, NULL, mb_message_push, part->kind, value));
+    if (!is_message_kind(part->field->is.kind))
+        return none_if(put(part, part->field, NULL, NULL, mb_message_push, value));
     if ((type = type_of_values(part)) == NULL)
         return NULL;
     answer = call_change("append", self, type, value);
@@ -364,29 +474,25 @@ PyObject *list_extend(PyObject *self, PyObject *values)
 
 PyObject *part_clear(PyObject *self, PyObject *Py_UNUSED(ignored))
 {
-    return none_if(change((Node *)self, NULL, NULL, mb_message_clear));
+    return none_if(change((Node *)self, ((Node *)self)->field, NULL, NULL, mb_message_clear));
 }
 
 PyObject *list_make(PyObject *self, PyObject *Py_UNUSED(ignored))
 {
     Py_ssize_t length = part_length(self);
 
-    return length >= 0 && put_message((Node *)self, NULL, NULL, mb_message_push) ? PySequence_GetItem(self, length) : NULL;
+    return length >= 0 && put_message((Node *)self, ((Node *)self)->field, NULL, NULL, mb_message_push) ? PySequence_GetItem(self, length) : NULL;
 }
 
 /* The step to an element of a list, by an index that may count from the end. Returns whether it is there; else an exception is set. */
 static bool index_step(Node *part, PyObject *index, struct mb_value *step)
 {
-    Py_ssize_t length = part_length((PyObject *)part), at;
-
-    if (length < 0)
-        return false;
     if (!PyIndex_Check(index)) {
         PyErr_SetString(PyExc_TypeError, "the index of a list is an integer or a slice");
         return false;
     }
-    at = PyNumber_AsSsize_t(index, PyExc_IndexError);
-    if (at == -1 && PyErr_Occurred())
+    Py_ssize_t at = PyNumber_AsSsize_t(index, PyExc_IndexError), length;
+    if ((at == -1 && PyErr_Occurred()) || (length = part_length((PyObject *)part)) < 0)
         return false;
     at += at < 0 ? length : 0;
     if (at < 0 || at >= length)
@@ -398,8 +504,11 @@ static bool index_step(Node *part, PyObject *index, struct mb_value *step)
 PyObject *list_make_at(PyObject *self, PyObject *index)
 {
     struct mb_value step;
+    Node *part = (Node *)self;
 
-    return index_step((Node *)self, index, &step) && put_message((Node *)self, &step, NULL, mb_message_set) ? PyObject_GetItem(self, index) : NULL;
+    if (!index_step(part, index, &step) || !put_message(part, part->field, &step, NULL, mb_message_set))
+        return NULL;
+    return inner(part, step, NULL, part->field);
 }
 
 int list_assign(PyObject *self, PyObject *index, PyObject *value)
@@ -407,84 +516,62 @@ int list_assign(PyObject *self, PyObject *index, PyObject *value)
     Node *part = (Node *)self;
     struct mb_value step;
 
-    if (!has_kind(part))
-        return -1;
-    if (PySlice_Check(index) && value == NULL)
-        return answered(call_change("delete_slice", self, index, NULL));
-    if (PySlice_Check(index)) {
-        PyErr_SetString(PyExc_TypeError, "a slice of a list is not set");
-        return -1;
-    }
+    if (PySlice_Check(index))
+        return answered(value == NULL ? call_change("delete_slice", self, index, NULL) : call_change("set_slice", self, index, value));
     if (!index_step(part, index, &step))
         return -1;
     if (value == NULL)
-        return change(part, &step, NULL, mb_message_remove) ? 0 : -1;
-    if (!is_message_kind(part->kind))
-        return put(part, &step, NULL, mb_message_set, part->kind, value) ? 0 : -1;
+        return change(part, part->field, &step, NULL, mb_message_remove) ? 0 : -1;
+    if (!is_message_kind(part->field->is.kind))
+        return put(part, part->field, &step, NULL, mb_message_set, value) ? 0 : -1;
     return answered(call_change("set_message", self, index, value));
 }
 
-/* The step of a key; a key of another type is TypeError. */
-static bool key_step(Node *part, PyObject *key, struct mb_value *step, PyObject **bytes)
+/* Changes the entry of a key: removes it, puts an empty message there, or a value. */
+static bool change_entry(Node *part, PyObject *key, PyObject *value, bool is_message)
 {
-    if (!has_kind(part))
-        return false;
-    if (step_of_key(part, key, step, bytes))
-        return true;
-    if (!PyErr_Occurred())
-        PyErr_SetString(PyExc_TypeError, "the map has keys of another type");
-    return false;
-}
-
-static bool change_entry(PyObject *self, PyObject *key, PyObject *value)
-{
-    Node *part = (Node *)self;
     struct mb_value step = {0, 0};
     PyObject *bytes = NULL;
-    bool done;
+    bool is_done;
 
-    if (!key_step(part, key, &step, &bytes))
+    if (step_of_key(part, key, &step, &bytes) <= 0)
         return false;
-    if (value == NULL)
-        done = change(part, &step, bytes, mb_message_remove);
-    else if (value == Py_None)
-        done = put_message(part, &step, bytes, mb_message_insert);
+    if (is_message)
+        is_done = put_message(part, part->field, &step, bytes, mb_message_insert);
+    else if (value == NULL)
+        is_done = change(part, part->field, &step, bytes, mb_message_remove);
     else
-        done = put(part, &step, bytes, mb_message_insert, part->kind, value);
+        is_done = put(part, part->field, &step, bytes, mb_message_insert, value);
     Py_XDECREF(bytes);
-    return done;
+    return is_done;
 }
 
 PyObject *map_make(PyObject *self, PyObject *key)
 {
-    return change_entry(self, key, Py_None) ? PyObject_GetItem(self, key) : NULL;
+    return change_entry((Node *)self, key, NULL, true) ? PyObject_GetItem(self, key) : NULL;
+}
+
+static int put_entry(PyObject *self, PyObject *key, PyObject *value)
+{
+    PyObject *type = type_of_values((Node *)self), *pair = type == NULL ? NULL : PyTuple_Pack(2, key, value);
+    int answer = pair == NULL ? -1 : answered(call_change("put_entry", self, type, pair));
+
+    Py_XDECREF(pair);
+    Py_XDECREF(type);
+    return answer;
 }
 
 int map_assign(PyObject *self, PyObject *key, PyObject *value)
 {
     Node *part = (Node *)self;
-    PyObject *type;
-    int is_there, answer;
 
     if (value == NULL) {
-        is_there = PySequence_Contains(self, key);
-        if (is_there == 0)
+        int is_found = PySequence_Contains(self, key);
+        if (is_found == 0)
             PyErr_SetObject(PyExc_KeyError, key);
-        return is_there == 1 && change_entry(self, key, NULL) ? 0 : -1;
+        return is_found == 1 && change_entry(part, key, NULL, false) ? 0 : -1;
     }
-    if (!has_kind(part))
-        return -1;
-    if (!is_message_kind(part->kind)) {
-        if (value != Py_None)
-            return change_entry(self, key, value) ? 0 : -1;
-        wrong_type("one of the map's", value);
-        return -1;
-    }
-    if ((type = type_of_values(part)) == NULL)
-        return -1;
-    PyObject *pair = PyTuple_Pack(2, key, value);
-    answer = pair == NULL ? -1 : answered(call_change("put_entry", self, type, pair));
-    Py_XDECREF(pair);
-    Py_DECREF(type);
-    return answer;
+    if (is_message_kind(part->field->is.kind))
+        return put_entry(self, key, value);
+    return change_entry(part, key, value, false) ? 0 : -1;
 }

@@ -45,6 +45,9 @@ void drop_input(struct input *input);
 bool take_data(PyObject *args, PyObject *kwargs, PyObject **data, struct limits *limits);
 bool set_limits(Py_ssize_t max_bytes, Py_ssize_t max_depth, struct limits *limits);
 
+/* The least causes among the answers: of sets, sources and linking, and of linking alone. */
+enum { FIRST_CAUSE = 50, FIRST_OF_LINKING = 71 };
+
 /* Sets the exception for an answer that is not MB_DONE. All return NULL. The path of a part is taken. */
 PyObject *refuse(uint32_t answer, const struct report *report);
 PyObject *refuse_path(const char *what, uint32_t answer, PyObject *path);
@@ -53,13 +56,23 @@ PyObject *refuse_text(uint32_t answer, size_t byte);
 PyObject *refuse_link(uint32_t answer, const struct report *report, const struct mb_refusal *refusal, const uint8_t *text, PyObject *names);
 
 /* What _refused.py, _frames.py, _schema.py and _change.py define. */
-extern PyObject *make_fault, *make_link, *frames_class, *schema_class, *difference_class, *change_functions;
+extern PyObject *make_fault, *make_link, *frames_class, *schema_class, *difference_class, *enum_class, *change_functions;
 
 /* The written bytes as str or bytes. */
 PyObject *as_bytes(const uint8_t *at, size_t len);
 PyObject *as_str(const uint8_t *at, size_t len);
 
-/* ---- Types (pool.c, schema.c, type.c, message.c, decoder.c) ---- */
+/* ---- Types (pool.c, schema.c, type.c, field.c, message.c, decoder.c) ---- */
+
+/* Kinds that a field declares and a value is not reported with, by the numbers of descriptor.proto, and the shapes of struct mb_field. */
+enum { KIND_FIXED64 = 6, KIND_FIXED32 = 7, KIND_GROUP = 10, KIND_SFIXED32 = 15, KIND_SFIXED64 = 16, KIND_SINT32 = 17, KIND_SINT64 = 18, KIND_LAST = 18 };
+enum { SHAPE_IMPLICIT = 0, SHAPE_OPTIONAL = 1, SHAPE_ONEOF = 2, SHAPE_LIST = 3, SHAPE_MAP = 4 };
+
+/* Whether values of a kind are messages. Those of KIND_GROUP are written as groups. */
+static inline bool is_message_kind(uint32_t kind)
+{
+    return kind == MB_MESSAGE || kind == KIND_GROUP;
+}
 
 typedef struct {
     PyObject_HEAD
@@ -67,6 +80,8 @@ typedef struct {
     Py_ssize_t left_out;
     PyObject *names;    /* types by their full names */
     PyObject *numbers;  /* types by their numbers */
+    PyObject *origin;   /* what it was made of, for pickling: whether of a set, the set or the pairs of names and sources, whether leniently */
+    PyObject *weak;
 } Pool;
 
 typedef struct {
@@ -75,9 +90,12 @@ typedef struct {
     uint32_t number;
     PyObject *name;    /* the full name */
     PyObject *fields;  /* fields by their names, as they were asked for */
+    struct field **by_number; /* all fields, by rising number, once they were asked for, and whether one is an enum */
+    size_t count;
+    bool has_enums;
 } MessageType;
 
-typedef struct {
+typedef struct field {
     PyObject_HEAD
     Pool *pool;
     uint32_t of;      /* the number of the type that has it */
@@ -85,24 +103,32 @@ typedef struct {
     struct mb_field is;
     bool has_detail;  /* whether the next is known: mb_pool_field does not report it */
     uint32_t detail;  /* what mb_pool_field_at reports beside */
+    PyObject *names;  /* of an enum its Enum, once it was asked for */
 } Field;
+
+/* The index of the oneof that a field is in; or whether a list is packed. Returns whether it could be read; else an exception is set. */
+bool read_detail(Field *field);
+/* The full name of a field, as shop.Order.number; NULL with an exception. */
+PyObject *full_name(const Field *field);
+
+/* Steps that a place has at most without memory of its own. */
+enum { SHORT_PLACE = 4 };
 
 /* A message, or a part of one: a list, a map, a message inside. Of a part, root is the message that holds it, and place says where. */
 typedef struct node {
     PyObject_HEAD
     struct mb_message handle;
-    unsigned long long thread;
     size_t hint;       /* about how many bytes it has */
+    PyObject *bytes;   /* its canonical bytes, where a part was read of them and nothing has changed since */
     struct node *root; /* none of a message that holds itself */
+    struct node *parts, *next, *previous; /* the first of the parts that a message has, and the others of a part */
+    bool is_gone;      /* of a part: what it led to was removed, or something else is in its place */
+    bool was_there;    /* of a part, during a merge */
     MessageType *type; /* of a message */
-    uint32_t field;    /* of a list or map, the number of its field, the kind of its values, that of its keys, and the number of the values' type */
-    uint32_t kind;
-    uint32_t key;
-    uint32_t of;
-    struct mb_value *place;
-    size_t place_len;
+    Field *field;      /* of a list or a map */
+    size_t place_len, keys_len;
+    struct mb_value *place, short_place[SHORT_PLACE];
     struct mb_bytes *keys;
-    size_t keys_len;
     PyObject *key_objects; /* a tuple of bytes, which the keys point to */
 } Node;
 
@@ -118,18 +144,21 @@ MessageType *type_by_number(Pool *pool, uint32_t number, PyObject *name);
 /* The field of a name or a number, or NULL with KeyError. The reference is borrowed. */
 Field *field_by_name(MessageType *type, PyObject *name);
 Field *field_by_number(MessageType *type, uint32_t number);
+/* The same, but NULL without an exception where the type has none. */
+Field *find_field(MessageType *type, uint32_t number);
+/* Whether a field of a type, that is no map, is an enum; false with an exception where it can't be said. */
+bool has_enums(MessageType *type);
+/* The field that an object of its type is, where it is one of the message type, or NULL with KeyError. The reference is borrowed. */
+Field *own_field(MessageType *type, PyObject *field);
+/* Methods of a message type (field.c). */
+PyObject *type_field(PyObject *self, PyObject *name);
+PyObject *type_get_fields(PyObject *self, void *which);
+extern const char field_doc[];
 /* What an unset field reads as. */
 PyObject *default_of(const struct mb_field *field);
 
 /* A message of a type that holds nothing yet. */
 Node *new_message(MessageType *type);
-
-/* The number of the thread that calls; a message and a decoder stay on theirs (thread.c). */
-unsigned long long this_thread(void);
-/* Frees what this thread made and others dropped. */
-void free_dropped(void);
-/* Frees what the handles hold, or has it freed later by the thread that made it. */
-void drop_handles(unsigned long long thread, struct mb_message message, struct mb_decoder decoder);
 
 /* What a part of a pool is, and its name; NULL with an exception where there is none. */
 PyObject *read_message(Pool *pool, uint32_t number, struct mb_type *is);

@@ -32,7 +32,7 @@ static PyObject *differences(MessageType *old, MessageType *new, const struct mb
 }
 
 const char compat_doc[] =
-"compat(new)\n--\n\nWhat happens to messages of this type that are read as a new type: a list of differences (old, new, field, severity) of these types, and of"
+"compat($self, new, /)\n--\n\nWhat happens to messages of this type that are read as a new type: a list of differences (old, new, field, severity) of these types, and of"
 "\neach two types that fields of the same number lead to. A severity is breaks, loses, presence, converts or renames.";
 
 PyObject *type_compat(PyObject *self, PyObject *other)
@@ -61,7 +61,7 @@ PyObject *type_compat(PyObject *self, PyObject *other)
 }
 
 const char witness_doc[] =
-"witness(new, difference)\n--\n\nA message of this type that shows that a difference, one of compat(new), breaks reading: its canonical bytes are refused by\n"
+"witness($self, new, difference, /)\n--\n\nA message of this type that shows that a difference, one of compat(new), breaks reading: its canonical bytes are refused by\n"
 "the new type, or read as a message that does not agree with it. None where the difference does not break, or more than 99 fields lead to\nits types.";
 
 static PyObject *not_of_both(void)

@@ -1,4 +1,4 @@
-/* Decoders of messages that arrive in pieces. A decoder stays on the thread that made it (thread.c). */
+/* Decoders of messages that arrive in pieces. */
 #include "common.h"
 
 #include <structmember.h>
@@ -8,14 +8,14 @@ PyObject *decoder_type;
 typedef struct {
     PyObject_HEAD
     struct mb_decoder handle;
-    unsigned long long thread;
+    bool is_feeding; /* a call uses the handle without the global lock */
     size_t received; /* about how many bytes the message has */
     MessageType *type;
 } Decoder;
 
 const char decoder_doc[] =
-"decoder(*, max_bytes=MAX_BYTES, max_depth=MAX_DEPTH)\n--\n\nA Decoder of a message that arrives in pieces, which has received nothing. The limits are those of"
-"\nthe whole message. It stays on the thread that made it.";
+"decoder($self, /, *, max_bytes=2147483647, max_depth=100)\n--\n\nA Decoder of a message that arrives in pieces, which has received nothing. The limits are those of"
+"\nthe whole message. While one thread feeds it, another that uses it gets RuntimeError.";
 
 PyObject *type_decoder(PyObject *self, PyObject *args, PyObject *kwargs)
 {
@@ -30,11 +30,10 @@ PyObject *type_decoder(PyObject *self, PyObject *args, PyObject *kwargs)
     if (decoder == NULL)
         return NULL;
     decoder->handle = (struct mb_decoder){NULL, false};
-    decoder->thread = this_thread();
+    decoder->is_feeding = false;
     decoder->received = 0;
     Py_INCREF(type);
     decoder->type = type;
-    free_dropped();
     uint32_t answer = mb_decoder_new(&type->pool->handle, type->number, limits.max_bytes, limits.max_depth, &decoder->handle);
     if (answer != MB_DONE) {
         Py_DECREF(decoder);
@@ -43,33 +42,39 @@ PyObject *type_decoder(PyObject *self, PyObject *args, PyObject *kwargs)
     return (PyObject *)decoder;
 }
 
-/* The handle of a decoder, or NULL, with an exception, on another thread. */
+/* The handle of a decoder, or NULL, with an exception, while another thread feeds it. */
 static struct mb_decoder *handle_of(PyObject *self)
 {
-    if (((Decoder *)self)->thread == this_thread())
+    if (!((Decoder *)self)->is_feeding)
         return &((Decoder *)self)->handle;
-    PyErr_SetString(PyExc_RuntimeError, "a decoder stays on the thread that made it: hand the pieces to that one");
+    PyErr_SetString(PyExc_RuntimeError, "another thread is feeding this decoder");
     return NULL;
 }
 
 PyDoc_STRVAR(feed_doc,
-"feed(data)\n--\n\nGives the decoder the next piece, anything with the buffer protocol. It is not kept. Raises Refused where all bytes"
+"feed($self, data, /)\n--\n\nGives the decoder the next piece, anything with the buffer protocol. It is not kept. Raises Refused where all bytes"
 "\nreceived have another fault than Truncated, which no further bytes change; byte counts from the first piece on. Then, and after MemoryError, the"
 "\ndecoder is finished: each further call raises ValueError.");
 
 static PyObject *decoder_feed(PyObject *self, PyObject *data)
 {
-    struct mb_decoder *handle = handle_of(self);
+    struct mb_decoder *handle;
     struct report report;
     struct input in;
 
-    if (handle == NULL || !take_input(data, &in))
+    if (!take_input(data, &in))
         return NULL;
+    if ((handle = handle_of(self)) == NULL) {
+        drop_input(&in);
+        return NULL;
+    }
     /* No other thread may use the decoder meanwhile. */
+    ((Decoder *)self)->is_feeding = true;
     PyThreadState *state = in.is_fixed && in.len >= LONG_INPUT ? PyEval_SaveThread() : NULL;
     uint32_t answer = mb_decoder_feed(handle, in.at, in.len, &report.fault, report.path, MB_MAX_STEPS);
     if (state != NULL)
         PyEval_RestoreThread(state);
+    ((Decoder *)self)->is_feeding = false;
     ((Decoder *)self)->received += in.len;
     drop_input(&in);
     if (answer != MB_DONE)
@@ -78,16 +83,18 @@ static PyObject *decoder_feed(PyObject *self, PyObject *data)
 }
 
 PyDoc_STRVAR(finish_doc,
-"finish()\n--\n\nThe message of all pieces, as decode has it of their bytes, or Refused. Then the decoder is finished: each further call raises ValueError.");
+"finish($self, /)\n--\n\nThe message of all pieces, as decode has it of their bytes, or Refused. Then the decoder is finished: each further call raises ValueError.");
 
 static PyObject *decoder_finish(PyObject *self, PyObject *Py_UNUSED(ignored))
 {
-    struct mb_decoder *handle = handle_of(self);
-    Node *message = handle == NULL ? NULL : new_message(((Decoder *)self)->type);
+    Node *message = new_message(((Decoder *)self)->type);
+    struct mb_decoder *handle = message == NULL ? NULL : handle_of(self);
     struct report report;
 
-    if (message == NULL)
+    if (handle == NULL) {
+        Py_XDECREF(message);
         return NULL;
+    }
     message->hint = ((Decoder *)self)->received;
     uint32_t answer = mb_decoder_finish(handle, &message->handle, &report.fault, report.path, MB_MAX_STEPS);
     if (answer == MB_DONE)
@@ -117,8 +124,7 @@ static void decoder_dealloc(PyObject *self)
     PyTypeObject *of = Py_TYPE(self);
     Decoder *decoder = (Decoder *)self;
 
-    if (decoder->handle.full)
-        drop_handles(decoder->thread, (struct mb_message){NULL, false}, decoder->handle);
+    mb_decoder_free(&decoder->handle);
     Py_CLEAR(decoder->type);
     PyObject_Free(self);
     Py_DECREF(of);

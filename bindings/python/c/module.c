@@ -40,7 +40,7 @@ static PyObject *raw(PyObject *args, PyObject *kwargs, bool is_short)
 }
 
 PyDoc_STRVAR(raw_check_doc,
-"raw_check(data, *, max_bytes=MAX_BYTES, max_depth=MAX_DEPTH)\n--\n\nRaises Refused where the bytes are no records, without a schema.");
+"raw_check($module, data, /, *, max_bytes=2147483647, max_depth=100)\n--\n\nRaises Refused where the bytes are no records, without a schema.");
 
 static PyObject *raw_check(PyObject *Py_UNUSED(module), PyObject *args, PyObject *kwargs)
 {
@@ -48,7 +48,7 @@ static PyObject *raw_check(PyObject *Py_UNUSED(module), PyObject *args, PyObject
 }
 
 PyDoc_STRVAR(raw_short_doc,
-"raw_short(data, *, max_bytes=MAX_BYTES, max_depth=MAX_DEPTH)\n--\n\nThe shortest spelling of the records that the bytes are, without a schema.");
+"raw_short($module, data, /, *, max_bytes=2147483647, max_depth=100)\n--\n\nThe shortest spelling of the records that the bytes are, without a schema.");
 
 static PyObject *raw_short(PyObject *Py_UNUSED(module), PyObject *args, PyObject *kwargs)
 {
@@ -116,12 +116,13 @@ PyMODINIT_FUNC PyInit__mabristu(void)
     frames_class = taken("mabristu._frames", "Frames");
     schema_class = taken("mabristu._schema", "Schema");
     difference_class = taken("mabristu._schema", "Difference");
+    enum_class = taken("mabristu._schema", "Enum");
     change_functions = PyImport_ImportModule("mabristu._change");
     pool_type = make_pool_type();
     message_type_type = make_message_type_type();
     field_type = make_field_type();
     decoder_type = make_decoder_type();
-    if (make_fault == NULL || make_link == NULL || frames_class == NULL || schema_class == NULL || difference_class == NULL || change_functions == NULL ||
+    if (make_fault == NULL || make_link == NULL || frames_class == NULL || schema_class == NULL || difference_class == NULL || enum_class == NULL || change_functions == NULL ||
         !name_causes() || !make_message_types() || (module = PyModule_Create(&definition)) == NULL)
         return NULL;
     if (!add(module, "Pool", pool_type) || !add(module, "MessageType", message_type_type) || !add(module, "Field", field_type) ||

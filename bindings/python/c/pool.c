@@ -63,7 +63,7 @@ static bool run_link(struct linking *it, uint32_t (*link)(struct linking *), boo
         } else {
             answer = link(it);
         }
-        if (is_again || answer < 71 || it->refusal.file_len + it->refusal.name_len <= it->text_len)
+        if (is_again || answer < FIRST_OF_LINKING || it->refusal.file_len + it->refusal.name_len <= it->text_len)
             break;
         it->text_len = it->refusal.file_len + it->refusal.name_len;
         it->text = PyMem_Malloc(it->text_len);
@@ -80,8 +80,8 @@ static bool run_link(struct linking *it, uint32_t (*link)(struct linking *), boo
     return answer == MB_DONE;
 }
 
-/* The pool that was linked, if it was. */
-static PyObject *new_pool(PyTypeObject *type, struct linking *it)
+/* The pool that was linked, of what it was made of: a set, or a list of pairs of names and sources. */
+static PyObject *new_pool(PyTypeObject *type, struct linking *it, bool is_set, PyObject *given)
 {
     allocfunc alloc = (allocfunc)PyType_GetSlot(type, Py_tp_alloc);
     Pool *pool = (Pool *)alloc(type, 0);
@@ -94,7 +94,9 @@ static PyObject *new_pool(PyTypeObject *type, struct linking *it)
     pool->left_out = (Py_ssize_t)it->left_out;
     pool->names = PyDict_New();
     pool->numbers = PyDict_New();
-    if (pool->names == NULL || pool->numbers == NULL)
+    pool->origin = Py_BuildValue("ONO", is_set ? Py_True : Py_False, is_set ? PyBytes_FromObject(given) : PyList_AsTuple(given),
+                                 it->is_lenient ? Py_True : Py_False);
+    if (pool->names == NULL || pool->numbers == NULL || pool->origin == NULL)
         Py_CLEAR(pool);
     return (PyObject *)pool;
 }
@@ -110,9 +112,9 @@ static PyObject *pool_new(PyTypeObject *type, PyObject *args, PyObject *kwargs)
     if (!PyArg_ParseTupleAndKeywords(args, kwargs, "O|p", names, &set, &is_lenient) || !take_input(set, &it.set))
         return NULL;
     it.is_lenient = is_lenient != 0;
-    bool is_linked = run_link(&it, link_set, it.set.is_fixed, NULL);
+    PyObject *pool = run_link(&it, link_set, it.set.is_fixed, NULL) ? new_pool(type, &it, true, set) : NULL;
     drop_input(&it.set);
-    return is_linked ? new_pool(type, &it) : NULL;
+    return pool;
 }
 
 /* The bytes of a string, or of bytes. */
@@ -135,6 +137,10 @@ static bool list_sources(PyObject *items, struct mb_bytes *listed, PyObject *hel
 
     for (size_t i = 0; i < 2 * count; i++) {
         PyObject *pair = PyList_GetItem(items, (Py_ssize_t)(i % count));
+        if (pair == NULL || !PyTuple_Check(pair) || PyTuple_Size(pair) != 2) {
+            PyErr_SetString(PyExc_TypeError, "the items of sources are pairs of a name and a source");
+            return false;
+        }
         PyObject *object = PyTuple_GetItem(pair, i < count ? 0 : 1);
         PyObject *bytes = object == NULL ? NULL : to_bytes(object, i < count ? "the name of a source" : "a source");
         char *at = NULL;
@@ -150,8 +156,17 @@ static bool list_sources(PyObject *items, struct mb_bytes *listed, PyObject *hel
     return true;
 }
 
+/* The items of a mapping, as a list of this call's own. */
+static PyObject *items_of(PyObject *sources)
+{
+    if (PyObject_HasAttrString(sources, "items"))
+        return PyMapping_Items(sources);
+    PyErr_SetString(PyExc_TypeError, "sources are a mapping from their names to them");
+    return NULL;
+}
+
 PyDoc_STRVAR(of_sources_doc,
-"of_sources(sources, *, lenient=False)\n--\n\nLinks sources of proto3: a mapping from their names, as imports name them, to their texts (str or bytes). What they\n"
+"of_sources($type, sources, *, lenient=False)\n--\n\nLinks sources of proto3: a mapping from their names, as imports name them, to their texts (str or bytes). What they\n"
 "import has to be among them, google/protobuf/timestamp.proto too. With lenient=True sources of proto2 are taken too, and what declares no message,\n"
 "enum or service is read and left out, as parts of an option's name in parentheses, constants in braces, default values,\n"
 "blocks of extend and ranges of extensions; a map in a file of proto2 whose values are of an enum is the list of its entries.");
@@ -167,9 +182,9 @@ static PyObject *pool_of_sources(PyObject *type, PyObject *args, PyObject *kwarg
     if (!PyArg_ParseTupleAndKeywords(args, kwargs, "O|$p", words, &sources, &is_lenient))
         return NULL;
     it.is_lenient = is_lenient != 0;
-    PyObject *held = PyList_New(0), *names = PyList_New(0), *items = PyMapping_Items(sources);
+    PyObject *held = PyList_New(0), *names = PyList_New(0), *items = items_of(sources);
     struct mb_bytes *listed = NULL;
-    bool is_linked = false;
+    PyObject *pool = NULL;
 
     if (held != NULL && names != NULL && items != NULL) {
         it.count = (size_t)PyList_Size(items);
@@ -179,14 +194,14 @@ static PyObject *pool_of_sources(PyObject *type, PyObject *args, PyObject *kwarg
         else if (list_sources(items, listed, held, names)) {
             it.names = listed;
             it.texts = listed + it.count;
-            is_linked = run_link(&it, link_sources, true, names);
+            pool = run_link(&it, link_sources, true, names) ? new_pool((PyTypeObject *)type, &it, false, items) : NULL;
         }
     }
     PyMem_Free(listed);
     Py_XDECREF(items);
     Py_XDECREF(names);
     Py_XDECREF(held);
-    return is_linked ? new_pool((PyTypeObject *)type, &it) : NULL;
+    return pool;
 }
 
 /* The type of a name: it is asked for once, then kept. None, without an exception, where the pool has no such type. */
@@ -264,6 +279,9 @@ MessageType *type_by_number(Pool *pool, uint32_t number, PyObject *name)
             Py_XINCREF(name);
             made->name = name == NULL ? read_message(pool, number, &is) : name;
             made->fields = PyDict_New();
+            made->by_number = NULL;
+            made->count = 0;
+            made->has_enums = false;
             PyObject_GC_Track((PyObject *)made);
             if (made->name == NULL || made->fields == NULL || PyDict_SetItem(pool->numbers, key, (PyObject *)made) < 0)
                 Py_CLEAR(made);
@@ -275,7 +293,7 @@ MessageType *type_by_number(Pool *pool, uint32_t number, PyObject *name)
 }
 
 PyDoc_STRVAR(schema_doc,
-"schema()\n--\n\nWhat the pool declares, in the order of its set: files, types and enums, lists of named tuples.");
+"schema($self, /)\n--\n\nWhat the pool declares, in the order of its set: files, types and enums, lists of named tuples.");
 
 static PyObject *pool_schema(PyObject *self, PyObject *Py_UNUSED(ignored))
 {
@@ -283,7 +301,7 @@ static PyObject *pool_schema(PyObject *self, PyObject *Py_UNUSED(ignored))
 }
 
 PyDoc_STRVAR(to_set_doc,
-"to_set()\n--\n\nA descriptor set of the pool's types: Pool(pool.to_set()) has the same ones. Services and options, which a pool does not hold, are not in it.");
+"to_set($self, /)\n--\n\nA descriptor set of the pool's types: Pool(pool.to_set()) has the same ones. Services and options, which a pool does not hold, are not in it.");
 
 static PyObject *pool_to_set(PyObject *self, PyObject *Py_UNUSED(ignored))
 {
@@ -307,6 +325,7 @@ static int pool_traverse(PyObject *self, visitproc visit, void *arg)
     Py_VISIT(Py_TYPE(self));
     Py_VISIT(((Pool *)self)->names);
     Py_VISIT(((Pool *)self)->numbers);
+    Py_VISIT(((Pool *)self)->origin);
     return 0;
 }
 
@@ -314,6 +333,7 @@ static int pool_clear(PyObject *self)
 {
     Py_CLEAR(((Pool *)self)->names);
     Py_CLEAR(((Pool *)self)->numbers);
+    Py_CLEAR(((Pool *)self)->origin);
     return 0;
 }
 
@@ -322,6 +342,8 @@ static void pool_dealloc(PyObject *self)
     PyTypeObject *type = Py_TYPE(self);
 
     PyObject_GC_UnTrack(self);
+    if (((Pool *)self)->weak != NULL)
+        PyObject_ClearWeakRefs(self);
     pool_clear(self);
     mb_pool_free(&((Pool *)self)->handle);
     PyObject_GC_Del(self);
@@ -331,6 +353,8 @@ static void pool_dealloc(PyObject *self)
 PyObject *make_pool_type(void)
 {
     static PyMemberDef members[] = {
+        {"_origin", T_OBJECT, offsetof(Pool, origin), READONLY, "What it was made of: whether of a set, this or the pairs of sources, whether leniently."},
+        {"__weaklistoffset__", T_PYSSIZET, offsetof(Pool, weak), READONLY, NULL},
         {"left_out", T_PYSSIZET, offsetof(Pool, left_out), READONLY, "How many parts of the set lenient reading left out."},
         {NULL, 0, 0, 0, NULL},
     };
@@ -338,12 +362,12 @@ PyObject *make_pool_type(void)
         {"of_sources", (PyCFunction)(void (*)(void))pool_of_sources, METH_VARARGS | METH_KEYWORDS | METH_CLASS, of_sources_doc},
         {"schema", pool_schema, METH_NOARGS, schema_doc},
         {"to_set", pool_to_set, METH_NOARGS, to_set_doc},
-        {"_counts", pool_counts, METH_NOARGS, "_counts()\n--\n\nHow many files, message types and enums there are."},
-        {"_file", pool_file, METH_VARARGS, "_file(index)\n--\n\nname, package, how many imports, whether it is of proto2."},
-        {"_message", pool_message, METH_VARARGS, "_message(number)\n--\n\nname, index of the file, number of the parent or None."},
-        {"_type_at", pool_type_at, METH_VARARGS, "_type_at(number)\n--\n\nThe message type of a number."},
-        {"_enum", pool_enum, METH_VARARGS, "_enum(number)\n--\n\nname, index of the file, number of the parent or None, how many values."},
-        {"_enum_value", pool_enum_value, METH_VARARGS, "_enum_value(number, index)\n--\n\nname, number."},
+        {"_counts", pool_counts, METH_NOARGS, "_counts($self, /)\n--\n\nHow many files, message types and enums there are."},
+        {"_file", pool_file, METH_VARARGS, "_file($self, index, /)\n--\n\nname, package, how many imports, whether it is of proto2."},
+        {"_message", pool_message, METH_VARARGS, "_message($self, number, /)\n--\n\nname, index of the file, number of the parent or None."},
+        {"_type_at", pool_type_at, METH_VARARGS, "_type_at($self, number, /)\n--\n\nThe message type of a number."},
+        {"_enum", pool_enum, METH_VARARGS, "_enum($self, number, /)\n--\n\nname, index of the file, number of the parent or None, how many values."},
+        {"_enum_value", pool_enum_value, METH_VARARGS, "_enum_value($self, number, index, /)\n--\n\nname, number."},
         {NULL, NULL, 0, NULL},
     };
     static PyType_Slot slots[] = {

@@ -1,7 +1,10 @@
 /* From what a call answers to an exception. */
 #include "common.h"
 
-PyObject *make_fault, *make_link, *frames_class, *schema_class, *difference_class;
+/* Where the causes of changes, of sets and sources, of sets alone, and of linking begin and end among the answers. */
+enum { FIRST_OF_CHANGES = 21, LAST_OF_CHANGES = 30, FIRST_OF_SETS = 52, LAST_OF_SETS = 60 };
+
+PyObject *make_fault, *make_link, *frames_class, *schema_class, *difference_class, *enum_class;
 
 /* Raises what a function of _refused.py makes. */
 static PyObject *raise_made(PyObject *made)
@@ -64,7 +67,7 @@ PyObject *refuse(uint32_t answer, const struct report *report)
         PyErr_SetString(PyExc_ValueError, "the name of a source is not UTF-8");
         return NULL;
     default:
-        if (answer >= 21 && answer <= 30)
+        if (answer >= FIRST_OF_CHANGES && answer <= LAST_OF_CHANGES)
             return raise_made(PyObject_CallFunction(make_link, "sI", "change", answer));
         PyErr_Format(PyExc_SystemError, "mabristu answers %u", (unsigned)answer);
         return NULL;
@@ -75,12 +78,12 @@ PyObject *refuse_link(uint32_t answer, const struct report *report, const struct
 {
     if (answer == MB_FAULT)
         return refuse_fault(report, "set ");
-    if (answer < 50)
+    if (answer < FIRST_CAUSE)
         return refuse(answer, report);
-    if (answer >= 71)
+    if (answer >= FIRST_OF_LINKING)
         return raise_made(PyObject_CallFunction(make_link, "sIy#y#", "link", answer, (const char *)text, (Py_ssize_t)refusal->file_len,
                                                 (const char *)text + refusal->file_len, (Py_ssize_t)refusal->name_len));
-    if (answer >= 52 && answer <= 60)
+    if (answer >= FIRST_OF_SETS && answer <= LAST_OF_SETS)
         return raise_made(PyObject_CallFunction(make_link, "sIn", "set", answer, (Py_ssize_t)refusal->file));
     PyObject *name = names == NULL ? NULL : PyList_GetItem(names, (Py_ssize_t)refusal->file);
     return raise_made(name == NULL ? NULL : PyObject_CallFunction(make_link, "sIOK", "source", answer, name, (unsigned long long)refusal->byte));

@@ -1,10 +1,9 @@
-/* Message types, their fields, and calls on the bytes of messages. */
+/* Message types, and calls on the bytes of messages. */
 #include "common.h"
 
-#include <stdlib.h>
 #include <structmember.h>
 
-PyObject *message_type_type, *field_type;
+PyObject *message_type_type;
 
 /* ---- Calls on bytes: with a handle of their own, and without the global lock, where the bytes are long and can't change ---- */
 
@@ -15,8 +14,8 @@ struct call {
     struct limits limits;
     struct report report;
     uint32_t answer;
-    /* Of JSON: whether it is read leniently, and the byte where what is refused begins. */
-    bool is_lenient;
+    /* Of JSON: whether names that no field has are passed over, and the byte where what is refused begins. */
+    bool ignores_unknown;
     size_t byte;
 };
 
@@ -29,8 +28,9 @@ static bool begin(struct call *call, PyObject *self, PyObject *args, PyObject *k
 }
 
 /* Calls with the pool's handle, or with another one of the same pool. */
-#define CALL(call, function, ...) \
-    ((call)->answer = function(handle, (call)->type->number, (call)->in.at, (call)->in.len, (call)->limits.max_bytes, (call)->limits.max_depth, \
+#define CALL(call, function, ...) CALL_WITH(call, handle, function, __VA_ARGS__)
+#define CALL_WITH(call, pool, function, ...) \
+    ((call)->answer = function(pool, (call)->type->number, (call)->in.at, (call)->in.len, (call)->limits.max_bytes, (call)->limits.max_depth, \
                                __VA_ARGS__, &(call)->report.fault, (call)->report.path, MB_MAX_STEPS))
 #define RUN(call, is_long, made) \
     do { \
@@ -64,7 +64,7 @@ static PyObject *end(struct call *call, PyObject *answer)
 }
 
 PyDoc_STRVAR(check_doc,
-"check(data, *, max_bytes=MAX_BYTES, max_depth=MAX_DEPTH)\n--\n\nRaises Refused where the bytes are no message of this type. Builds nothing.");
+"check($self, data, /, *, max_bytes=2147483647, max_depth=100)\n--\n\nRaises Refused where the bytes are no message of this type. Builds nothing.");
 
 static PyObject *type_check(PyObject *self, PyObject *args, PyObject *kwargs)
 {
@@ -90,7 +90,7 @@ static void write_once(struct call *call, writer *write, uint8_t *out, size_t ou
         RUN(call, is_long(call), CALL(call, write, out, out_len, size));
     else
         RUN(call, is_long(call),
-            call->answer = mb_from_json(handle, call->type->number, call->in.at, call->in.len, call->is_lenient, out, out_len, size, &call->byte));
+            call->answer = mb_from_json(handle, call->type->number, call->in.at, call->in.len, call->ignores_unknown, out, out_len, size, &call->byte));
 }
 
 /* What a call writes: to the stack where it should be little, else to memory of the length that it should have, and once more where it is longer. */
@@ -131,7 +131,7 @@ static PyObject *written(PyObject *self, PyObject *args, PyObject *kwargs, write
 }
 
 PyDoc_STRVAR(canonical_doc,
-"canonical(data, *, max_bytes=MAX_BYTES, max_depth=MAX_DEPTH)\n--\n\nThe canonical bytes of a message.");
+"canonical($self, data, /, *, max_bytes=2147483647, max_depth=100)\n--\n\nThe canonical bytes of a message.");
 
 static PyObject *type_canonical(PyObject *self, PyObject *args, PyObject *kwargs)
 {
@@ -139,7 +139,7 @@ static PyObject *type_canonical(PyObject *self, PyObject *args, PyObject *kwargs
 }
 
 PyDoc_STRVAR(listing_doc,
-"listing(data, *, decimal=False, max_bytes=MAX_BYTES, max_depth=MAX_DEPTH)\n--\n\nThe listing of a message, as `pbtool show` prints it; with decimal=True each"
+"listing($self, data, /, *, decimal=False, max_bytes=2147483647, max_depth=100)\n--\n\nThe listing of a message, as `pbtool show` prints it; with decimal=True each"
 "\nfloat as the shortest decimal that reads back to the same bits.");
 
 /* Takes a flag out of the keywords. Returns 1, 0, or -1 with an exception; the other keywords are in a new dict, or NULL. */
@@ -167,7 +167,7 @@ static PyObject *type_listing(PyObject *self, PyObject *args, PyObject *kwargs)
 }
 
 PyDoc_STRVAR(decode_doc,
-"decode(data, *, max_bytes=MAX_BYTES, max_depth=MAX_DEPTH)\n--\n\nThe message that the bytes are. It stays on the thread that made it.");
+"decode($self, data, /, *, max_bytes=2147483647, max_depth=100)\n--\n\nThe message that the bytes are.");
 
 static PyObject *type_decode(PyObject *self, PyObject *args, PyObject *kwargs)
 {
@@ -186,20 +186,20 @@ static PyObject *type_decode(PyObject *self, PyObject *args, PyObject *kwargs)
 }
 
 PyDoc_STRVAR(from_json_doc,
-"from_json(text, *, lenient=False)\n--\n\nThe message that a JSON text is (ProtoJSON), a str or bytes in UTF-8. With lenient=True members that no field has"
-"\nare passed over, and strings that an enum does not declare. It stays on the thread that made it.");
+"from_json($self, text, *, ignore_unknown=False, lenient=False)\n--\n\nThe message that a JSON text is (ProtoJSON), a str or bytes in UTF-8. With"
+"\nignore_unknown=True members that no field has are passed over, and strings that an enum does not declare; lenient is an older name of this flag.");
 
-/* Reads the arguments (text, *, lenient) of a method. A str is taken as its bytes in UTF-8. */
+/* Reads the arguments (text, *, ignore_unknown) of a method; lenient is an older name of the flag. A str is taken as its bytes in UTF-8. */
 static bool begin_json(struct call *call, PyObject *self, PyObject *args, PyObject *kwargs, const char *format)
 {
-    static char *names[] = {"text", "lenient", NULL};
+    static char *names[] = {"text", "ignore_unknown", "lenient", NULL};
     PyObject *text;
-    int is_lenient = 0;
+    int ignores_unknown = 0, is_lenient = 0;
 
-    if (!PyArg_ParseTupleAndKeywords(args, kwargs, format, names, &text, &is_lenient))
+    if (!PyArg_ParseTupleAndKeywords(args, kwargs, format, names, &text, &ignores_unknown, &is_lenient))
         return false;
     call->type = (MessageType *)self;
-    call->is_lenient = is_lenient;
+    call->ignores_unknown = ignores_unknown || is_lenient;
     if (!PyUnicode_Check(text))
         return take_input(text, &call->in);
     PyObject *bytes = PyUnicode_AsUTF8String(text);
@@ -219,7 +219,7 @@ static PyObject *type_from_json(PyObject *self, PyObject *args, PyObject *kwargs
 {
     struct call call;
 
-    if (!begin_json(&call, self, args, kwargs, "O|$p:from_json"))
+    if (!begin_json(&call, self, args, kwargs, "O|$pp:from_json"))
         return NULL;
     Node *message = new_message(call.type);
     if (message == NULL) {
@@ -228,23 +228,23 @@ static PyObject *type_from_json(PyObject *self, PyObject *args, PyObject *kwargs
     }
     message->hint = call.in.len;
     RUN(&call, is_long(&call),
-        call.answer = mb_message_from_json(handle, call.type->number, call.in.at, call.in.len, call.is_lenient, &message->handle, &call.byte));
+        call.answer = mb_message_from_json(handle, call.type->number, call.in.at, call.in.len, call.ignores_unknown, &message->handle, &call.byte));
     return end_json(&call, (PyObject *)message);
 }
 
 PyDoc_STRVAR(canonical_from_json_doc,
-"canonical_from_json(text, *, lenient=False)\n--\n\nThe canonical bytes of the message that a JSON text is, which is read as from_json reads it.");
+"canonical_from_json($self, text, *, ignore_unknown=False, lenient=False)\n--\n\nThe canonical bytes of the message that a JSON text is, which is read as from_json reads it.");
 
 static PyObject *type_canonical_from_json(PyObject *self, PyObject *args, PyObject *kwargs)
 {
     struct call call;
 
-    if (!begin_json(&call, self, args, kwargs, "O|$p:canonical_from_json"))
+    if (!begin_json(&call, self, args, kwargs, "O|$pp:canonical_from_json"))
         return NULL;
     return end_json(&call, write_all(&call, NULL, call.in.len, as_bytes));
 }
 
-PyDoc_STRVAR(new_doc, "new()\n--\n\nAn empty message. Order() is the same.");
+PyDoc_STRVAR(new_doc, "new($self, /)\n--\n\nAn empty message. Order() is the same.");
 
 static PyObject *type_empty(PyObject *self, PyObject *Py_UNUSED(ignored))
 {
@@ -260,17 +260,30 @@ static PyObject *type_empty(PyObject *self, PyObject *Py_UNUSED(ignored))
     return (PyObject *)message;
 }
 
+PyDoc_STRVAR(from_dict_doc,
+"from_dict($self, fields, /)\n--\n\nA message with these fields, by their names, as to_dict gives them: messages and maps are dicts, lists are lists. A message may"
+"\nalso be given as one, and the value of an enum by its name. Order(number=1) is the same as Order.from_dict({\"number\": 1}).");
+
+static PyObject *type_from_dict(PyObject *self, PyObject *fields)
+{
+    PyObject *function = PyObject_GetAttrString(change_functions, "from_dict");
+    PyObject *answer = function == NULL ? NULL : PyObject_CallFunctionObjArgs(function, self, fields, NULL);
+
+    Py_XDECREF(function);
+    return answer;
+}
+
 static PyObject *type_call(PyObject *self, PyObject *args, PyObject *kwargs)
 {
-    if (PyTuple_Size(args) != 0 || (kwargs != NULL && PyDict_Size(kwargs) != 0)) {
-        PyErr_SetString(PyExc_TypeError, "an empty message is made without arguments");
+    if (PyTuple_Size(args) != 0) {
+        PyErr_SetString(PyExc_TypeError, "a message is made of fields by their names, as in Order(number=1)");
         return NULL;
     }
-    return type_empty(self, NULL);
+    return kwargs == NULL || PyDict_Size(kwargs) == 0 ? type_empty(self, NULL) : type_from_dict(self, kwargs);
 }
 
 PyDoc_STRVAR(frame_doc,
-"_frame(data, at, max_bytes, max_depth)\n--\n\nThe frame that begins at an index of the bytes: where its message begins and ends, counted from there, and whether"
+"_frame($self, data, at, max_bytes, max_depth, /)\n--\n\nThe frame that begins at an index of the bytes: where its message begins and ends, counted from there, and whether"
 "\nit is whole; the numbers are 0 where its length can't be read. A frame that is refused has its size in the exception.");
 
 /* A size, up to the greatest that Python has. */
@@ -320,7 +333,7 @@ static PyObject *type_frame(PyObject *self, PyObject *args)
 }
 
 PyDoc_STRVAR(frames_doc,
-"frames(source, *, skip=None, max_bytes=MAX_BYTES, max_depth=MAX_DEPTH)\n--\n\nReads a stream of messages, each after its length: a file, or bytes. Gives of"
+"frames($self, source, /, *, skip=None, max_bytes=2147483647, max_depth=100)\n--\n\nReads a stream of messages, each after its length: a file, or bytes. Gives of"
 "\neach a Frame: at, where it begins in the stream, size, with its length, and data, the bytes of its message. A frame that is refused raises\n"
 "Refused, with number and at; where skip is a function, it is called with that exception, and the frames after it are read.");
 
@@ -340,342 +353,6 @@ static PyObject *type_frames(PyObject *self, PyObject *args, PyObject *kwargs)
     answer = PyObject_Call(frames_class, all, kwargs);
     Py_DECREF(all);
     return answer;
-}
-
-/* ---- Fields ---- */
-
-static const char *const kinds[] = {NULL, "double", "float", "int64", "uint64", "int32", "fixed64", "fixed32", "bool", "string", "group",
-                                    "message", "bytes", "uint32", "enum", "sfixed32", "sfixed64", "sint32", "sint64"};
-static const char *const shapes[] = {"implicit", "optional", "oneof", "list", "map"};
-enum { KINDS = sizeof kinds / sizeof *kinds, SHAPES = sizeof shapes / sizeof *shapes };
-
-/* A field of a type, which keeps it under its name. The reference is borrowed. */
-static Field *keep_field(MessageType *type, PyObject *name, const struct mb_field *is)
-{
-    Field *field = PyObject_GC_New(Field, (PyTypeObject *)field_type);
-
-    if (field == NULL)
-        return NULL;
-    field->of = type->number;
-    field->is = *is;
-    field->has_detail = false;
-    field->detail = 0;
-    Py_INCREF(type->pool);
-    field->pool = type->pool;
-    Py_INCREF(name);
-    field->name = name;
-    PyObject_GC_Track((PyObject *)field);
-    int failed = PyDict_SetItem(type->fields, name, (PyObject *)field);
-    Py_DECREF(field);
-    return failed < 0 ? NULL : field;
-}
-
-Field *field_by_name(MessageType *type, PyObject *name)
-{
-    struct mb_field is;
-    char *at = NULL;
-    Py_ssize_t len = 0;
-    PyObject *found, *text;
-    uint32_t answer;
-
-    if (!PyUnicode_Check(name)) {
-        PyErr_SetString(PyExc_TypeError, "the name of a field is str");
-        return NULL;
-    }
-    found = PyDict_GetItemWithError(type->fields, name);
-    if (found != NULL || PyErr_Occurred())
-        return (Field *)found;
-    text = PyUnicode_AsUTF8String(name);
-    if (text == NULL || PyBytes_AsStringAndSize(text, &at, &len) < 0) {
-        Py_XDECREF(text);
-        return NULL;
-    }
-    answer = mb_pool_field(&type->pool->handle, type->number, (const uint8_t *)at, (size_t)len, &is);
-    Py_DECREF(text);
-    if (answer == MB_ABSENT) {
-        PyObject *line = PyUnicode_FromFormat("field %U unknown", name);
-        if (line != NULL)
-            PyErr_SetObject(PyExc_KeyError, line);
-        Py_XDECREF(line);
-        return NULL;
-    }
-    if (answer != MB_DONE) {
-        refuse(answer, NULL);
-        return NULL;
-    }
-    return keep_field(type, name, &is);
-}
-
-/* The field at an index of a type. The reference is borrowed. */
-static Field *field_at(MessageType *type, size_t index)
-{
-    struct mb_field is;
-    uint32_t detail = 0;
-    PyObject *name = read_field_at(type->pool, type->number, index, &is, &detail);
-
-    if (name == NULL)
-        return NULL;
-    Field *field = (Field *)PyDict_GetItemWithError(type->fields, name);
-    if (field == NULL && !PyErr_Occurred())
-        field = keep_field(type, name, &is);
-    Py_DECREF(name);
-    if (field != NULL) {
-        field->has_detail = true;
-        field->detail = detail;
-    }
-    return field;
-}
-
-Field *field_by_number(MessageType *type, uint32_t number)
-{
-    struct mb_type is;
-    struct mb_field at;
-    uint32_t detail = 0;
-    PyObject *key = PyLong_FromUnsignedLong(number), *name, *found;
-
-    if (key == NULL)
-        return NULL;
-    found = PyDict_GetItemWithError(type->fields, key);
-    if (found != NULL || PyErr_Occurred() || (name = read_message(type->pool, type->number, &is)) == NULL) {
-        Py_DECREF(key);
-        return (Field *)found;
-    }
-    for (size_t i = 0; name != NULL && i < is.fields; i++) {
-        Py_DECREF(name);
-        name = read_field_at(type->pool, type->number, i, &at, &detail);
-        if (name != NULL && at.number == number) {
-            found = (PyObject *)field_at(type, i);
-            break;
-        }
-    }
-    /* Numbers are kept beside the names. */
-    if (found != NULL && PyDict_SetItem(type->fields, key, found) < 0)
-        found = NULL;
-    if (found == NULL && !PyErr_Occurred())
-        PyErr_Format(PyExc_KeyError, "field %lu unknown", (unsigned long)number);
-    Py_XDECREF(name);
-    Py_DECREF(key);
-    return (Field *)found;
-}
-
-PyDoc_STRVAR(from_dict_doc,
-"from_dict(fields)\n--\n\nA message with these fields, by their names, as to_dict gives them: messages and maps are dicts, lists are lists.");
-
-static PyObject *type_from_dict(PyObject *self, PyObject *fields)
-{
-    PyObject *function = PyObject_GetAttrString(change_functions, "from_dict");
-    PyObject *answer = function == NULL ? NULL : PyObject_CallFunctionObjArgs(function, self, fields, NULL);
-
-    Py_XDECREF(function);
-    return answer;
-}
-
-PyDoc_STRVAR(field_doc, "field(name)\n--\n\nThe field of a simple name, as number. KeyError where there is none.");
-
-static PyObject *type_field(PyObject *self, PyObject *name)
-{
-    Field *field = field_by_name((MessageType *)self, name);
-
-    Py_XINCREF(field);
-    return (PyObject *)field;
-}
-
-static PyObject *type_get_fields(PyObject *self, void *Py_UNUSED(which))
-{
-    MessageType *type = (MessageType *)self;
-    struct mb_type is;
-    PyObject *name = read_message(type->pool, type->number, &is), *all;
-
-    if (name == NULL)
-        return NULL;
-    Py_DECREF(name);
-    all = PyTuple_New((Py_ssize_t)is.fields);
-    for (size_t i = 0; all != NULL && i < is.fields; i++) {
-        Field *field = field_at(type, i);
-        Py_XINCREF(field);
-        if (field == NULL)
-            Py_CLEAR(all);
-        else
-            PyTuple_SetItem(all, (Py_ssize_t)i, (PyObject *)field);
-    }
-    return all;
-}
-
-static PyObject *field_get_kind(PyObject *self, void *Py_UNUSED(which))
-{
-    uint32_t kind = ((Field *)self)->is.kind;
-    return PyUnicode_FromString(kind < KINDS && kinds[kind] ? kinds[kind] : "?");
-}
-
-static PyObject *field_get_shape(PyObject *self, void *Py_UNUSED(which))
-{
-    uint32_t shape = ((Field *)self)->is.shape;
-    return PyUnicode_FromString(shape < SHAPES ? shapes[shape] : "?");
-}
-
-static PyObject *field_get_key(PyObject *self, void *Py_UNUSED(which))
-{
-    uint32_t key = ((Field *)self)->is.key;
-    if (key == 0 || key >= KINDS)
-        Py_RETURN_NONE;
-    return PyUnicode_FromString(kinds[key]);
-}
-
-/* Whether its values are messages; those of the kind 10 are written as groups. */
-static bool is_message(const Field *field)
-{
-    return field->is.kind == 10 || field->is.kind == 11;
-}
-
-static PyObject *field_get_type(PyObject *self, void *Py_UNUSED(which))
-{
-    Field *field = (Field *)self;
-    if (!is_message(field))
-        Py_RETURN_NONE;
-    return (PyObject *)type_by_number(field->pool, (uint32_t)field->is.type_of, NULL);
-}
-
-static PyObject *field_get_enum(PyObject *self, void *Py_UNUSED(which))
-{
-    Field *field = (Field *)self;
-    struct mb_enum is;
-
-    if (field->is.kind != 14)
-        Py_RETURN_NONE;
-    return read_enum(field->pool, field->is.type_of, &is);
-}
-
-/* Reads what the shape of a field says beside, by the index of the field. Returns whether it could; else an exception is set. */
-static bool read_detail(Field *field)
-{
-    struct mb_type of;
-    struct mb_field at;
-    uint32_t detail = 0;
-    PyObject *name = read_message(field->pool, field->of, &of);
-
-    for (size_t i = 0; name != NULL && i < of.fields && !field->has_detail; i++) {
-        Py_DECREF(name);
-        name = read_field_at(field->pool, field->of, i, &at, &detail);
-        field->has_detail = name != NULL && at.number == field->is.number;
-    }
-    field->detail = detail;
-    Py_XDECREF(name);
-    return name != NULL;
-}
-
-static PyObject *field_get_oneof(PyObject *self, void *Py_UNUSED(which))
-{
-    Field *field = (Field *)self;
-
-    if (field->is.shape != 2)
-        Py_RETURN_NONE;
-    if (!field->has_detail && !read_detail(field))
-        return NULL;
-    return read_oneof(field->pool, field->of, field->detail);
-}
-
-static PyObject *field_get_packed(PyObject *self, void *Py_UNUSED(which))
-{
-    Field *field = (Field *)self;
-
-    if (field->is.shape != 3)
-        Py_RETURN_FALSE;
-    if (!field->has_detail && !read_detail(field))
-        return NULL;
-    return PyBool_FromLong(field->detail == 1);
-}
-
-static PyObject *field_get_numbers(PyObject *self, void *Py_UNUSED(which))
-{
-    const struct mb_field *is = &((Field *)self)->is;
-    return Py_BuildValue("IIIIn", is->number, is->kind, is->shape, is->key, (Py_ssize_t)is->type_of);
-}
-
-static PyObject *field_repr(PyObject *self)
-{
-    PyObject *kind = field_get_kind(self, NULL), *shape = field_get_shape(self, NULL), *answer = NULL;
-    if (kind != NULL && shape != NULL)
-        answer = PyUnicode_FromFormat("<mabristu.Field %U: %U, %U, %u>", ((Field *)self)->name, kind, shape, (unsigned)((Field *)self)->is.number);
-    Py_XDECREF(kind);
-    Py_XDECREF(shape);
-    return answer;
-}
-
-static int field_traverse(PyObject *self, visitproc visit, void *arg)
-{
-    Py_VISIT(Py_TYPE(self));
-    Py_VISIT(((Field *)self)->pool);
-    return 0;
-}
-
-static int field_clear(PyObject *self)
-{
-    Py_CLEAR(((Field *)self)->pool);
-    return 0;
-}
-
-static void field_dealloc(PyObject *self)
-{
-    PyTypeObject *type = Py_TYPE(self);
-
-    PyObject_GC_UnTrack(self);
-    field_clear(self);
-    Py_CLEAR(((Field *)self)->name);
-    PyObject_GC_Del(self);
-    Py_DECREF(type);
-}
-
-PyObject *make_field_type(void)
-{
-    static PyMemberDef members[] = {
-        {"name", T_OBJECT, offsetof(Field, name), READONLY, "The simple name."},
-        {"number", T_UINT, offsetof(Field, is.number), READONLY, "The field number."},
-        {NULL, 0, 0, 0, NULL},
-    };
-    static PyGetSetDef getset[] = {
-        {"kind", field_get_kind, NULL, "The kind of its values, as a source writes it: int32, string, message, enum ..", NULL},
-        {"shape", field_get_shape, NULL, "implicit, optional, oneof, list or map. An implicit one is unset while it has its default value.", NULL},
-        {"key", field_get_key, NULL, "Of a map the kind of its keys, else None.", NULL},
-        {"type", field_get_type, NULL, "The message type of its values, or None.", NULL},
-        {"enum", field_get_enum, NULL, "The full name of the enum of its values, or None.", NULL},
-        {"oneof", field_get_oneof, NULL, "The name of the oneof that it is in, or None.", NULL},
-        {"packed", field_get_packed, NULL, "Whether a list of it is written packed.", NULL},
-        {"numbers", field_get_numbers, NULL, "number, kind, shape, key and type_of of struct mb_field.", NULL},
-        {NULL, NULL, NULL, NULL, NULL},
-    };
-    static PyType_Slot slots[] = {
-        {Py_tp_doc, "A field of a message type."},
-        {Py_tp_traverse, field_traverse},
-        {Py_tp_clear, field_clear},
-        {Py_tp_new, no_new},
-        {Py_tp_dealloc, field_dealloc},
-        {Py_tp_repr, field_repr},
-        {Py_tp_members, members},
-        {Py_tp_getset, getset},
-        {0, NULL},
-    };
-    static PyType_Spec spec = {"mabristu.Field", sizeof(Field), 0, Py_TPFLAGS_DEFAULT | Py_TPFLAGS_HAVE_GC, slots};
-    return PyType_FromSpec(&spec);
-}
-
-PyObject *default_of(const struct mb_field *field)
-{
-    if (field->shape != 0)
-        Py_RETURN_NONE;
-    switch (field->kind) {
-    case 1: case 2:
-        return PyFloat_FromDouble(0.0);
-    case 8:
-        Py_RETURN_FALSE;
-    case 9:
-        return PyUnicode_FromString("");
-    case 12:
-        return PyBytes_FromString("");
-    case 10: case 11:
-        Py_RETURN_NONE;
-    default:
-        return PyLong_FromLong(0);
-    }
 }
 
 /* ---- One value, read from bytes ---- */
@@ -722,6 +399,28 @@ static Py_ssize_t find_numbers(PyObject *args, uint32_t *numbers)
     return count;
 }
 
+/* Goes one name on: the field's declaration and number, and the type of its message where another name follows. Returns whether it could. */
+static bool find_step(MessageType **type, PyObject *name, bool is_last, uint32_t *number, struct mb_field *is)
+{
+    Field *field = field_by_name(*type, name);
+    MessageType *inner = NULL;
+
+    if (field == NULL)
+        return false;
+    *number = field->is.number;
+    *is = field->is;
+    if (field->is.shape == SHAPE_LIST || field->is.shape == SHAPE_MAP)
+        PyErr_Format(PyExc_TypeError, "%U of %U is a %s: find goes through messages to one scalar", field->name, (*type)->name,
+                     field->is.shape == SHAPE_LIST ? "list" : "map");
+    else if (is_message_kind(field->is.kind) == is_last)
+        PyErr_Format(PyExc_TypeError, is_last ? "%U of %U is a message: find reads one scalar" : "%U of %U is no message", field->name, (*type)->name);
+    else if (!is_last)
+        inner = type_by_number(field->pool, (uint32_t)field->is.type_of, NULL);
+    Py_DECREF(*type);
+    *type = inner;
+    return !PyErr_Occurred();
+}
+
 /* Reads the names of fields after the first argument: the last one's declaration, and the number of each. Returns how many, or -1. */
 static Py_ssize_t find_path(MessageType *type, PyObject *args, uint32_t *numbers, struct mb_field *last)
 {
@@ -731,26 +430,48 @@ static Py_ssize_t find_path(MessageType *type, PyObject *args, uint32_t *numbers
         PyErr_SetString(PyExc_TypeError, "find takes the bytes and the names of fields, from the outermost on");
         return -1;
     }
-    *last = (struct mb_field){0, 0, 1, 0, 0};
+    *last = (struct mb_field){0, 0, SHAPE_OPTIONAL, 0, 0};
     if (PyLong_Check(PyTuple_GetItem(args, 1)))
         return find_numbers(args, numbers);
     Py_INCREF(type);
-    for (Py_ssize_t i = 0; i < count; i++) {
-        Field *field = type == NULL ? NULL : field_by_name(type, PyTuple_GetItem(args, i + 1));
-        MessageType *inner = NULL;
-        if (field != NULL) {
-            numbers[i] = field->is.number;
-            *last = field->is;
-            if (i + 1 < count && is_message(field))
-                inner = type_by_number(field->pool, (uint32_t)field->is.type_of, NULL);
-            if (i + 1 < count && inner == NULL && !PyErr_Occurred())
-                PyErr_Format(PyExc_TypeError, "field %U is no message", field->name);
+    for (Py_ssize_t i = 0; i < count; i++)
+        if (!find_step(&type, PyTuple_GetItem(args, i + 1), i + 1 == count, &numbers[i], last)) {
+            Py_XDECREF(type);
+            return -1;
         }
-        Py_XDECREF(type);
-        type = inner;
-    }
-    Py_XDECREF(type);
-    return PyErr_Occurred() ? -1 : count;
+    return count;
+}
+
+/* Whether the message that holds the last field of a path is there, of bytes that are a message: 1, 0, or -1 with an exception. */
+static int is_parent_there(struct call *call, const uint32_t *numbers, size_t count)
+{
+    struct mb_value place[MB_MAX_DEPTH + 1], value;
+    struct mb_message message = {NULL, false};
+
+    if (count == 1)
+        return 1;
+    for (size_t i = 0; i + 1 < count; i++)
+        place[i] = (struct mb_value){MB_FIELD, numbers[i]};
+    CALL_WITH(call, &call->type->pool->handle, mb_message_decode, &message);
+    if (call->answer == MB_DONE)
+        call->answer = mb_message_get(&message, place, count - 1, NULL, 0, &value);
+    mb_message_free(&message);
+    if (call->answer != MB_DONE && call->answer != MB_ABSENT)
+        return -1;
+    return call->answer == MB_DONE;
+}
+
+/* What a field is that is not found: of implicit presence its default where its message is there, else None. */
+static PyObject *absent_value(struct call *call, const uint32_t *numbers, size_t count, const struct mb_field *last)
+{
+    int is_there = last->shape == SHAPE_IMPLICIT ? is_parent_there(call, numbers, count) : 0;
+
+    if (is_there < 0)
+        return NULL;
+    call->answer = MB_DONE;
+    if (is_there)
+        return default_of(last);
+    Py_RETURN_NONE;
 }
 
 /* What was found, with its kind, as the library reports it. */
@@ -761,28 +482,34 @@ static PyObject *found_reported(const struct mb_value *value, const uint8_t *at)
     return Py_BuildValue("IK", value->kind, (unsigned long long)value->number);
 }
 
-static PyObject *find(PyObject *self, PyObject *args, PyObject *kwargs, PyObject *(*made)(const struct mb_value *, const uint8_t *))
+/* Reads the limits, which are keywords. */
+static bool find_limits(PyObject *kwargs, struct limits *limits)
 {
     static char *names[] = {"max_bytes", "max_depth", NULL};
-    Py_ssize_t max_bytes = MB_MAX_BYTES, max_depth = MB_MAX_DEPTH, count;
+    Py_ssize_t max_bytes = MB_MAX_BYTES, max_depth = MB_MAX_DEPTH;
+    PyObject *none = PyTuple_New(0);
+    bool is_read = none != NULL && PyArg_ParseTupleAndKeywords(none, kwargs, "|$nn", names, &max_bytes, &max_depth);
+
+    Py_XDECREF(none);
+    return is_read && set_limits(max_bytes, max_depth, limits);
+}
+
+static PyObject *find(PyObject *self, PyObject *args, PyObject *kwargs, PyObject *(*made)(const struct mb_value *, const uint8_t *))
+{
+    Py_ssize_t count;
     uint32_t numbers[MB_MAX_DEPTH + 1];
     struct mb_field last;
     struct mb_value value = {0, 0};
     struct call call;
     uint8_t small[256], *out = small;
     size_t out_len = sizeof small;
-    PyObject *none, *answer = NULL;
+    PyObject *answer = NULL;
 
-    if (kwargs != NULL) {
-        none = PyTuple_New(0);
-        int is_read = none != NULL && PyArg_ParseTupleAndKeywords(none, kwargs, "|$nn", names, &max_bytes, &max_depth);
-        Py_XDECREF(none);
-        if (!is_read)
-            return NULL;
-    }
+    if (!find_limits(kwargs, &call.limits))
+        return NULL;
     call.type = (MessageType *)self;
     count = find_path(call.type, args, numbers, &last);
-    if (count < 0 || !set_limits(max_bytes, max_depth, &call.limits) || !take_input(PyTuple_GetItem(args, 0), &call.in))
+    if (count < 0 || !take_input(PyTuple_GetItem(args, 0), &call.in))
         return NULL;
     for (;;) {
         RUN(&call, is_long(&call), CALL(&call, mb_find, numbers, (size_t)count, &value, out, out_len));
@@ -800,24 +527,23 @@ static PyObject *find(PyObject *self, PyObject *args, PyObject *kwargs, PyObject
         answer = made(&value, out);
     if (out != small)
         PyMem_Free(out);
-    if (call.answer == MB_ABSENT) {
-        call.answer = MB_DONE;
-        answer = default_of(&last);
-    }
+    if (call.answer == MB_ABSENT)
+        answer = absent_value(&call, numbers, (size_t)count, &last);
     return end(&call, answer);
 }
 
 PyDoc_STRVAR(find_doc,
-"find(data, *names, max_bytes=MAX_BYTES, max_depth=MAX_DEPTH)\n--\n\nThe value of one field, read from the bytes of a message without building it, which are"
-"\nchecked as check does: find(data, \"number\"), find(data, \"invoice\", \"address\"), or find(data, 6, 1) by numbers. None, or the default of an"
-"\nimplicit field that is named, where it is not set.");
+"find($self, data, /, *names, max_bytes=2147483647, max_depth=100)\n--\n\nThe value of one field, read from the bytes of a message without building it, which are"
+"\nchecked as check does: find(data, \"number\"), find(data, \"invoice\", \"address\"), or find(data, 6, 1) by numbers. Where it is not set"
+"\nthe default of a field with implicit presence that is named, if the message that it belongs to is there, else None. The names lead through"
+"\nmessages: a list, a map, or a message at the end is TypeError.");
 
 static PyObject *type_find(PyObject *self, PyObject *args, PyObject *kwargs)
 {
     return find(self, args, kwargs, found_value);
 }
 
-PyDoc_STRVAR(find_reported_doc, "_find(data, *numbers)\n--\n\nAs find, with the kind and the number of the value, or its bytes.");
+PyDoc_STRVAR(find_reported_doc, "_find($self, data, /, *numbers)\n--\n\nAs find, with the kind and the number of the value, or its bytes.");
 
 static PyObject *type_find_reported(PyObject *self, PyObject *args, PyObject *kwargs)
 {
@@ -839,6 +565,9 @@ static int type_traverse(PyObject *self, visitproc visit, void *arg)
 
 static int type_clear(PyObject *self)
 {
+    PyMem_Free(((MessageType *)self)->by_number);
+    ((MessageType *)self)->by_number = NULL;
+    ((MessageType *)self)->count = 0;
     Py_CLEAR(((MessageType *)self)->fields);
     Py_CLEAR(((MessageType *)self)->pool);
     return 0;

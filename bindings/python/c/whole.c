@@ -1,39 +1,56 @@
 /* Frames, copies, comparisons and merging of whole messages; which member of a oneof is set, and unknown records. */
 #include "node.h"
 
-/* Two whole messages are equal where they are of one type of one pool, and have the same contents. */
+/* Compares two messages of which one is a part, by their canonical bytes. */
+static uint32_t compare_parts(Node *one, Node *two, uint32_t *is_equal)
+{
+    struct span left, right;
+    PyObject *held, *other;
+
+    if (!span_of(one, &left, &held))
+        return MB_BAD_PLACE;
+    if (!span_of(two, &right, &other)) {
+        Py_DECREF(held);
+        return MB_BAD_PLACE;
+    }
+    size_t size = (size_t)(left.end - left.at);
+    *is_equal = size == (size_t)(right.end - right.at) && memcmp(left.at, right.at, size) == 0;
+    Py_DECREF(held);
+    Py_DECREF(other);
+    return MB_DONE;
+}
+
+/* Two messages are equal where they are of one type of one pool, and have the same contents; each may be a part of another message. */
 PyObject *message_compare(PyObject *self, PyObject *other, int how)
 {
-    struct mb_message *one, *two;
-    uint32_t answer, is_equal = 1;
+    Node *one = (Node *)self, *two = (Node *)other;
+    uint32_t answer = MB_DONE, is_equal = 1;
 
-    if ((how != Py_EQ && how != Py_NE) || Py_TYPE(other) != Py_TYPE(self) || ((Node *)self)->root != NULL || ((Node *)other)->root != NULL)
+    if ((how != Py_EQ && how != Py_NE) || Py_TYPE(other) != Py_TYPE(self))
         Py_RETURN_NOTIMPLEMENTED;
-    if (((Node *)self)->type != ((Node *)other)->type)
-        return PyBool_FromLong(how == Py_NE);
-    one = whole(self);
-    two = one == NULL ? NULL : whole(other);
-    if (two == NULL)
+    if (handle_of(one) == NULL || handle_of(two) == NULL)
         return NULL;
+    if (one->type != two->type)
+        return PyBool_FromLong(how == Py_NE);
     /* The library compares two handles, and never one with itself. */
-    answer = one == two ? MB_DONE : mb_message_equal(one, two, &is_equal);
+    if (one->root != NULL || two->root != NULL)
+        answer = compare_parts(one, two, &is_equal);
+    else if (one != two)
+        answer = mb_message_equal(&one->handle, &two->handle, &is_equal);
     if (answer != MB_DONE)
-        return refuse(answer, NULL);
+        return PyErr_Occurred() ? NULL : refuse(answer, NULL);
     return PyBool_FromLong((is_equal == 1) == (how == Py_EQ));
 }
 
-const char frame_doc[] = "frame()\n--\n\nThe message as a frame of a stream: the number of its canonical bytes as a varint, and then these. type.frames reads such"
-                         " a stream.";
+const char frame_doc[] = "frame($self, /)\n--\n\nThe message as a frame of a stream: the number of its canonical bytes as a varint, and then these."
+                         " type.frames reads such a stream.";
 
-PyObject *message_frame(PyObject *self, PyObject *Py_UNUSED(ignored))
+static PyObject *frame_of(struct mb_message *handle)
 {
-    struct mb_message *handle = whole(self);
     uint8_t small[SMALL_OUTPUT];
     size_t size = 0;
-
-    if (handle == NULL)
-        return NULL;
     uint32_t answer = mb_message_frame(handle, small, sizeof small, &size);
+
     if (answer != MB_DONE)
         return refuse(answer, NULL);
     PyObject *bytes = PyBytes_FromStringAndSize(size <= sizeof small ? (const char *)small : NULL, (Py_ssize_t)size);
@@ -46,17 +63,29 @@ PyObject *message_frame(PyObject *self, PyObject *Py_UNUSED(ignored))
     return refuse(answer, NULL);
 }
 
-const char copy_doc[] = "copy()\n--\n\nA copy, which is changed by itself. copy.copy(message) and copy.deepcopy(message) are the same.";
+PyObject *message_frame(PyObject *self, PyObject *Py_UNUSED(ignored))
+{
+    Node *node = whole_of(self);
+    PyObject *bytes = node == NULL ? NULL : frame_of(&node->handle);
+
+    Py_XDECREF(node);
+    return bytes;
+}
+
+const char copy_doc[] = "copy($self, /)\n--\n\nA copy, which is changed by itself; of a part a message that is no part. copy.copy(message) and copy.deepcopy(message)"
+                        " are the same.";
 
 PyObject *message_copy(PyObject *self, PyObject *Py_UNUSED(ignored))
 {
-    struct mb_message *handle = whole(self);
-    Node *copy = handle == NULL ? NULL : new_message(((Node *)self)->type);
+    Node *node = (Node *)self;
 
+    if (node->root != NULL)
+        return (PyObject *)whole_of(self);
+    Node *copy = new_message(node->type);
     if (copy == NULL)
         return NULL;
-    copy->hint = ((Node *)self)->hint;
-    uint32_t answer = mb_message_copy(handle, &copy->handle);
+    copy->hint = node->hint;
+    uint32_t answer = mb_message_copy(&node->handle, &copy->handle);
     if (answer != MB_DONE) {
         Py_DECREF(copy);
         return refuse(answer, NULL);
@@ -70,7 +99,7 @@ PyObject *message_deep_copy(PyObject *self, PyObject *Py_UNUSED(memo))
 }
 
 const char merge_doc[] =
-"merge(data, *, max_bytes=MAX_BYTES, max_depth=MAX_DEPTH)\n--\n\nDecodes bytes onto the message, or the canonical bytes of another message of its type: "
+"merge($self, data, /, *, max_bytes=2147483647, max_depth=100)\n--\n\nDecodes bytes onto the message, or the canonical bytes of another message of its type: "
 "then it is what its canonical bytes\nfollowed by these decode to. Where they are refused the message is as it was.";
 
 /* The bytes of a message of the same type, or the data itself. */
@@ -86,29 +115,45 @@ static PyObject *merged(Node *node, PyObject *data)
     return NULL;
 }
 
+/* Merges bytes, and finds the parts that are gone then. */
+static PyObject *merge(Node *node, const struct input *in, const struct limits *limits)
+{
+    struct report report;
+
+    if (!before_merge(node))
+        return NULL;
+    uint32_t answer = mb_message_merge(&node->handle, in->at, in->len, limits->max_bytes, limits->max_depth, &report.fault, report.path, MB_MAX_STEPS);
+    if (answer != MB_DONE)
+        return refuse(answer, &report);
+    node->hint += in->len;
+    has_changed(node);
+    if (!after_merge(node))
+        return NULL;
+    Py_RETURN_NONE;
+}
+
 PyObject *message_merge(PyObject *self, PyObject *args, PyObject *kwargs)
 {
-    struct mb_message *handle = whole(self);
     PyObject *data, *bytes;
     struct limits limits;
-    struct report report;
     struct input in;
 
-    if (handle == NULL || !take_data(args, kwargs, &data, &limits) || (bytes = merged((Node *)self, data)) == NULL)
+    if (((Node *)self)->root != NULL) {
+        PyErr_SetString(PyExc_TypeError, "this is a part of a message: only a whole message is merged with");
+        return NULL;
+    }
+    if (!take_data(args, kwargs, &data, &limits) || (bytes = merged((Node *)self, data)) == NULL)
         return NULL;
     bool is_taken = take_input(bytes, &in);
     Py_DECREF(bytes);
     if (!is_taken)
         return NULL;
-    uint32_t answer = mb_message_merge(handle, in.at, in.len, limits.max_bytes, limits.max_depth, &report.fault, report.path, MB_MAX_STEPS);
-    ((Node *)self)->hint += in.len;
+    PyObject *answer = merge((Node *)self, &in, &limits);
     drop_input(&in);
-    if (answer != MB_DONE)
-        return refuse(answer, &report);
-    Py_RETURN_NONE;
+    return answer;
 }
 
-const char which_oneof_doc[] = "which_oneof(name)\n--\n\nThe name of the field that is set of a oneof, or None.";
+const char which_oneof_doc[] = "which_oneof($self, name, /)\n--\n\nThe name of the field that is set of a oneof, or None.";
 
 /* The index of the oneof of a name in a type, or -1 with an exception. */
 static Py_ssize_t oneof_index(MessageType *type, PyObject *name)
@@ -138,11 +183,11 @@ static Py_ssize_t oneof_index(MessageType *type, PyObject *name)
 PyObject *message_which_oneof(PyObject *self, PyObject *name)
 {
     Node *node = (Node *)self;
-    struct mb_message *handle = handle_of(node);
-    Py_ssize_t index = handle == NULL ? -1 : oneof_index(node->type, name);
+    Py_ssize_t index = oneof_index(node->type, name);
+    struct mb_message *handle = index < 0 ? NULL : handle_of(node);
     uint32_t number = 0;
 
-    if (index < 0)
+    if (handle == NULL)
         return NULL;
     uint32_t answer = mb_message_oneof(handle, PLACE(node), (uint32_t)index, &number);
     if (answer == MB_ABSENT)
@@ -165,6 +210,9 @@ PyObject *message_get_unknown(PyObject *self, void *Py_UNUSED(which))
     if (handle == NULL)
         return NULL;
     uint32_t answer = mb_message_unknown(handle, PLACE(node), NULL, 0, &size);
+    /* A part that is not there has none. */
+    if (answer == MB_ABSENT && node->root != NULL)
+        return PyBytes_FromStringAndSize(NULL, 0);
     if (answer != MB_DONE)
         return nothing_there(answer);
     PyObject *bytes = PyBytes_FromStringAndSize(NULL, (Py_ssize_t)size);

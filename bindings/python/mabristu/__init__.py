@@ -12,8 +12,9 @@ What is refused raises Refused, with the byte, the path and the cause; an unknow
 from ._frames import Frame, Frames
 from ._mabristu import INTERFACE, MAX_BYTES, MAX_DEPTH, Decoder, Field, List, Map, Message, MessageType, Pool, raw_check, raw_short
 from ._refused import CAUSES, Refused
-from ._schema import DeclaredEnum, DeclaredFile, DeclaredType, Difference, Schema
+from ._schema import DeclaredEnum, DeclaredFile, DeclaredType, Difference, Enum, Schema
+from . import _parts as _parts
 
 __version__ = "0.1.0"
-__all__ = ["CAUSES", "DeclaredEnum", "DeclaredFile", "DeclaredType", "Decoder", "Difference", "Field", "Frame", "Frames", "INTERFACE", "List",
+__all__ = ["CAUSES", "DeclaredEnum", "DeclaredFile", "DeclaredType", "Decoder", "Difference", "Enum", "Field", "Frame", "Frames", "INTERFACE", "List",
            "MAX_BYTES", "MAX_DEPTH", "Map", "Message", "MessageType", "Pool", "Refused", "Schema", "raw_check", "raw_short"]

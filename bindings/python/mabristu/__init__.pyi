@@ -19,6 +19,7 @@ from ._schema import (
     DeclaredFile as DeclaredFile,
     DeclaredType as DeclaredType,
     Difference as Difference,
+    Enum as Enum,
     Schema as Schema,
 )
 

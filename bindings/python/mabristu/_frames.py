@@ -49,19 +49,29 @@ class Frames:
                 frame = Frame(self._before + self._at, size, self._held[self._at + begin : self._at + size])
                 self._at, self._index = self._at + size, self._index + 1
                 return frame
-            if not self._more():
+            if not self._more(size):
                 break
         if self._at == len(self._held):
             raise StopIteration
         raise self._cut(begin if size else len(self._held) - self._at, size or None)
 
-    def _more(self):
-        """Reads on, at least as much again as is held, so that a large frame is tried but a few times. Whether there was more."""
-        rest = self._held[self._at :]
-        more = self._read(max(BLOCK, len(rest))) if self._read else b""
-        self._before += self._at
-        self._held, self._at = (rest + more if more else rest), 0
-        return bool(more)
+    def _more(self, size):
+        """Reads on until the frame of this size is there, 0 if that is not known, but at most as much again as is held: so a fault is found before the
+        frame is complete, and each byte is judged twice at most, however little a read gives. Whether there was more."""
+        held = [self._held[self._at :]]
+        has = len(held[0])
+        wanted = min(size or BLOCK, max(BLOCK, 2 * has))
+        self._before, self._at = self._before + self._at, 0
+        while self._read and has < wanted:
+            more = self._read(max(BLOCK, wanted - has))
+            if not more:
+                break
+            held.append(more)
+            has += len(more)
+            if not size:
+                break
+        self._held = b"".join(held)
+        return len(held) > 1
 
     def _placed(self, refused):
         refused.frame, refused.at = self._index, self._before + self._at

@@ -1,4 +1,4 @@
-from typing import Optional, Union
+from typing import Any, Optional, Union
 
 from ._mabristu import MessageType
 
@@ -8,11 +8,12 @@ class Refused(ValueError):
     where: str
     number: int
     cause: str
-    byte: Optional[int]
-    path: Union[None, tuple[tuple[int, int], ...], tuple[int, ...]]
-    file: Union[None, int, str]
-    name: Optional[str]
-    frame: Optional[int]
-    at: Optional[int]
+    # Each of these is None where it is not known; which are known, what is refused says.
+    byte: Union[int, Any]
+    path: Union[tuple[Any, ...], Any]
+    file: Union[int, str, Any]
+    name: Union[str, Any]
+    frame: Union[int, Any]
+    at: Union[int, Any]
     size: Optional[int]
     def names(self, message_type: MessageType) -> tuple[Union[str, int, tuple[Union[str, int], int]], ...]: ...

@@ -1,7 +1,7 @@
 """What a pool declares."""
 from collections import namedtuple
 
-__all__ = ["DeclaredEnum", "DeclaredFile", "DeclaredType", "Difference", "Schema"]
+__all__ = ["DeclaredEnum", "DeclaredFile", "DeclaredType", "Difference", "Enum", "Schema"]
 
 DeclaredFile = namedtuple("DeclaredFile", "name package imports syntax")
 DeclaredFile.__doc__ = "A file: its name, its package, how many files it imports, and its syntax, proto2 or proto3."
@@ -12,6 +12,25 @@ DeclaredEnum.__doc__ = "An enum: its full name, the name of its file, that of th
 
 Difference = namedtuple("Difference", "old new field severity")
 Difference.__doc__ = "A difference between two message types: the old and the new one, the field of the old one, and what it does, by its word in docs/COMPAT.md."
+
+
+class Enum(str):
+    """An enum: its full name, with two dicts of its values. names has the name of each number, the first where several share one; numbers has the number
+    of each name."""
+
+    names: dict
+    numbers: dict
+
+    def __new__(cls, pool, entry):
+        name, _, _, count = pool._enum(entry)
+        values = [pool._enum_value(entry, it) for it in range(count)]
+        enum = super().__new__(cls, name)
+        enum.numbers = dict(values)
+        enum.names = {number: value for value, number in reversed(values)}
+        return enum
+
+    def __reduce__(self):
+        return str, (str(self),)
 
 
 class Schema:

@@ -1,6 +1,12 @@
-from typing import NamedTuple, Optional
+from typing import Any, NamedTuple, Optional
 
 from ._mabristu import Field, MessageType, Pool
+
+class Enum(str):
+    names: dict[int, str]
+    numbers: dict[str, int]
+    def __new__(cls, pool: Pool, entry: int) -> Enum: ...
+    def __reduce__(self) -> tuple[Any, ...]: ...
 
 class DeclaredFile(NamedTuple):
     name: str

@@ -1,8 +1,8 @@
 """Messages that arrive in pieces, and the canonical bytes of JSON. The order, its listing and its JSON are those of examples/; other bytes are made by
 hand."""
 import os
-import threading
 import unittest
+from concurrent.futures import ThreadPoolExecutor
 
 import mabristu
 from mabristu import Pool, Refused
@@ -124,29 +124,35 @@ class Pieces(Shop):
         self.assertEqual(decoder.finish().encode(), self.order.canonical(self.data))
 
     def test_threads(self):
-        decoder, found = self.order.decoder(), []
-
-        def other():
-            for call in (lambda: decoder.feed(self.data), decoder.finish, lambda: decoder.pending):
-                try:
-                    call()
-                except RuntimeError as refused:
-                    found.append(refused)
-
-        self.in_a_thread(other)
-        self.assertEqual(len(found), 3)
-        decoder.feed(self.data)
-        # Decoders that another thread drops are freed here.
+        decoder = self.order.decoder()
+        for at in range(0, len(self.data), 7):
+            self.in_a_thread(lambda: decoder.feed(self.data[at : at + 7]))
+        self.assertEqual(self.in_a_thread(decoder.finish), self.order.decode(self.data))
         decoders = [self.order.decoder() for _ in range(100)]
         for it in decoders:
             it.feed(self.data[:40])
         self.in_a_thread(decoders.clear)
-        self.assertEqual(decoder.finish().encode(), self.order.canonical(self.data))
+
+    def test_two_threads_feed_one_decoder(self):
+        # While one thread feeds it long pieces without the lock, another one is refused, or waits.
+        decoder, piece, answers = self.order.decoder(), 3_000 * (b"\x1a\x09\x0a\x07bolt M8"), []
+
+        def feed():
+            for _ in range(20):
+                try:
+                    decoder.feed(piece)
+                    answers.append(1)
+                except RuntimeError as refused:
+                    self.assertEqual(str(refused), "another thread is feeding this decoder")
+
+        with ThreadPoolExecutor(3) as pool:
+            for it in [pool.submit(feed) for _ in range(3)]:
+                it.result()
+        self.assertEqual(len(decoder.finish()["lines"]), 3_000 * len(answers))
 
     def in_a_thread(self, call):
-        thread = threading.Thread(target=call)
-        thread.start()
-        thread.join()
+        with ThreadPoolExecutor(1) as pool:
+            return pool.submit(call).result()
 
 
 class Json(Shop):

@@ -3,9 +3,11 @@ import json
 import os
 import struct
 import subprocess
+import tempfile
 import unittest
 
 import mabristu
+from test_parts import SOURCE
 
 HERE = os.path.dirname(os.path.realpath(__file__))
 EXAMPLES = os.environ.get("EXAMPLES", f"{HERE}/../../../examples")
@@ -49,7 +51,7 @@ class Protobuf(unittest.TestCase):
             found["corrections"], found["discounts"] = list(order["corrections"]), dict(order["discounts"].items())
             found["lines"] = [{"article": it["article"], "pieces": it["pieces"], "price": bits(it["price"])} for it in order["lines"]]
             invoice = order["invoice"]
-            found["invoice"] = invoice and {"address": invoice["address"], "signature": invoice["signature"].hex()}
+            found["invoice"] = {"address": invoice["address"], "signature": invoice["signature"].hex()} if invoice else None
             found["numbers"] = order.numbers()
             self.assertEqual(found, {name: value for name, value in row.items() if name != "bytes"})
 
@@ -58,7 +60,113 @@ class Protobuf(unittest.TestCase):
             data = bytes.fromhex(row["bytes"])
             for name in ("number", "placed_on", "state", "card", "gift"):
                 self.assertEqual(self.order.find(data, name), row[name])
-            self.assertEqual(self.order.find(data, "invoice", "address"), row["invoice"]["address"] if row["invoice"] else "")
+            self.assertEqual(self.order.find(data, "invoice", "address"), row["invoice"]["address"] if row["invoice"] else None)
+
+
+def read_value(given):
+    """A value as changes_by_protobuf.py prints it."""
+    if isinstance(given, list) and given and given[0] == "double":
+        return struct.unpack("<d", bytes.fromhex(given[1]))[0]
+    if isinstance(given, list) and given and given[0] == "bytes":
+        return bytes.fromhex(given[1])
+    return [read_value(it) for it in given] if isinstance(given, list) else given
+
+
+def follow(message, path):
+    for step in path:
+        message = message[step]
+    return message
+
+
+def change_list(values, call, *given):
+    if call == "del":
+        del values[given[0]]
+    elif call == "set":
+        values[given[0]] = given[1]
+    else:
+        getattr(values, call)(*given)
+
+
+def change_wheels(wheels, other, call, at):
+    if call == "del":
+        del wheels[at]
+    elif call == "replace":
+        wheels[at] = other
+    elif call == "slice":
+        wheels[at : at + 2] = [other, other]
+    elif call == "append":
+        wheels.append(other)
+    else:
+        wheels.insert(at, other)
+
+
+def make(messages, which, call, path, *given):
+    message = follow(messages[which], path)
+    if call == "assign":
+        message[given[0]] = read_value(given[1])
+    elif call == "clear":
+        del message[given[0]]
+    elif call == "list":
+        change_list(message[given[0]], given[1], *[read_value(it) for it in given[2:]])
+    elif call == "put":
+        message[given[0]][given[1]] = read_value(given[2])
+    elif call == "remove":
+        del message[given[0]][given[1]]
+    elif call == "assign_part":
+        message[given[0]] = follow(messages[1 - which], given[1])
+    elif call == "put_part":
+        message[given[0]][given[1]] = follow(messages[1 - which], given[2])
+    else:
+        change_wheels(message["wheels"], follow(messages[1 - which], given[0]), *given[1:])
+
+
+def parts(message):
+    """Each message in a message, from the outside in."""
+    for field in message:
+        if field.type is not None:
+            found = message[field]
+            for it in found.values() if field.shape == "map" else found if field.shape == "list" else [found]:
+                yield it
+                yield from parts(it)
+
+
+@unittest.skipUnless(has_protobuf(), "protobuf for Python is not here")
+class Changes(unittest.TestCase):
+    """Random changes beside protobuf's: after each the bytes are the same, and parts that were kept are what they were, or are gone."""
+
+    def assert_parts(self, whole, count):
+        """A part of a large message, whose bytes are written by calls, is that of the small one, which is read of the bytes of the whole."""
+        if count % 10:
+            return
+        raw = 20_000 * b"r"
+        large = whole.type.decode(whole.encode() + b"\xc2\x01\xa0\x9c\x01" + raw)
+        for one, other in zip(parts(whole), parts(large)):
+            self.assertEqual([one.encode(), one.to_dict(), one.unknown, one.type], [other.encode(), other.to_dict(), other.unknown, other.type])
+            self.assertTrue(one == other == one.copy() == other.copy() == one.type.decode(other.encode()))
+            self.assertEqual(one.type.canonical(other.encode()), other.encode())
+            record = len(other.encode()).to_bytes(1, "little") + other.encode() if len(other.encode()) < 128 else other.encode()
+            self.assertIn(record, whole.encode())
+        self.assertEqual(large["raw"], raw)
+
+    def test_changes(self):
+        found = mabristu.Pool.of_sources({"m.proto": SOURCE})["M"]
+        with tempfile.NamedTemporaryFile() as file:
+            file.write(found.pool.to_set())
+            file.flush()
+            words = [PYTHON, f"{HERE}/changes_by_protobuf.py", file.name, os.environ.get("CHANGES", "3000"), os.environ.get("SEED", "1")]
+            made = subprocess.run(words, stdout=subprocess.PIPE, check=True).stdout
+        messages, count = (found(), found()), 0
+        for line in made.decode().splitlines():
+            step, wanted = json.loads(line)
+            if step[1] == "new":
+                messages = found(), found()
+                continue
+            make(messages, *step)
+            self.assertEqual([it.encode().hex() for it in messages], wanted, step)
+            whole = messages[step[0]]
+            self.assertEqual([found.from_dict(whole.to_dict()), found.from_dict(whole.to_dict(enums="names"))], [whole, whole])
+            self.assert_parts(whole, count)
+            count += 1
 
 
 if __name__ == "__main__":

@@ -1,6 +1,7 @@
 """The order of the shop: its bytes, listing and types are those of examples/, and the records written here are made by hand."""
 import array
 import ast
+import asyncio
 import copy
 import gc
 import json
@@ -31,6 +32,12 @@ NAMED = (b'\n\x87\x01\n\x0bnames.proto\x12\x05names"i\n\x05Shelf\x12\x1b\n\x0cdi
          b'(\x05R\x07inStock\x12(\n\x0bshelf_below\x18\x03 \x03(\x0b2\x0c.names.ShelfR\x05a "b"b\x06proto3')
 
 
+def resident():
+    """How many bytes of memory this process has."""
+    with open("/proc/self/statm", encoding="ascii") as it:
+        return int(it.read().split()[1]) * os.sysconf("SC_PAGE_SIZE")
+
+
 def framed(message):
     """A varint of one byte, then the message."""
     return bytes([len(message)]) + message
@@ -51,7 +58,9 @@ class Shop(unittest.TestCase):
 class Messages(Shop):
     def test_listing(self):
         message = self.order.decode(self.data)
-        self.assertEqual([repr(message), str(message), message.listing(), self.order.listing(self.data)], [self.listed] * 4)
+        self.assertEqual([message.listing(), self.order.listing(self.data)], [self.listed] * 2)
+        decimal = self.listed.replace("0x3fd6666666666666", "0.35").replace("0x4056600000000000", "89.5")
+        self.assertEqual([repr(message), str(message), message.listing(decimal=True), self.order.listing(self.data, decimal=True)], [decimal] * 4)
 
     def test_json(self):
         # The fields are those that protoc --decode prints of the order.
@@ -100,7 +109,7 @@ class Messages(Shop):
             rack = shelf.new()
             rack["shelf_below"].append({"display_name": 2000 * "x"})
             self.assertEqual(json.loads(rack.to_json()), {'a "b"': [{"label": 2000 * "x"}]})
-            self.assertRaises(TypeError, rack["shelf_below"][0].to_json)
+            self.assertEqual(json.loads(rack["shelf_below"][0].to_json()), {"label": 2000 * "x"})
         # A pool of sources has no such names, and neither has the set that a pool makes.
         fields = 'string display_name = 1 [json_name = "label"]; int32 in_stock = 2; repeated Shelf shelf_below = 3;'
         source = f'syntax = "proto3"; package names; message Shelf {{ {fields} }}'
@@ -222,6 +231,16 @@ class Messages(Shop):
         self.assertEqual([field.name, field.oneof, field.enum], ["e", "o", f"p.q.{outer}.E"])
 
 
+def declared(stub, is_of_class):
+    """The parameters of a function of a stub, each with its kind, but for self."""
+    of, kind = stub.args, inspect.Parameter
+    plain = [it.arg for it in of.args]
+    found = [(it.arg, kind.POSITIONAL_ONLY) for it in of.posonlyargs] + [(it, kind.POSITIONAL_OR_KEYWORD) for it in plain]
+    found += [(of.vararg.arg, kind.VAR_POSITIONAL)] if of.vararg else []
+    found += [(it.arg, kind.KEYWORD_ONLY) for it in of.kwonlyargs] + ([(of.kwarg.arg, kind.VAR_KEYWORD)] if of.kwarg else [])
+    return [(name, it.description) for name, it in found[is_of_class:] if name != "self"]
+
+
 class Stubs(unittest.TestCase):
     def test_names(self):
         """The stub declares what the module has."""
@@ -242,7 +261,23 @@ class Stubs(unittest.TestCase):
             self.assertTrue(it.__doc__)
             for name, member in vars(it).items():
                 self.assertTrue(name.startswith("__") or member.__doc__, f"{it.__name__}.{name} has no docstring")
-        self.assertEqual(inspect.signature(mabristu.raw_check).parameters.keys(), {"data", "max_bytes", "max_depth"})
+
+    def test_signatures(self):
+        """Each call has the parameters that the stub declares."""
+        with open(os.path.join(os.path.dirname(mabristu.__file__), "_mabristu.pyi"), encoding="utf-8") as it:
+            tree = ast.parse(it.read())
+        module, count = sys.modules["mabristu._mabristu"], 0
+        classes = {it.name: it.body for it in tree.body if isinstance(it, ast.ClassDef)}
+        for owner, body in [(None, tree.body), *classes.items()]:
+            for stub in (it for it in body if isinstance(it, ast.FunctionDef) and not it.name.startswith("_")):
+                is_property = any(getattr(it, "id", "") == "property" for it in stub.decorator_list)
+                if not is_property:
+                    found = inspect.signature(getattr(getattr(module, owner), stub.name) if owner else getattr(module, stub.name))
+                    wanted = declared(stub, any(getattr(it, "id", "") == "classmethod" for it in stub.decorator_list))
+                    self.assertEqual([(it.name, it.kind.description) for it in found.parameters.values() if it.name != "self"], wanted, f"{owner}.{stub.name}")
+                    count += 1
+        self.assertGreater(count, 50)
+        self.assertEqual(str(inspect.signature(mabristu.raw_check)), "(data, /, *, max_bytes=2147483647, max_depth=100)")
 
 
 class Inputs(Shop):
@@ -348,6 +383,43 @@ class Streams(Shop):
         found = [it.data == long for it in self.order.frames(Slow(length + long + length + b"\x0f" + long[1:] + length + long), skip=bad.append)]
         self.assertEqual((found, [str(it) for it in bad]), ([True, True], ["frame 1 byte 3 path - cause BadType"]))
 
+    def test_short_reads_are_linear(self):
+        class Counted(io.BytesIO):
+            """Gives at most so many bytes a read."""
+
+            def __init__(self, data, most):
+                super().__init__(data)
+                self.most = most
+
+            def read(self, size=-1):
+                return super().read(min(size, self.most))
+
+        def judged(size, most):
+            """How many bytes the library is given to judge of a frame of this size."""
+            class Type:
+                def __getattr__(_, name):
+                    return getattr(self.order, name)
+
+                def _frame(_, data, at, *limits):
+                    counts.append(len(data) - at)
+                    return self.order._frame(data, at, *limits)
+
+            counts, data = [], b"\xfa\x06" + self.length(size) + size * b"\x07"
+            found = list(mabristu.Frames(Type(), Counted(self.length(len(data)) + data, most)))
+            self.assertEqual([it.data == data for it in found], [True])
+            return sum(counts)
+
+        for most in (1, 1460, 65536):
+            self.assertLess(judged(200_000, most), 1_000_000)
+        self.assertLess(judged(8_000_000, 65536), 40_000_000)
+
+    @staticmethod
+    def length(number):
+        found = b""
+        while number > 127:
+            found, number = found + bytes([number % 128 + 128]), number // 128
+        return found + bytes([number])
+
     def test_a_length_that_is_none(self):
         self.assertEqual(self.refused(lambda: list(self.order.frames(11 * b"\x80"))).at, 0)
         bad = []
@@ -363,27 +435,44 @@ class Threads(Shop):
             self.assertEqual(set(pool.map(self.order.canonical, 12 * [data])), {expected})
             self.assertEqual(set(pool.map(lambda it: self.order.decode(it).encode(), 12 * [data])), {expected})
 
-    def test_a_message_stays_on_its_thread(self):
-        message, found = self.order.decode(self.data), []
+    def in_a_thread(self, call):
+        with ThreadPoolExecutor(1) as pool:
+            return pool.submit(call).result()
 
-        def other():
-            try:
-                message.encode()
-            except RuntimeError as refused:
-                found.append(refused)
-
-        thread = threading.Thread(target=other)
-        thread.start()
-        thread.join()
-        self.assertEqual(len(found), 1)
+    def test_a_message_on_other_threads(self):
+        message = self.in_a_thread(lambda: self.order.decode(self.data))
         self.assertEqual(message.listing(), self.listed)
+        message["number"] = 1
+        self.in_a_thread(lambda: message["lines"].append({"article": "nut"}))
+        self.assertEqual([self.in_a_thread(message.encode), len(message["lines"])], [message.encode(), 3])
+        self.assertEqual(asyncio.run(self.decoded()), self.order.decode(self.data))
+
+    async def decoded(self):
+        return await asyncio.to_thread(self.order.decode, self.data)
 
     def test_messages_dropped_by_another_thread(self):
-        messages = [self.order.decode(self.data) for _ in range(100)]
-        thread = threading.Thread(target=messages.clear)
-        thread.start()
-        thread.join()
+        # What 5,000 messages of some 20 KB take is given back.
+        for _ in range(3):
+            before = resident()
+            for _ in range(10):
+                messages = [self.order.decode(self.data + b"\xfa\x06\xa0\x9c\x01" + 20_000 * b"x") for _ in range(500)]
+                self.in_a_thread(messages.clear)
+        self.assertLess(resident() - before, 30_000_000)
         self.assertEqual(self.order.decode(self.data).listing(), self.listed)
+
+    def test_many_threads_and_one_message(self):
+        message = self.order.decode(self.data)
+
+        def work(index):
+            for _ in range(50):
+                message["number"] = index
+                message["lines"].append({"pieces": index})
+                self.assertGreater(len(message.to_dict()["lines"]), 2)
+                message.encode(), repr(message), message.copy(), list(message["lines"])[0]["article"]
+
+        with ThreadPoolExecutor(4) as pool:
+            list(pool.map(work, range(1, 5)))
+        self.assertEqual(len(message["lines"]), 2 + 4 * 50)
 
     def test_pools_are_collected(self):
         count = lambda: (gc.collect(), sum(isinstance(it, Pool) for it in gc.get_objects()))[1]
@@ -404,7 +493,6 @@ class Whole(Shop):
             self.assertEqual([it == order, it is order, it.type, it.encode()], [True, False, self.order, order.encode()])
             it["number"] = 8
             self.assertEqual([it == order, it != order, order["number"], it["number"]], [False, True, 4711, 8])
-        self.assertRaises(TypeError, order["lines"][0].copy)
         self.assertTrue(order == order)
         # Floats are compared by their bits.
         nan = Pool.of_sources({"f.proto": 'syntax = "proto3"; message F { float f = 1; }'})["F"].from_dict({"f": float("nan")})
@@ -417,8 +505,8 @@ class Whole(Shop):
         wanted = self.order.canonical(order.encode() + more)
         order.merge(memoryview(more))
         self.assertEqual(order.encode(), wanted)
-        self.assertEqual([order["number"], len(order["lines"]), order["discounts"].items(), order["card"], order["invoice"], list(order["corrections"])],
-                         [9, 3, [("loyal", 3), ("spring", 1)], "4000", None, [-1, 2, -1]])
+        self.assertEqual([order["number"], len(order["lines"]), order["discounts"].items(), order["card"], "invoice" in order, list(order["corrections"])],
+                         [9, 3, [("loyal", 3), ("spring", 1)], "4000", False, [-1, 2, -1]])
         refused = self.refused(order.merge, b"\x08\x09\x12\x05")
         self.assertEqual([refused.byte, refused.cause, order.encode()], [4, "Truncated", wanted])
         self.assertEqual(self.refused(order.merge, more, max_bytes=3).cause, "InputTooLarge")
@@ -511,7 +599,9 @@ class Parts(Shop):
 
     def test_unset_fields(self):
         order = self.order()
-        self.assertEqual([order[it] for it in ("number", "placed_on", "state", "gift", "card", "invoice")], [0, "", 0, None, None, None])
+        self.assertEqual([order[it] for it in ("number", "placed_on", "state", "gift", "card")], [0, "", 0, None, None])
+        self.assertEqual([bool(order["invoice"]), order["invoice"]["address"], order["invoice"].to_dict(), order["invoice"].numbers()], [False, "", {}, []])
+        self.assertEqual(["invoice" in order, order.encode()], [False, b""])
         self.assertEqual([len(order["lines"]), list(order["lines"]), len(order["discounts"]), order["discounts"].items()], [0, [], 0, []])
         self.assertEqual([order["discounts"].get("x"), order.numbers(), "number" in order], [None, [], False])
 
@@ -550,7 +640,7 @@ class Changes(Shop):
         order["invoice"]["signature"] = bytearray(b"ab")
         self.assertEqual([order["lines"][0]["price"], order["lines"][1]["article"], order["invoice"]["signature"]], [3.0, "nut", b"ab"])
         order["card"] = "4000"
-        self.assertEqual([order["card"], order["invoice"], "invoice" in order], ["4000", None, False])
+        self.assertEqual([order["card"], bool(order["invoice"]), "invoice" in order], ["4000", False, False])
         order["invoice"] = {"address": "Main Street 1"}
         self.assertEqual([order["card"], order["invoice"].to_dict()], [None, {"address": "Main Street 1"}])
         order["invoice"] = {}
@@ -610,7 +700,7 @@ class Changes(Shop):
         del order["number"]
         del order["lines"][0]["article"]
         del order["invoice"]
-        self.assertEqual([order["number"], "article" in order["lines"][0], order["invoice"]], [0, False, None])
+        self.assertEqual([order["number"], "article" in order["lines"][0], bool(order["invoice"])], [0, False, False])
         order = self.order.decode(b"\x08\x05\xfa\x06\x01\x07")
         order.drop_unknown()
         self.assertEqual(order.encode(), b"\x08\x05")
@@ -646,7 +736,6 @@ class Changes(Shop):
             self.assertRaises(IndexError, order[part].__delitem__, index)
         self.assertRaises(ValueError, assign, order["corrections"], 0, 2**31)
         self.assertRaises(TypeError, assign, order["corrections"], "0", 1)
-        self.assertRaises(TypeError, assign, order["corrections"], slice(0, 1), [1])
         self.assertRaises(KeyError, order["discounts"].__delitem__, "nothing")
         self.assertRaises(KeyError, assign, order["lines"], 0, {"nothing": 1})
         self.assertRaises(TypeError, order["lines"].append, {"pieces": "x"})

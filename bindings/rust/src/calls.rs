@@ -11,6 +11,7 @@ pub const NO_TYPE: u32 = 2;
 pub const PART: u32 = 5;
 pub const ABSENT: u32 = 6;
 pub const BAD_VALUE: u32 = 8;
+pub const WRONG_KIND: u32 = 22;
 pub const FAULT: u32 = 13;
 pub const MEMORY: u32 = 14;
 pub const TOO_LARGE: u32 = 31;

@@ -2,7 +2,7 @@
 use crate::report::Report;
 use crate::structs::{Bytes, Value as Given};
 use crate::value::given;
-use crate::{calls, Error, Key, Message, Part, Value};
+use crate::{calls, Error, Given as Put, Key, Message, Part, Value};
 
 type Changes = unsafe extern "C" fn(*mut crate::structs::MessageHandle, *const Given, usize, *const Bytes, usize) -> u32;
 type Puts = unsafe extern "C" fn(*mut crate::structs::MessageHandle, *const Given, usize, *const Bytes, usize, &Given) -> u32;
@@ -10,7 +10,7 @@ type Puts = unsafe extern "C" fn(*mut crate::structs::MessageHandle, *const Give
 /// A place in a message, to change what is there: `message.field_mut("lines")?.index(2).field("price")?.set(9.0)?`.
 ///
 /// A call that is refused leaves the message as it was. [`Error::NoField`]: the message whose field is to be changed is not there.
-/// [`Error::Change`] has the cause why the message refuses the change.
+/// [`Error::Change`] has the place and the cause why the message refuses the change. [`Error::BadValue`]: the field's kind does not hold the integer.
 pub struct PartMut<'a> {
     // Of a message that nothing else borrows.
     part: Part<'a>,
@@ -28,7 +28,7 @@ impl Message {
     }
 
     /// Sets a field of one value, by its simple name. The default value clears a field without presence.
-    pub fn set(&mut self, name: &str, value: impl Into<Value>) -> Result<(), Error> {
+    pub fn set(&mut self, name: &str, value: impl Into<Put>) -> Result<(), Error> {
         self.field_mut(name)?.set(value)
     }
 
@@ -38,12 +38,12 @@ impl Message {
     }
 
     /// Puts a value at the end of a list, by the simple name of its field.
-    pub fn push(&mut self, name: &str, value: impl Into<Value>) -> Result<(), Error> {
+    pub fn push(&mut self, name: &str, value: impl Into<Put>) -> Result<(), Error> {
         self.field_mut(name)?.push(value)
     }
 
     /// Puts a value under a key of a map, by the simple name of its field.
-    pub fn insert(&mut self, name: &str, key: impl Into<Key>, value: impl Into<Value>) -> Result<(), Error> {
+    pub fn insert(&mut self, name: &str, key: impl Into<Key>, value: impl Into<Put>) -> Result<(), Error> {
         self.field_mut(name)?.insert(key, value)
     }
 
@@ -81,8 +81,8 @@ impl<'a> PartMut<'a> {
 
     /// Sets the field, or the element of a list, that is here to one value: [`Value::Message`] is an empty message of the field's type, whatever its
     /// number.
-    pub fn set(&mut self, value: impl Into<Value>) -> Result<(), Error> {
-        put(&self.part, calls::mb_message_set, &value.into())
+    pub fn set(&mut self, value: impl Into<Put>) -> Result<(), Error> {
+        put(&self.part, calls::mb_message_set, value.into())
     }
 
     /// Clears the field that is here.
@@ -91,13 +91,13 @@ impl<'a> PartMut<'a> {
     }
 
     /// Puts a value at the end of the list that is here.
-    pub fn push(&mut self, value: impl Into<Value>) -> Result<(), Error> {
-        put(&self.part, calls::mb_message_push, &value.into())
+    pub fn push(&mut self, value: impl Into<Put>) -> Result<(), Error> {
+        put(&self.part, calls::mb_message_push, value.into())
     }
 
     /// Puts a value under a key of the map that is here.
-    pub fn insert(&mut self, key: impl Into<Key>, value: impl Into<Value>) -> Result<(), Error> {
-        put(&self.part.key(key), calls::mb_message_insert, &value.into())
+    pub fn insert(&mut self, key: impl Into<Key>, value: impl Into<Put>) -> Result<(), Error> {
+        put(&self.part.key(key), calls::mb_message_insert, value.into())
     }
 
     /// Removes the entry of a key of the map that is here, if it is there.
@@ -120,12 +120,33 @@ fn strings(part: &Part<'_>) -> Vec<Bytes> {
     part.keys.iter().map(|key| Bytes { at: key.as_ptr(), len: key.len() }).collect()
 }
 
-fn change(part: &Part<'_>, call: Changes) -> Result<(), Error> {
-    let strings = strings(part);
-    Report::new().judge(unsafe { call(part.message.handle(), part.steps.as_ptr(), part.steps.len(), strings.as_ptr(), strings.len()) })
+/// The same error, with the place where a change is refused.
+fn at_place(part: &Part<'_>, error: Error) -> Error {
+    match error {
+        Error::Change { cause, .. } => Error::Change { place: part.to_string(), cause },
+        error => error,
+    }
 }
 
-fn put(part: &Part<'_>, call: Puts, value: &Value) -> Result<(), Error> {
+fn change(part: &Part<'_>, call: Changes) -> Result<(), Error> {
+    let strings = strings(part);
+    let answer = unsafe { call(part.message.handle(), part.steps.as_ptr(), part.steps.len(), strings.as_ptr(), strings.len()) };
+    Report::new().judge(answer).map_err(|error| at_place(part, error))
+}
+
+/// Puts the first of the values that the field takes. Each call that is refused leaves the message as it was.
+fn put(part: &Part<'_>, call: Puts, value: Put) -> Result<(), Error> {
+    let mut refused = Err(Error::BadValue);
+    for value in value.values(part.kind) {
+        refused = put_value(part, call, &value);
+        if !matches!(refused, Err(Error::Change { cause, .. }) if cause.number() == calls::WRONG_KIND) {
+            break;
+        }
+    }
+    refused.map_err(|error| at_place(part, error))
+}
+
+fn put_value(part: &Part<'_>, call: Puts, value: &Value) -> Result<(), Error> {
     let mut strings = strings(part);
     let (given, bytes) = given(value, strings.len());
     strings.extend(bytes.map(|bytes| Bytes { at: bytes.as_ptr(), len: bytes.len() }));

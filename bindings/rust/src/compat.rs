@@ -32,7 +32,8 @@ impl Severity {
     }
 }
 
-/// A difference at the field of a number of an old type. It prints as `shop.Order 4 breaks`.
+/// A difference at the field of a number of an old type. It prints as `shop.Order 4 breaks`, and where the two types have different names as
+/// `shop.Item 1 breaks (shop.Item -> shop.Thing)`.
 #[derive(Clone, Debug, PartialEq, Eq)]
 pub struct Difference {
     /// The full name of the old type.
@@ -45,7 +46,11 @@ pub struct Difference {
 
 impl fmt::Display for Difference {
     fn fmt(&self, f: &mut fmt::Formatter<'_>) -> fmt::Result {
-        write!(f, "{} {} {}", self.old_type, self.number, self.severity.name())
+        write!(f, "{} {} {}", self.old_type, self.number, self.severity.name())?;
+        if self.old_type != self.new_type {
+            write!(f, " ({} -> {})", self.old_type, self.new_type)?;
+        }
+        Ok(())
     }
 }
 

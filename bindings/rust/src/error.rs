@@ -8,7 +8,7 @@ use std::{error, fmt, io};
 pub use crate::structs::Step;
 
 /// The cause of a refusal. docs/ERRORS.md says of each what it means.
-#[derive(Clone, Copy, Debug, PartialEq, Eq, Hash)]
+#[derive(Clone, Copy, PartialEq, Eq, Hash)]
 pub struct Cause(pub(crate) u32);
 
 /// The greatest number that a cause may have.
@@ -32,13 +32,20 @@ impl Cause {
     }
 }
 
+impl fmt::Debug for Cause {
+    fn fmt(&self, f: &mut fmt::Formatter<'_>) -> fmt::Result {
+        write!(f, "{}({})", self.name(), self.0)
+    }
+}
+
 impl fmt::Display for Cause {
     fn fmt(&self, f: &mut fmt::Formatter<'_>) -> fmt::Result {
         f.write_str(self.name())
     }
 }
 
-/// A refusal, or why else nothing was done. It prints as the line of pbtool, but for what that prints before the fault of a set.
+/// A refusal, or why else nothing was done. A refusal of bytes, a set, sources or JSON prints as the line of pbtool, but for what that prints before the
+/// fault of a set; what pbtool has no line for prints with the names of fields and types.
 #[derive(Clone, Debug, PartialEq, Eq)]
 #[non_exhaustive]
 pub enum Error {
@@ -54,15 +61,19 @@ pub enum Error {
     Json { path: Vec<u32>, cause: Cause },
     /// A JSON text is not read as a message: the byte where what is refused begins, counted from 0.
     JsonText { byte: usize, cause: Cause },
-    /// A message refuses a change.
-    Change { cause: Cause },
+    /// A message refuses a change: the place, as in `lines[2].price`.
+    Change { place: String, cause: Cause },
     /// A value is out of the range of its kind, or is a list or a map.
     BadValue,
     /// A limit is above the greatest.
     BadLimits,
-    /// The pool has no such message type.
+    /// The pool has no message type of this full name.
+    UnknownType { name: String },
+    /// The message type, by its full name, has no field or oneof of this simple name.
+    UnknownField { message_type: String, name: String },
+    /// The pool has no message type of that number.
     NoType,
-    /// The message type has no such field, or the message has nothing there.
+    /// The message has nothing there.
     NoField,
     /// What would be written has more than 2^31 - 1 bytes.
     TooLarge,
@@ -84,7 +95,7 @@ impl Error {
             | Error::Link { cause, .. }
             | Error::Json { cause, .. }
             | Error::JsonText { cause, .. }
-            | Error::Change { cause } => Some(*cause),
+            | Error::Change { cause, .. } => Some(*cause),
             Error::TooLarge => Some(Cause(calls::TOO_LARGE)),
             _ => None,
         }
@@ -107,11 +118,13 @@ impl fmt::Display for Error {
                 write!(f, "json path {} cause {cause}", dash(&numbers.join(".")))
             }
             Error::JsonText { byte, cause } => write!(f, "json byte {byte} cause {cause}"),
-            Error::Change { cause } => write!(f, "change cause {cause}"),
+            Error::Change { place, cause } => write!(f, "change at {} cause {cause}", dash(place)),
             Error::BadValue => f.write_str("the value is out of range"),
             Error::BadLimits => f.write_str("a limit is above the greatest"),
+            Error::UnknownType { name } => write!(f, "type {name} unknown"),
+            Error::UnknownField { message_type, name } => write!(f, "field {name} of {message_type} unknown"),
             Error::NoType => f.write_str("type unknown"),
-            Error::NoField => f.write_str("field unknown"),
+            Error::NoField => f.write_str("the message has nothing there"),
             Error::TooLarge => f.write_str("output cause TooLarge"),
             Error::Finished => f.write_str("the decoder is finished"),
             Error::Memory => f.write_str("memory"),

@@ -15,7 +15,7 @@ pub struct JsonForm {
     pub indented: bool,
 }
 
-/// A message, and its type. It prints as its listing.
+/// A message, and its type. It prints as its listing, with floats in decimal.
 ///
 /// It stays on its thread: that it may go to another is not proved.
 ///
@@ -147,7 +147,7 @@ impl Eq for Message {}
 
 impl fmt::Display for Message {
     fn fmt(&self, f: &mut fmt::Formatter<'_>) -> fmt::Result {
-        f.write_str(&self.listing().map_err(|_| fmt::Error)?)
+        f.write_str(&self.listing_decimal().map_err(|_| fmt::Error)?)
     }
 }
 

@@ -18,6 +18,13 @@ impl Limits {
     pub const FULL: Limits = Limits { max_bytes: calls::MAX_BYTES, max_depth: calls::MAX_DEPTH };
 }
 
+/// How JSON is read. The default: a name that no field or enum has is refused.
+#[derive(Clone, Copy, Debug, Default, PartialEq, Eq)]
+pub struct JsonInput {
+    /// Members that no field has are passed over, and so are strings that an enum does not declare.
+    pub ignore_unknown: bool,
+}
+
 /// How a field holds its values.
 #[derive(Clone, Copy, Debug, PartialEq, Eq)]
 pub enum Shape {
@@ -147,8 +154,17 @@ impl MessageType {
     /// What the field of a simple name is.
     pub fn field(&self, name: &str) -> Result<Field, Error> {
         let mut field = FieldReport::default();
-        Report::new().judge(unsafe { calls::mb_pool_field(self.pool.handle(), self.number, name.as_ptr(), name.len(), &mut field) })?;
-        Ok(Field::of(field))
+        let answer = unsafe { calls::mb_pool_field(self.pool.handle(), self.number, name.as_ptr(), name.len(), &mut field) };
+        match Report::new().judge(answer) {
+            Ok(()) => Ok(Field::of(field)),
+            Err(Error::NoField) => Err(self.unknown_field(name)),
+            Err(error) => Err(error),
+        }
+    }
+
+    /// The error that the type has no field or oneof of a name.
+    pub(crate) fn unknown_field(&self, name: &str) -> Error {
+        Error::UnknownField { message_type: self.name().unwrap_or_default(), name: name.to_owned() }
     }
 
     /// The message type of the values of a field, if they are messages.
@@ -181,19 +197,24 @@ impl MessageType {
 
     /// The message that a JSON text in UTF-8 is (ProtoJSON). A name that no field or enum has is refused.
     pub fn from_json(&self, json: impl AsRef<[u8]>) -> Result<Message, Error> {
-        self.read_json(json.as_ref(), false)
+        self.from_json_with(json, JsonInput::default())
     }
 
-    /// The message that a JSON text is. Members that no field has are passed over, and so are strings that an enum does not declare.
+    /// The message that a JSON text in UTF-8 is, read as `input` says.
+    pub fn from_json_with(&self, json: impl AsRef<[u8]>, input: JsonInput) -> Result<Message, Error> {
+        self.read_json(json.as_ref(), input.ignore_unknown)
+    }
+
+    /// As [`MessageType::from_json_with`] with `ignore_unknown`.
     pub fn from_json_lenient(&self, json: impl AsRef<[u8]>) -> Result<Message, Error> {
-        self.read_json(json.as_ref(), true)
+        self.from_json_with(json, JsonInput { ignore_unknown: true })
     }
 
-    fn read_json(&self, json: &[u8], lenient: bool) -> Result<Message, Error> {
+    fn read_json(&self, json: &[u8], ignore_unknown: bool) -> Result<Message, Error> {
         let (message, mut byte) = (Message::none(self), 0);
         let answer = unsafe {
             let (at, len, held) = (json.as_ptr(), json.len(), message.handle());
-            calls::mb_message_from_json(self.pool.handle(), self.number, at, len, lenient, held, &mut byte)
+            calls::mb_message_from_json(self.pool.handle(), self.number, at, len, ignore_unknown, held, &mut byte)
         };
         Report::new().judge(answer).map_err(|error| of_text(error, byte))?;
         Ok(message)
@@ -201,19 +222,24 @@ impl MessageType {
 
     /// The canonical bytes of the message that a JSON text in UTF-8 is, which is read as by [`MessageType::from_json`].
     pub fn canonical_from_json(&self, json: impl AsRef<[u8]>) -> Result<Vec<u8>, Error> {
-        self.write_json(json.as_ref(), false)
+        self.canonical_from_json_with(json, JsonInput::default())
     }
 
-    /// The canonical bytes of the message that a JSON text is, which is read as by [`MessageType::from_json_lenient`].
+    /// The canonical bytes of the message that a JSON text in UTF-8 is, read as `input` says.
+    pub fn canonical_from_json_with(&self, json: impl AsRef<[u8]>, input: JsonInput) -> Result<Vec<u8>, Error> {
+        self.write_json(json.as_ref(), input.ignore_unknown)
+    }
+
+    /// As [`MessageType::canonical_from_json_with`] with `ignore_unknown`.
     pub fn canonical_from_json_lenient(&self, json: impl AsRef<[u8]>) -> Result<Vec<u8>, Error> {
-        self.write_json(json.as_ref(), true)
+        self.canonical_from_json_with(json, JsonInput { ignore_unknown: true })
     }
 
-    fn write_json(&self, json: &[u8], lenient: bool) -> Result<Vec<u8>, Error> {
+    fn write_json(&self, json: &[u8], ignore_unknown: bool) -> Result<Vec<u8>, Error> {
         let mut byte = 0;
         let bytes = written(json.len(), |out, capacity, size, _, _, _| unsafe {
             let (at, len) = (json.as_ptr(), json.len());
-            calls::mb_from_json(self.pool.handle(), self.number, at, len, lenient, out, capacity, size, &mut byte)
+            calls::mb_from_json(self.pool.handle(), self.number, at, len, ignore_unknown, out, capacity, size, &mut byte)
         });
         bytes.map_err(|error| of_text(error, byte))
     }

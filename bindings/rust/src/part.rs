@@ -1,8 +1,10 @@
 //! Parts of a message.
+use crate::given::{integer_kind, integer_of};
 use crate::report::{written_alone, Report};
 use crate::structs::{Bytes, Value as Reported};
 use crate::value::{scalar, size};
 use crate::{calls, Error, Message, MessageType, Value};
+use std::fmt;
 
 const ABSENT: Error = Error::NoField;
 
@@ -17,6 +19,58 @@ pub enum Key {
     String(String),
 }
 
+impl Key {
+    /// The same key of the kind that a map's keys are declared with, where that is known and holds it.
+    fn of_kind(self, declared: Option<u32>) -> Key {
+        let number = match &self {
+            Key::Int32(key) => i128::from(*key),
+            Key::Int64(key) => i128::from(*key),
+            Key::Uint32(key) => i128::from(*key),
+            Key::Uint64(key) => i128::from(*key),
+            Key::Bool(_) | Key::String(_) => return self,
+        };
+        let value = declared.and_then(integer_kind).and_then(|kind| integer_of(kind, number));
+        value.and_then(Key::of_value).unwrap_or(self)
+    }
+
+    fn of_value(value: Value) -> Option<Key> {
+        Some(match value {
+            Value::Int32(key) => Key::Int32(key),
+            Value::Int64(key) => Key::Int64(key),
+            Value::Uint32(key) => Key::Uint32(key),
+            Value::Uint64(key) => Key::Uint64(key),
+            Value::Bool(key) => Key::Bool(key),
+            Value::String(key) => Key::String(key),
+            _ => return None,
+        })
+    }
+}
+
+macro_rules! from {
+    ($($variant:ident $kind:ty),*) => {
+        $(impl From<$kind> for Key {
+            fn from(key: $kind) -> Key {
+                Key::$variant(key)
+            }
+        })*
+    };
+}
+
+from!(Int32 i32, Int64 i64, Uint32 u32, Uint64 u64, Bool bool, String String);
+
+impl fmt::Display for Key {
+    fn fmt(&self, f: &mut fmt::Formatter<'_>) -> fmt::Result {
+        match self {
+            Key::Int32(key) => key.fmt(f),
+            Key::Int64(key) => key.fmt(f),
+            Key::Uint32(key) => key.fmt(f),
+            Key::Uint64(key) => key.fmt(f),
+            Key::Bool(key) => key.fmt(f),
+            Key::String(key) => write!(f, "{key:?}"),
+        }
+    }
+}
+
 impl From<&str> for Key {
     fn from(key: &str) -> Key {
         Key::String(key.to_owned())
@@ -29,6 +83,9 @@ pub struct Part<'a> {
     pub(crate) message: &'a Message,
     /// The type of what is there, if that is a message, or of the messages in a list or map.
     message_type: Option<MessageType>,
+    /// The declared kind of the values of the field that is here, and of its keys if it is a map, where that is known.
+    pub(crate) kind: Option<u32>,
+    key_kind: Option<u32>,
     pub(crate) steps: Vec<Reported>,
     pub(crate) keys: Vec<Vec<u8>>,
 }
@@ -36,7 +93,7 @@ pub struct Part<'a> {
 impl Message {
     /// The message itself, as a part.
     pub fn whole(&self) -> Part<'_> {
-        Part { message: self, message_type: Some(self.message_type().clone()), steps: vec![], keys: vec![] }
+        Part { message: self, message_type: Some(self.message_type().clone()), kind: None, key_kind: None, steps: vec![], keys: vec![] }
     }
 
     /// The place of a field, by its simple name.
@@ -57,12 +114,6 @@ impl Message {
     /// The value of a field, by its simple name, or None where it is not set.
     pub fn get(&self, name: &str) -> Result<Option<Value>, Error> {
         self.field(name)?.get()
-    }
-}
-
-impl From<String> for Key {
-    fn from(key: String) -> Key {
-        Key::String(key)
     }
 }
 
@@ -88,14 +139,15 @@ impl<'a> Part<'a> {
 
     /// The field of a number of the message that is here.
     pub fn number(&self, number: u32) -> Part<'a> {
-        Part { message_type: None, ..self.step(calls::FIELD, u64::from(number)) }
+        Part { message_type: None, kind: None, key_kind: None, ..self.step(calls::FIELD, u64::from(number)) }
     }
 
     /// A field of the message that is here.
     pub fn field(&self, name: &str) -> Result<Part<'a>, Error> {
         let message_type = self.message_type()?;
         let field = message_type.field(name)?;
-        Ok(Part { message_type: message_type.inner(&field), ..self.step(calls::FIELD, u64::from(field.number)) })
+        let (kind, key_kind) = (Some(field.kind), field.key);
+        Ok(Part { message_type: message_type.inner(&field), kind, key_kind, ..self.step(calls::FIELD, u64::from(field.number)) })
     }
 
     /// The value at an index, counted from 0, of the list that is here.
@@ -103,9 +155,9 @@ impl<'a> Part<'a> {
         self.step(calls::INDEX, index as u64)
     }
 
-    /// What is under a key of the map that is here.
+    /// What is under a key of the map that is here. An integer is a key of any integer kind that holds it.
     pub fn key(&self, key: impl Into<Key>) -> Part<'a> {
-        match key.into() {
+        match key.into().of_kind(self.key_kind) {
             Key::Int32(key) => self.step(calls::INT32, i64::from(key) as u64),
             Key::Int64(key) => self.step(calls::INT64, key as u64),
             Key::Uint32(key) => self.step(calls::UINT32, u64::from(key)),
@@ -192,7 +244,7 @@ impl<'a> Part<'a> {
     /// The simple name of the member that is set of a oneof of the message that is here, by the oneof's name, or None where none is.
     pub fn which_oneof(&self, name: &str) -> Result<Option<String>, Error> {
         let message_type = self.message_type()?;
-        let Some(index) = message_type.oneof_index(name)? else { return Err(Error::NoField) };
+        let Some(index) = message_type.oneof_index(name)? else { return Err(message_type.unknown_field(name)) };
         let Some(number) = self.oneof_member(index)? else { return Ok(None) };
         Ok(message_type.fields()?.into_iter().find(|declared| declared.field.number == number).map(|declared| declared.name))
     }
@@ -239,14 +291,48 @@ impl<'a> Part<'a> {
             *size = crate::value::size(&key);
             answer
         })?;
-        Ok(match scalar(&key, out) {
-            Some(Value::Int32(key)) => Key::Int32(key),
-            Some(Value::Int64(key)) => Key::Int64(key),
-            Some(Value::Uint32(key)) => Key::Uint32(key),
-            Some(Value::Uint64(key)) => Key::Uint64(key),
-            Some(Value::Bool(key)) => Key::Bool(key),
-            Some(Value::String(key)) => Key::String(key),
-            _ => return Err(Error::Answer(key.kind)),
-        })
+        scalar(&key, out).and_then(Key::of_value).ok_or(Error::Answer(key.kind))
+    }
+
+    /// The key that a step is, if it is one.
+    fn key_of_step(&self, step: &Reported) -> Option<Key> {
+        let bytes = if step.kind == calls::STRING { self.keys.get(step.number as usize)?.clone() } else { vec![] };
+        scalar(step, bytes).and_then(Key::of_value)
+    }
+
+    /// Writes a field as the name that the message type gives it, or else as its number. The answer is the type of the messages that it holds.
+    fn write_field(f: &mut fmt::Formatter<'_>, message_type: Option<MessageType>, number: u64) -> Result<Option<MessageType>, fmt::Error> {
+        let of_number = |it: &MessageType| it.fields().ok()?.into_iter().find(|declared| u64::from(declared.field.number) == number);
+        match message_type.as_ref().and_then(of_number) {
+            Some(declared) => {
+                f.write_str(&declared.name)?;
+                Ok(message_type.and_then(|it| it.inner(&declared.field)))
+            }
+            None => write!(f, "{number}").map(|()| None),
+        }
+    }
+}
+
+/// The place as its steps: `lines[2].price`, `discounts["loyal"]`. A field that no type names is its number. The message itself is an empty string.
+impl fmt::Display for Part<'_> {
+    fn fmt(&self, f: &mut fmt::Formatter<'_>) -> fmt::Result {
+        let mut message_type = Some(self.message.message_type().clone());
+        for (index, step) in self.steps.iter().enumerate() {
+            if step.kind == calls::FIELD {
+                f.write_str(if index == 0 { "" } else { "." })?;
+                message_type = Part::write_field(f, message_type, step.number)?;
+            } else if step.kind == calls::INDEX {
+                write!(f, "[{}]", step.number)?;
+            } else if let Some(key) = self.key_of_step(step) {
+                write!(f, "[{key}]")?;
+            }
+        }
+        Ok(())
+    }
+}
+
+impl fmt::Debug for Part<'_> {
+    fn fmt(&self, f: &mut fmt::Formatter<'_>) -> fmt::Result {
+        write!(f, "Part({self})")
     }
 }

@@ -117,7 +117,11 @@ impl Pool {
     /// The message type of a full name, as `shop.Order`.
     pub fn message_type(&self, name: &str) -> Result<MessageType, Error> {
         let mut number = 0;
-        Report::new().judge(unsafe { calls::mb_pool_type(self.handle(), name.as_ptr(), name.len(), &mut number) })?;
+        let answer = unsafe { calls::mb_pool_type(self.handle(), name.as_ptr(), name.len(), &mut number) };
+        Report::new().judge(answer).map_err(|error| match error {
+            Error::NoType => Error::UnknownType { name: name.to_owned() },
+            error => error,
+        })?;
         Ok(MessageType { pool: self.try_clone()?, number, limits: Limits::FULL })
     }
 }

@@ -26,7 +26,7 @@ impl Report {
             calls::NO_TYPE => Error::NoType,
             calls::ABSENT => Error::NoField,
             calls::BAD_VALUE => Error::BadValue,
-            21..=30 => Error::Change { cause: Cause(answer) },
+            21..=30 => Error::Change { place: String::new(), cause: Cause(answer) },
             calls::TOO_LARGE => Error::TooLarge,
             calls::FINISHED => Error::Finished,
             calls::MEMORY => Error::Memory,

@@ -3,7 +3,7 @@ use crate::calls;
 use crate::message_type::{kind_name, text, Field};
 use crate::report::{written_alone, Report};
 use crate::structs::{Counts, Enum as EnumReport, Field as FieldReport, File as FileReport, Type as TypeReport};
-use crate::{Error, MessageType, Pool, Shape, Step};
+use crate::{Error, Limits, MessageType, Pool, Shape, Step};
 use std::{fmt, ptr};
 
 /// A file.
@@ -66,10 +66,27 @@ fn parent(nested: u32, number: usize) -> Option<usize> {
 
 // SAFETY, of each call: as in pool.rs.
 impl Pool {
-    /// What the pool declares.
-    pub fn schema(&self) -> Result<Schema, Error> {
+    fn counts(&self) -> Result<Counts, Error> {
         let mut counts = Counts::default();
         Report::new().judge(unsafe { calls::mb_pool_counts(self.handle(), &mut counts) })?;
+        Ok(counts)
+    }
+
+    /// The message types, in the order of the set.
+    pub fn message_types(&self) -> Result<impl Iterator<Item = MessageType>, Error> {
+        let (pool, count) = (self.try_clone()?, self.counts()?.messages as u32);
+        Ok((0..count).map(move |number| MessageType { pool: pool.clone(), number, limits: Limits::FULL }))
+    }
+
+    /// The enums, in the order of the set.
+    pub fn enums(&self) -> Result<impl Iterator<Item = DeclaredEnum>, Error> {
+        let enums = (0..self.counts()?.enums).map(|entry| self.declared_enum(entry)).collect::<Result<Vec<_>, _>>()?;
+        Ok(enums.into_iter())
+    }
+
+    /// What the pool declares.
+    pub fn schema(&self) -> Result<Schema, Error> {
+        let counts = self.counts()?;
         Ok(Schema {
             files: (0..counts.files).map(|index| self.file(index)).collect::<Result<_, _>>()?,
             messages: (0..counts.messages as u32).map(|number| self.declared_type(number)).collect::<Result<_, _>>()?,

@@ -81,16 +81,66 @@ fn refuses() -> Result<(), Error> {
     let mut order = order();
     let before = order.encode()?;
     let cause = |answer: Result<(), Error>| answer.unwrap_err().cause().map(|it| (it.number(), it.name()));
-    assert_eq!(cause(order.set("number", 1)), Some((22, "WrongKind")));
+    assert_eq!(cause(order.set("number", Value::Int32(1))), Some((22, "WrongKind")));
+    assert_eq!(cause(order.set("number", "1")), Some((22, "WrongKind")));
+    assert_eq!(order.set("number", -1), Err(Error::BadValue));
+    assert_eq!(order.field_mut("lines")?.index(0).field("pieces")?.set(1u64 << 31), Err(Error::BadValue));
     assert_eq!(cause(order.push("number", 1u64)), Some((23, "WrongShape")));
     assert_eq!(cause(order.whole_mut().number(99).set(1)), Some((21, "NoSuchField")));
-    assert_eq!(order.set("nothing", 1), Err(Error::NoField));
+    assert_eq!(order.set("nothing", 1).unwrap_err().to_string(), "field nothing of shop.Order unknown");
     assert_eq!(order.set("lines", Value::List(1)), Err(Error::BadValue));
     assert_eq!(order.field_mut("lines")?.index(5).number(2).set(1), Err(Error::NoField));
-    assert_eq!(order.set("number", 1).unwrap_err().to_string(), "change cause WrongKind");
+    let refused = order.set("number", "1").unwrap_err();
+    assert_eq!(refused.to_string(), "change at number cause WrongKind");
+    assert_eq!(format!("{refused:?}"), r#"Change { place: "number", cause: WrongKind(22) }"#);
+    let refused = order.field_mut("lines")?.index(1).field("price")?.set("1").unwrap_err();
+    assert_eq!(refused.to_string(), "change at lines[1].price cause WrongKind");
+    assert_eq!(order.insert("discounts", "a", "1").unwrap_err().to_string(), r#"change at discounts["a"] cause WrongKind"#);
+    assert_eq!(order.whole_mut().number(99).set(1).unwrap_err().to_string(), "change at 99 cause NoSuchField");
     assert_eq!(order.encode()?, before);
     let mut other = order.message_type().decode(b"\x08\x05\xfa\x06\x01\x07")?;
     other.whole_mut().drop_unknown()?;
     assert_eq!(other.encode()?, b"\x08\x05");
+    Ok(())
+}
+
+/// A field of each integer kind, of an enum and of a map with each integer kind of keys, numbered from 1 on.
+const INTEGERS: &str = r#"syntax = "proto3"; message T { int32 a = 1; int64 b = 2; uint32 c = 3; uint64 d = 4; sint32 e = 5; sint64 f = 6;
+    fixed32 g = 7; fixed64 h = 8; sfixed32 i = 9; sfixed64 j = 10; E k = 11; repeated int64 l = 12; map<uint64, uint32> m = 13; map<sint32, T> n = 14; }
+    enum E { ZERO = 0; ONE = 1; }"#;
+
+#[test]
+fn takes_integers() -> Result<(), Error> {
+    let integers = Pool::of_sources([("t.proto", INTEGERS)])?.message_type("T")?;
+    let mut message = integers.empty()?;
+    for name in ["a", "b", "c", "d", "e", "f", "g", "h", "i", "j", "k"] {
+        message.set(name, 1)?;
+        message.set(name, 1u8)?;
+        message.set(name, 1usize)?;
+    }
+    message.push("l", 7)?;
+    message.field_mut("l")?.push(i64::MIN)?;
+    message.field_mut("l")?.index(0).set(8u32)?;
+    message.insert("m", 5, 6)?;
+    message.insert("n", 5u64, Value::Message(0))?;
+    message.field_mut("n")?.key(5).field("a")?.set(-1)?;
+    assert_eq!(message.field("m")?.key(5).get()?, Some(Value::Uint32(6)));
+    assert_eq!(message.field("n")?.key(5i64).field("a")?.get()?, Some(Value::Int32(-1)));
+    assert_eq!(
+        message.field("n")?.entries()?.map(|(key, it)| (key, it.to_string())).collect::<Vec<_>>(),
+        [(Key::Int32(5), "n[5]".to_owned())]
+    );
+    // What protoc --encode of libprotobuf 3.21.12 makes of the same fields in its text format, from a to l.
+    let wanted = b"\x08\x01\x10\x01\x18\x01\x20\x01\x28\x02\x30\x02\x3d\x01\0\0\0\x41\x01\0\0\0\0\0\0\0\x4d\x01\0\0\0\x51\x01\0\0\0\0\0\0\0\x58\x01\x62\x0b\x08\x80\x80\x80\x80\x80\x80\x80\x80\x80\x01";
+    assert!(message.encode()?.starts_with(wanted));
+    // By numbers alone, where the field's kind is not known before.
+    for number in 1..=11 {
+        message.whole_mut().number(number).set(1)?;
+    }
+    for (name, number) in [("a", 1i64 << 31), ("c", -1), ("d", -1), ("k", 1 << 40)] {
+        assert_eq!(message.set(name, number), Err(Error::BadValue));
+    }
+    assert_eq!(message.set("b", u64::MAX), Err(Error::BadValue));
+    assert_eq!(message.insert("m", -1, 6).unwrap_err().to_string(), "change at m[-1] cause WrongKind");
     Ok(())
 }

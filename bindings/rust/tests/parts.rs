@@ -11,14 +11,18 @@ fn order() -> Message {
 }
 
 #[test]
-fn reads_scalars() {
+fn reads_scalars() -> Result<(), Error> {
     let order = order();
     assert_eq!(order.get("number"), Ok(Some(Value::Uint64(4711))));
     assert_eq!(order.get("placed_on"), Ok(Some(Value::String("2024-05-17".to_owned()))));
     assert_eq!(order.get("state"), Ok(Some(Value::Enum(1))));
     assert_eq!(order.get("gift"), Ok(Some(Value::Bool(false))));
     assert_eq!(order.get("card"), Ok(None));
-    assert_eq!(order.get("nothing"), Err(Error::NoField));
+    let unknown = order.get("nothing").unwrap_err();
+    assert_eq!(unknown, Error::UnknownField { message_type: "shop.Order".to_owned(), name: "nothing".to_owned() });
+    assert_eq!(unknown.to_string(), "field nothing of shop.Order unknown");
+    assert_eq!(order.field("lines")?.index(9).get()?, None);
+    Ok(())
 }
 
 #[test]
@@ -54,4 +58,18 @@ fn finds_in_bytes() {
     assert_eq!(order.find(&bytes[..50], &["number"]).unwrap_err().to_string(), "byte 50 path 3[1].1[0] cause Truncated");
     let long = [&[0x12, 0xb8, 0x17][..], &[b'a'; 3000]].concat();
     assert_eq!(order.find(&long, &["placed_on"]), Ok(Some(Value::String("a".repeat(3000)))));
+}
+
+#[test]
+fn places_print_as_their_steps() -> Result<(), Error> {
+    let order = order();
+    let price = order.field("lines")?.index(1).field("price")?;
+    assert_eq!((price.to_string(), format!("{price:?}")), ("lines[1].price".to_owned(), "Part(lines[1].price)".to_owned()));
+    assert_eq!(order.whole().number(3).index(0).number(3).to_string(), "lines[0].price");
+    assert_eq!(order.field("discounts")?.key("a\"b").to_string(), r#"discounts["a\"b"]"#);
+    assert_eq!(order.whole().number(99).number(1).to_string(), "99.1");
+    assert_eq!(order.whole().to_string(), "");
+    assert_eq!(order.field("discounts")?.field("key").unwrap_err(), Error::NoField);
+    assert_eq!(order.field("lines")?.index(0).field("cost").unwrap_err().to_string(), "field cost of shop.Line unknown");
+    Ok(())
 }

@@ -23,7 +23,7 @@ fn decodes_pieces() -> Result<(), Error> {
     let (order, bytes) = (order(), example("shop_order.bin"));
     for size in [1, 2, 3, 7, bytes.len()] {
         let message = in_pieces(&order, &bytes, size)?;
-        assert_eq!(message.to_string().as_bytes(), example("shop_order.show.txt"));
+        assert_eq!(message.listing()?.as_bytes(), example("shop_order.show.txt"));
         assert_eq!(message.encode()?, order.canonical(&bytes)?);
     }
     assert_eq!(order.decoder()?.finish()?, order.empty()?);

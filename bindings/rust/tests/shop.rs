@@ -1,5 +1,5 @@
 //! The order of the shop: its bytes, listing and types are those of examples/, and the records written here are made by hand.
-use mabristu::{raw_check, raw_short, Error, JsonForm, Limits, MessageType, Pool, Shape, Step, StreamError};
+use mabristu::{raw_check, raw_short, Error, JsonForm, JsonInput, Limits, MessageType, Pool, Shape, Step, StreamError};
 use std::{fs, thread};
 
 fn example(name: &str) -> Vec<u8> {
@@ -20,8 +20,12 @@ fn lists_as_pbtool_does() {
     let (order, bytes) = (order(), example("shop_order.bin"));
     let listing = String::from_utf8(example("shop_order.show.txt")).unwrap();
     assert_eq!(order.listing(&bytes).unwrap(), listing);
-    assert_eq!(order.decode(&bytes).unwrap().to_string(), listing);
-    assert_eq!(format!("{:?}", order.decode(&bytes).unwrap()), listing);
+    let message = order.decode(&bytes).unwrap();
+    assert_eq!(message.listing().unwrap(), listing);
+    // A message prints with its floats in decimal.
+    let decimal = listing.replace("0x3fd6666666666666", "0.35").replace("0x4056600000000000", "89.5");
+    assert_eq!(message.to_string(), decimal);
+    assert_eq!(format!("{message:?}"), decimal);
 }
 
 #[test]
@@ -95,7 +99,11 @@ fn reads_json() {
     assert_eq!(order.from_json("{}").unwrap(), order.empty().unwrap());
     let error = order.from_json(r#"{"number":1,"nothing":2}"#).unwrap_err();
     assert_eq!(error.to_string(), "json byte 12 cause UnknownName");
-    assert_eq!(order.from_json_lenient(r#"{"number":"1","nothing":2}"#).unwrap().encode().unwrap(), [0x08, 0x01]);
+    let (json, ignoring) = (r#"{"number":"1","nothing":2,"state":"LOST"}"#, JsonInput { ignore_unknown: true });
+    assert_eq!(order.from_json_with(json, ignoring).unwrap().encode().unwrap(), [0x08, 0x01]);
+    assert_eq!(order.canonical_from_json_with(json, ignoring).unwrap(), [0x08, 0x01]);
+    assert_eq!(order.from_json_lenient(json).unwrap().encode().unwrap(), [0x08, 0x01]);
+    assert!(order.from_json_with(json, JsonInput::default()).is_err());
     assert_eq!(order.from_json(r#"{"number":true}"#).unwrap_err().to_string(), "json byte 10 cause BadValue");
     assert_eq!(order.from_json("{").unwrap_err().cause().map(|cause| cause.number()), Some(102));
 }
@@ -191,8 +199,19 @@ fn names_types_and_fields() {
     assert_eq!(order.field("number").unwrap().shape, Shape::Implicit);
     assert_eq!(order.inner(&lines).unwrap().field("price").unwrap().kind, 1);
     assert!(order.inner(&order.field("number").unwrap()).is_none());
-    assert_eq!(order.field("nothing"), Err(Error::NoField));
-    assert_eq!(order.pool().message_type("shop.Nothing").err(), Some(Error::NoType));
+    let unknown = order.field("nothing").unwrap_err();
+    assert_eq!(unknown, Error::UnknownField { message_type: "shop.Order".to_owned(), name: "nothing".to_owned() });
+    let unknown = order.pool().message_type("shop.Nothing").err().unwrap();
+    assert_eq!(
+        (&unknown, unknown.to_string().as_str()),
+        (&Error::UnknownType { name: "shop.Nothing".to_owned() }, "type shop.Nothing unknown")
+    );
+    let names: Vec<_> = order.pool().message_types().unwrap().map(|it| it.name().unwrap()).collect();
+    assert_eq!(names, ["shop.Order", "shop.Line", "shop.Invoice"]);
+    let enums: Vec<_> = order.pool().enums().unwrap().map(|it| (it.name, it.values.len())).collect();
+    assert_eq!(enums, [("shop.State".to_owned(), 3)]);
+    let line = order.pool().message_types().unwrap().nth(1).unwrap();
+    assert_eq!(line.decode(b"\x10\x05").unwrap().get("pieces").unwrap(), Some(mabristu::Value::Int32(5)));
 }
 
 #[test]

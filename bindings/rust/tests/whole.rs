@@ -58,7 +58,7 @@ fn oneofs_and_unknown_records() -> Result<(), Error> {
     order.set("invoice", Value::Message(0))?;
     assert_eq!(order.which_oneof("payment")?.as_deref(), Some("invoice"));
     assert_eq!((order.whole().oneof_member(0)?, order.whole().oneof_member(9)?), (Some(6), None));
-    assert_eq!(order.which_oneof("nothing"), Err(Error::NoField));
+    assert_eq!(order.which_oneof("nothing").unwrap_err().to_string(), "field nothing of shop.Order unknown");
     // By hand: field 99 is 2, in two bytes; the shortest encoding has one.
     assert_eq!(order.unknown()?, b"");
     order.merge(b"\x98\x06\x82\x00")?;
@@ -109,6 +109,8 @@ fn two_versions() -> Result<(), Error> {
     assert_eq!(all, wanted);
     let first = Difference { old_type: "M".to_owned(), new_type: "M".to_owned(), number: 1, severity: Severity::Breaks };
     assert_eq!((&found[0], found[0].to_string()), (&first, "M 1 breaks".to_owned()));
+    let renamed = Difference { new_type: "N".to_owned(), ..first };
+    assert_eq!(renamed.to_string(), "M 1 breaks (M -> N)");
     assert_eq!(old.compat(&old)?, []);
     // An int64 is a varint, and a double has eight bytes: the new type takes the record for an unknown one.
     let shown = old.witness(&new, &found[0])?.expect("a witness");

@@ -7,12 +7,12 @@ use Rattle.pb_descr.specs.declared.cause.DeclCause.{DeclCause}
 use Rattle.pb_descr.specs.declared.cause.DeclCause.TheVariants as decl
 use Rattle.pb_descr.specs.declared.error.DescrError.{DescrError}
 use Rattle.pb_descr.specs.declared.error.DescrError.TheVariants as descr
-use Rattle.pb_rules.specs.CauseName.{cause_number}
-use Rattle.pb_rules.specs.declared.cause.LinkCause.{LinkCause}
-use Rattle.pb_rules.specs.declared.cause.LinkCause.TheVariants as link
-use Rattle.pb_tokens.specs.CauseName.{number_of as source_number}
-use Rattle.pb_tokens.specs.declared.fault.SourceCause.{SourceCause}
-use Rattle.pb_tokens.specs.declared.fault.SourceCause.TheVariants as source
+use Rattle.pb_link_rules.specs.CauseName.{cause_number}
+use Rattle.pb_link_rules.specs.declared.cause.LinkCause.{LinkCause}
+use Rattle.pb_link_rules.specs.declared.cause.LinkCause.TheVariants as link
+use Rattle.pb_source_tokens.specs.CauseName.{number_of as source_number}
+use Rattle.pb_source_tokens.specs.declared.fault.SourceCause.{SourceCause}
+use Rattle.pb_source_tokens.specs.declared.fault.SourceCause.TheVariants as source
 use Rattle.pb_c.specs.declared.pool.compile.Unparsed.{Unparsed}
 use Rattle.pb_c.specs.declared.pool.compile.Unparsed.TheVariants.{Source, Memory}
 use Rattle.pb_c.specs.PoolFault.{PoolFault, answer_of, set_fault}

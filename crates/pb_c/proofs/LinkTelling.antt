@@ -8,12 +8,12 @@ use Rattle.pb_descr.specs.Lenient.{IsUnreadLeniently}
 use Rattle.pb_descr.specs.Sets.{IsUnread}
 use Rattle.pb_descr.specs.declared.error.DescrError.{DescrError}
 use Rattle.pb_descr.specs.declared.error.DescrError.TheVariants as descr
-use Rattle.pb_rules.specs.Faults.{LinkFault, IsUnlinked}
-use Rattle.pb_rules.specs.declared.cause.LinkCause.{LinkCause}
-use Rattle.pb_rules.specs.declared.error.LinkError.{LinkError}
-use Rattle.pb_rules.specs.declared.error.LinkError.TheVariants as link
+use Rattle.pb_link_rules.specs.Faults.{LinkFault, IsUnlinked}
+use Rattle.pb_link_rules.specs.declared.cause.LinkCause.{LinkCause}
+use Rattle.pb_link_rules.specs.declared.error.LinkError.{LinkError}
+use Rattle.pb_link_rules.specs.declared.error.LinkError.TheVariants as link
 use Rattle.pb_source.specs.declared.reading.Reading.{Reading}
-use Rattle.pb_tokens.specs.declared.fault.SourceCause.{SourceCause}
+use Rattle.pb_source_tokens.specs.declared.fault.SourceCause.{SourceCause}
 use Rattle.pb_c.specs.declared.pool.compile.Unparsed.{Unparsed}
 use Rattle.pb_c.specs.declared.pool.compile.Unparsed.TheVariants.{Source, Memory}
 use Rattle.pb_c.specs.PoolFault.{PoolFault, link_fault, set_fault}

@@ -6,7 +6,7 @@ use Rattle.pb_declarations.specs.One.{ExactlyOne}
 use Rattle.pb_descr.specs.Sets.{SetFault}
 use Rattle.pb_link.specs.Linking.{Links}
 use Rattle.pb_link.proofs.OnePool.{one_pool}
-use Rattle.pb_rules.specs.Faults.{LinkFault, ToldFault}
+use Rattle.pb_link_rules.specs.Faults.{LinkFault, ToldFault}
 use Rattle.pb_c.specs.PoolFault.{PoolFault}
 use Rattle.pb_c.specs.SetPool.{FilesFail, FilesMake}
 

@@ -2,9 +2,9 @@
 use Rattle.std.proofs.Common.{◌≡◌, ℕ, zero, suc, List, [], ◌∷◌, refl, ap, subst, sym, ◌∙◌}
 use Rattle.pb_schema.specs.Types.{Types}
 use Rattle.pb_declarations.specs.Decls.{DeclaredFile}
-use Rattle.pb_tokens.specs.Fault.{fault}
-use Rattle.pb_tokens.specs.declared.fault.SourceCause.{SourceCause}
-use Rattle.pb_tokens.specs.declared.fault.SourceFault.{SourceFault}
+use Rattle.pb_source_tokens.specs.Fault.{fault}
+use Rattle.pb_source_tokens.specs.declared.fault.SourceCause.{SourceCause}
+use Rattle.pb_source_tokens.specs.declared.fault.SourceFault.{SourceFault}
 use Rattle.pb_source.specs.declared.reading.Reading.{Reading}
 use Rattle.pb_source.specs.declared.reading.Reading.TheVariants.{Strict, Lenient}
 use Rattle.pb_source.specs.Source.{IsSourceIn, HasFaultIn}
@@ -12,7 +12,7 @@ use Rattle.pb_source.proofs.OneSource.{one_file_in}
 use Rattle.pb_link.specs.Linking.{Links}
 use Rattle.pb_link.proofs.EnumMapLemmas.{lists_same}
 use Rattle.pb_link.proofs.OnePool.{one_pool}
-use Rattle.pb_rules.specs.Faults.{LinkFault}
+use Rattle.pb_link_rules.specs.Faults.{LinkFault}
 use Rattle.pb_c.specs.PoolFault.{PoolFault}
 use Rattle.pb_c.specs.SourcePool.{Bytes, AreRead, AreSources, IsLinkedAs, SourceFails, SourcesFail, SourcesMake}
 use Rattle.pb_c.proofs.OneSetPool.{of_files}

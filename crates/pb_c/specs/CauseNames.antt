@@ -5,12 +5,12 @@ use Rattle.pb_wire.specs.CauseName.{number_of as wire_number, name_of as wire_na
 use Rattle.pb_wire.specs.declared.fault.Cause.{Cause}
 use Rattle.pb_value.specs.ErrorName.{number_of as value_number, name_of as value_name}
 use Rattle.pb_value.specs.declared.error.ValueError.{ValueError}
-use Rattle.pb_tokens.specs.CauseName.{number_of as source_number, name_of as source_name}
-use Rattle.pb_tokens.specs.declared.fault.SourceCause.{SourceCause}
+use Rattle.pb_source_tokens.specs.CauseName.{number_of as source_number, name_of as source_name}
+use Rattle.pb_source_tokens.specs.declared.fault.SourceCause.{SourceCause}
 use Rattle.pb_descr.specs.CauseName.{number_of as set_number, name_of as set_name}
 use Rattle.pb_descr.specs.declared.cause.DeclCause.{DeclCause}
-use Rattle.pb_rules.specs.CauseName.{cause_number as link_number, cause_name as link_name}
-use Rattle.pb_rules.specs.declared.cause.LinkCause.{LinkCause}
+use Rattle.pb_link_rules.specs.CauseName.{cause_number as link_number, cause_name as link_name}
+use Rattle.pb_link_rules.specs.declared.cause.LinkCause.{LinkCause}
 use Rattle.pb_json.specs.CauseName.{name_of as json_name}
 use Rattle.pb_json.specs.declared.error.JsonCause.{JsonCause}
 use Rattle.pb_json_read.specs.Faults.{name_of as read_name}

@@ -5,12 +5,12 @@ use Rattle.pb_descr.specs.CauseName.{number_of as decl_number}
 use Rattle.pb_descr.specs.declared.cause.DeclCause.{DeclCause}
 use Rattle.pb_descr.specs.declared.error.DescrError.{DescrError}
 use Rattle.pb_descr.specs.declared.error.DescrError.TheVariants as descr
-use Rattle.pb_rules.specs.CauseName.{cause_number}
-use Rattle.pb_rules.specs.declared.cause.LinkCause.{LinkCause}
-use Rattle.pb_rules.specs.declared.error.LinkError.{LinkError}
-use Rattle.pb_rules.specs.declared.error.LinkError.TheVariants as link
-use Rattle.pb_tokens.specs.CauseName.{number_of as source_number}
-use Rattle.pb_tokens.specs.declared.fault.SourceCause.{SourceCause}
+use Rattle.pb_link_rules.specs.CauseName.{cause_number}
+use Rattle.pb_link_rules.specs.declared.cause.LinkCause.{LinkCause}
+use Rattle.pb_link_rules.specs.declared.error.LinkError.{LinkError}
+use Rattle.pb_link_rules.specs.declared.error.LinkError.TheVariants as link
+use Rattle.pb_source_tokens.specs.CauseName.{number_of as source_number}
+use Rattle.pb_source_tokens.specs.declared.fault.SourceCause.{SourceCause}
 use Rattle.pb_c.specs.declared.pool.refusal.Refusal.{Refusal}
 use Rattle.pb_c_reports.specs.declared.reporting.FaultReport.{FaultReport}
 use Rattle.pb_c_reports.specs.declared.reporting.Step.{Step}

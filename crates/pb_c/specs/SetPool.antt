@@ -12,7 +12,7 @@ use Rattle.pb_descr.specs.Sets.{IsSetOf, IsSetText, SetFault, HasSetFault, set_b
 use Rattle.pb_descr.specs.Without.{without_parts}
 use Rattle.pb_link.specs.Linking.{Links}
 use Rattle.pb_link.specs.ToDecls.{decls_of}
-use Rattle.pb_rules.specs.Faults.{LinkFault}
+use Rattle.pb_link_rules.specs.Faults.{LinkFault}
 use Rattle.pb_c.specs.PoolFault.{PoolFault}
 
 -- ---- however a set is read

@@ -7,10 +7,10 @@ use Rattle.pb_declarations.specs.Decls.{DeclaredFile}
 use Rattle.pb_source.specs.declared.reading.Reading.{Reading}
 use Rattle.pb_source.specs.declared.reading.Reading.TheVariants.{Strict, Lenient}
 use Rattle.pb_source.specs.Source.{IsSourceIn, HasFaultIn}
-use Rattle.pb_tokens.specs.declared.fault.SourceCause.{SourceCause}
+use Rattle.pb_source_tokens.specs.declared.fault.SourceCause.{SourceCause}
 use Rattle.pb_link.specs.EnumMaps.{ListsEnumMaps}
 use Rattle.pb_link.specs.Linking.{Links}
-use Rattle.pb_rules.specs.Faults.{LinkFault}
+use Rattle.pb_link_rules.specs.Faults.{LinkFault}
 use Rattle.pb_c.specs.declared.pool.compile.Unparsed.{Unparsed}
 use Rattle.pb_c.specs.declared.pool.compile.Unparsed.TheVariants.{Source, Memory}
 use Rattle.pb_c.specs.PoolFault.{PoolFault}

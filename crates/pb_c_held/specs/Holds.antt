@@ -1,5 +1,5 @@
 -- What is held of a message, as the message that it is.
-use Rattle.std.specs.Prelude.{ℕ}
+use Rattle.std.specs.Prelude.{⊤, ℕ}
 use Rattle.pb_wire.specs.Inside.{records_spelled}
 use Rattle.pb_schema.specs.Types.{Types}
 use Rattle.pb_value.specs.Data.{Message}
@@ -15,6 +15,11 @@ use Rattle.pb_c_held.specs.declared.held.Held.TheVariants as held
 abbrev pub body_held : Types → ℕ → Held → Message
 body_held pool m (held.Bytes b) = value pool m (records_spelled b.items)
 body_held pool m (held.Fields b) = body_view b
+
+-- the fields themselves are held
+abbrev pub HoldsFields : Held → Type 0
+HoldsFields (held.Bytes b) = ⊥
+HoldsFields (held.Fields b) = ⊤
 
 -- the message of a type that is held
 abbrev pub message_held : Types → ℕ → Held → Dynamic

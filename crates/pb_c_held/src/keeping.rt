@@ -1,6 +1,6 @@
 //! Canonical bytes that are held in place of a message's fields, which are built of them when they are needed.
 
-ghost use Rattle.std.specs.Prelude.{◌≡◌, ◌<◌, ℕ, length, IfOk, IfSome, None};
+ghost use Rattle.std.specs.Prelude.{◌≡◌, ◌≢◌, ◌<◌, ℕ, length, IfOk, IfSome, None};
 ghost use Rattle.pb_wire.specs.Inside.{records_spelled};
 ghost use Rattle.pb_schema.specs.Rules.{IsPool};
 ghost use Rattle.pb_schema.specs.Types.{Types};
@@ -9,7 +9,7 @@ ghost use Rattle.pb_value.specs.Value.{value};
 ghost use Rattle.pb_value.specs.View.{body_view};
 ghost use Rattle.pb_value.specs.WellFormed.{IsWellFormed};
 ghost use Rattle.pb_canonical.specs.Canonical.{IsCanonical};
-ghost use Rattle.pb_c_held.specs.Holds.{IsHeld, body_held};
+ghost use Rattle.pb_c_held.specs.Holds.{HoldsFields, IsHeld, body_held};
 
 use crate::held::Held;
 use pb_decode::decode;
@@ -58,7 +58,7 @@ fn build(alloc: Global, pool: &Pool, message_type: MessageId, bytes: &[u8]) -> O
 }
 
 /// Takes out the fields of a message, built first where its bytes are held. Where memory runs out for that, there are none, and what is held is
-/// as before.
+/// as before. Fields that are held are always given.
 pub fn take_body(
     alloc: Global,
     pool: &Pool,
@@ -70,6 +70,7 @@ pub fn take_body(
     ensures body { IfSome result (λ b. body_view b ≡ body_held pool.now message_type.0 held.old) }
     ensures well_formed { IfSome result (λ b. IsWellFormed pool.now message_type.0 (body_view b)) }
     ensures kept { result ≡ None → held.new ≡ held.old }
+    ensures fields { HoldsFields held.old → result ≢ None }
 {
     let nothing = Held::Fields(empty_body(alloc));
     match mem::replace(held, nothing) {

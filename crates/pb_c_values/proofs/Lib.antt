@@ -6,3 +6,5 @@ pub mod StepLemmas
 pub mod KeyLemmas
 -- the numbers of fields
 pub mod FieldLemmas
+-- small cases of the definitions
+pub mod Rows

@@ -1,6 +1,7 @@
 //! What is asked of places that C says.
 
 use super::schema::Schema;
+use pb_c_keys::{KeyCounts, keys_at};
 use pb_c_values::{
     Miss, PlainValue, bytes_at, fields_at, key_at, key_bytes, key_value, oneof_at, unknown_at,
     value_at,
@@ -76,6 +77,28 @@ const OTHERS: &str = "
 1:i5 | fields 1 99.1 | bad
 ";
 
+/// The keys of a map from an index on, into two buffers: the number is a hundred times the index, and ten times how many keys the one holds, and
+/// how many bytes the other. The answer is how many keys there are and how many bytes their strings have, and then what the buffers have.
+const KEYS_OF_MAPS: &str = "
+9:{ta=i8,tk=i4} | keys 29 21.9 | 2 2 9.1 9.1 ak-------
+9:{ta=i8,tk=i4} | keys 39 21.9 | 2 2 9.1 9.1 0.0 ak-------
+9:{tk=i4,ta=i8} | keys 11 21.9 | 2 2 9.1 a
+9:{ta=i8,tk=i4} | keys 0 21.9 | 2 2
+9:{ta=i8,tk=i4} | keys 113 21.9 | 1 1 9.1 k--
+9:{ta=i8,tk=i4} | keys 213 21.9 | 0 0 0.0 ---
+9:{ta=i8,tk=i4} | keys 913 21.9 | 0 0 0.0 ---
+9:{tabc=i8,t=i1,tk=i4} | keys 43 21.9 | 3 4 9.0 9.3 9.1 0.0 abc
+9:{tabc=i8,t=i1,tk=i4} | keys 22 21.9 | 3 4 9.0 9.3 ab
+9:{tabc=i8,t=i1,tk=i4} | keys 115 21.9 | 2 4 9.3 abck-
+12:{u9=n0,u8=n0} | keys 21 21.12 | 2 0 13.8 13.9 -
+12:{u9=n0,u8=n0} | keys 121 21.12 | 1 0 13.9 0.0 -
+1:i5 | keys 22 21.1 | absent
+1:i5 | keys 22 21.9 | absent
+1:i5 | keys 22 | absent
+6:[i4] | keys 22 21.6 | absent
+1:i5 | keys 22 99.1 | bad
+";
+
 /// Bytes are in hexadecimal.
 const MEMBERS_AND_UNKNOWN: &str = "
 7:u8 | oneof 0 | 7
@@ -100,7 +123,7 @@ const MEMBERS_AND_UNKNOWN: &str = "
 1:i5 99~v7 | unknown 0 99.1 | bad
 ";
 
-pub(crate) const TABLES: &[&str] = &[VALUES, OTHERS, MEMBERS_AND_UNKNOWN];
+pub(crate) const TABLES: &[&str] = &[VALUES, OTHERS, KEYS_OF_MAPS, MEMBERS_AND_UNKNOWN];
 
 const KEYS: &[&[u8]] = &[b"a", b"k", b"\xff"];
 
@@ -160,6 +183,49 @@ fn are_written(
     }
 }
 
+/// Whether words say some values, and what is after them the bytes.
+fn are_filled(values: &[PlainValue], bytes: &[u8], words: &str) -> Result<bool, Fail> {
+    let mut rest = words;
+    for value in values {
+        let (word, after) = rest.split_once(' ').unwrap_or((rest, ""));
+        if *value != step_of(word)? {
+            return Ok(false);
+        }
+        rest = after;
+    }
+    Ok(bytes == rest.as_bytes())
+}
+
+fn are_keys(
+    alloc: Global,
+    message: &DynamicMessage<'_>,
+    place: &[PlainValue],
+    number: usize,
+    said: &str,
+) -> Result<bool, Fail> {
+    let nothing = PlainValue { kind: 0, number: 0 };
+    let mut values = vec![in alloc; nothing; number / 10 % 10]?;
+    let mut out = vec![in alloc; b'-'; number % 10]?;
+    match keys_at(
+        alloc,
+        message.view(),
+        place,
+        KEYS,
+        number / 100,
+        &mut values,
+        &mut out,
+    ) {
+        Ok(counts) => {
+            let (keys, rest) = said.split_once(' ').ok_or("no count")?;
+            let (bytes, words) = rest.split_once(' ').unwrap_or((rest, ""));
+            let keys: usize = keys.parse().map_err(|_| "no count")?;
+            let bytes: usize = bytes.parse().map_err(|_| "no count")?;
+            Ok(counts == (KeyCounts { keys, bytes }) && are_filled(&values, &out, words)?)
+        }
+        Err(miss) => is_miss(miss, said),
+    }
+}
+
 fn is_answered(
     alloc: Global,
     message: &DynamicMessage<'_>,
@@ -184,6 +250,7 @@ fn is_answered(
             }
             Err(miss) => is_miss(miss, said),
         },
+        "keys" => are_keys(alloc, message, place, number, said),
         "fields" => are_written(alloc, message, place, number, said),
         "oneof" => {
             let Ok(oneof) = u32::try_from(number) else {

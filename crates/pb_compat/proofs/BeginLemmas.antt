@@ -1,13 +1,19 @@
 -- The pairs where a walk begins, added one by one.
-use Rattle.std.proofs.Common.{◌≡◌, ◌+◌, ◌<◌, inl, inr, ⊎_elim, ℕ, List, [], ◌∷◌, ◌++◌, length, take, None, sym, ap, subst, arith, Contains, length-append}
-use Rattle.std.proofs.lemmas.List.Elements.{Contains-push, Contains-push_cases, Contains-append_left}
-use Rattle.pb_graphs.proofs.ContainsLemmas.{Contains-none}
+use Rattle.std.proofs.Common.{◌≡◌, ◌+◌, ◌<◌, ◌≤◌, inl, inr, ⊎_elim, ℕ, List, [], ◌∷◌, ◌++◌, length, take, Option, Some, None, sym, ◌∙◌, ap, subst, arith, Contains, length-take-le}
+use Rattle.std.specs.Prelude.{slice_get}
+use Rattle.pb_schema.specs.Names.{AllDiffer}
 use Rattle.pb_schema.specs.Types.{Types}
 use Rattle.pb_compat.specs.declared.difference.Step.{Step}
 use Rattle.pb_compat.specs.declared.pairs.Pairs.{Pairs}
 use Rattle.pb_compat.specs.Walk.{pairs_of, steps_of, Adds, IsWithin, IsWalk, HasBegun}
+use Rattle.pb_compat.proofs.Lists.{get_push_cases, taken_differ}
 use Rattle.pb_compat.proofs.WalkLemmas.{walk_none, walk_first}
-use Rattle.std.specs.Prelude.{Option}
+
+none_some : {X : Type 0} {x : X} → ◌≡◌ {A = Option X} None (Some x) → ⊥
+none_some p = cc
+
+none_is_some : {s : Step} → ◌≡◌ {A = Option Step} None (Some s) → ⊥
+none_is_some p = cc
 
 module _ (old new : Types) (starts : List (ℕ × ℕ)) where
   walk_of : (ps : Pairs) (ks : List (ℕ × ℕ)) (ss : List (Option Step)) → pairs_of ps ≡ ks → steps_of ps ≡ ss → IsWalk old new starts ks ss → IsWalk old new starts (pairs_of ps) (steps_of ps)
@@ -16,26 +22,23 @@ module _ (old new : Types) (starts : List (ℕ × ℕ)) where
   pub begun_none : (ps : Pairs) → pairs_of ps ≡ [] → steps_of ps ≡ [] → HasBegun old new starts 0 ps
   begun_none ps none no_steps = record {
     walk = walk_of ps [] [] none no_steps (walk_none old new starts);
-    count = omega (arith, ap length none);
-    there = λ p h. Contains-none p h;
+    same = none;
+    given_steps = λ i s h. none_some (subst (λ (ss : List (Option Step)). slice_get ss i ≡ Some (Some s)) no_steps h);
   }
 
-  pub begun_more : (j : ℕ) (q : ℕ × ℕ) (a b : Pairs) → HasBegun old new starts j a → j < length starts → take (j + 1) starts ≡ take j starts ++ q ∷ [] → Contains starts q → IsWithin old new q → Adds q None a b → HasBegun old new starts (j + 1) b
-  begun_more j q a b begun inside longer begins within adds = by adds
+  pub begun_more : (j : ℕ) (q : ℕ × ℕ) (a b : Pairs) → AllDiffer starts → HasBegun old new starts j a → j < length starts → take (j + 1) starts ≡ take j starts ++ q ∷ [] → slice_get starts j ≡ Some q
+      → IsWithin old new q → Adds q None a b → HasBegun old new starts (j + 1) b
+  begun_more j q a b differ begun inside longer at within adds = by adds
     where
-      there : ((x : ℕ × ℕ) → Contains (pairs_of a) x → Contains (pairs_of b) x) → Contains (pairs_of b) q → (p : ℕ × ℕ) → Contains (take (j + 1) starts) p → Contains (pairs_of b) p
-      there keeps last p h =
-          ⊎_elim (λ before. keeps p (begun.there p before)) (λ same. subst (Contains (pairs_of b)) same last)
-          (Contains-push_cases (take j starts) q p (subst (λ xs. Contains xs p) longer h))
-
       by : Adds q None a b → HasBegun old new starts (j + 1) b
-      by (inl (known, same, same_steps)) = record {
-        walk = walk_of b (pairs_of a) (steps_of a) same same_steps begun.walk;
-        count = omega (arith, ap length same, begun.count);
-        there = there (λ x h. subst (λ ks. Contains ks x) (sym same) h) (subst (λ ks. Contains ks q) (sym same) known);
-      }
-      by (inr (unknown, more, more_steps)) = record {
-        walk = walk_of b (pairs_of a ++ q ∷ []) (steps_of a ++ None ∷ []) more more_steps (walk_first old new starts (pairs_of a) (steps_of a) q begun.walk (omega (arith, begun.count, inside)) begins within unknown);
-        count = omega (arith, ap length more, length-append (pairs_of a) (q ∷ []), begun.count);
-        there = there (λ x h. subst (λ ks. Contains ks x) (sym more) (Contains-append_left (pairs_of a) (q ∷ []) x h)) (subst (λ ks. Contains ks q) (sym more) (Contains-push (pairs_of a) q));
-      }
+      by (inl (known, same, same_steps)) = absurd (taken_differ j q starts differ longer (subst (λ (ks : List (ℕ × ℕ)). Contains ks q) begun.same known))
+      by (inr (unknown, more, more_steps)) =
+          let size : length (pairs_of a) ≡ j = ap length begun.same ∙ length-take-le j starts (omega (arith, inside)) in
+          let here : slice_get starts (length (pairs_of a)) ≡ Some q = subst (λ (i : ℕ). slice_get starts i ≡ Some q) (sym size) at in
+          record {
+            walk = walk_of b (pairs_of a ++ q ∷ []) (steps_of a ++ None ∷ []) more more_steps (walk_first old new starts (pairs_of a) (steps_of a) q begun.walk here within unknown);
+            same = more ∙ ap (λ (ks : List (ℕ × ℕ)). ks ++ q ∷ []) begun.same ∙ sym longer;
+            given_steps = λ i s h.
+                ⊎_elim (λ e. begun.given_steps i s e) (λ e. none_is_some e.1)
+                (get_push_cases (steps_of a) None i (Some s) (subst (λ (ss : List (Option Step)). slice_get ss i ≡ Some (Some s)) more_steps h));
+          }

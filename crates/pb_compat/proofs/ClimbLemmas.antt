@@ -16,11 +16,11 @@ use Rattle.pb_compat.specs.declared.pairs.Pairs.{Pairs}
 use Rattle.pb_compat.specs.Agrees.{break_among}
 use Rattle.pb_compat.specs.Fields.{differences_at}
 use Rattle.pb_compat.specs.Nested.{AreLinked, IsReachedFrom, IsBuiltAt, IsBuiltRound, IsNestedWitness}
-use Rattle.pb_compat.specs.Pairs.{leads, types_of, IsReachedIn, IsComparisonFrom}
+use Rattle.pb_compat.specs.Pairs.{leads, types_of, IsReachedBy, IsComparisonFrom}
 use Rattle.pb_compat.specs.Walk.{pairs_of, IsWithin, AreCompared}
 use Rattle.pb_compat.proofs.BuiltLemmas.{built_misread}
 use Rattle.pb_compat.proofs.ComparedLemmas.{compared_all}
-use Rattle.pb_compat.proofs.Lists.{all_got}
+use Rattle.pb_compat.proofs.Lists.{all_got, contains_got}
 use Rattle.pb_compat.proofs.RoundLemmas.{lead_of, round_built}
 use Rattle.pb_compat.proofs.WitnessLemmas.{IsMisread, misread_shows}
 
@@ -30,14 +30,14 @@ module _ (old new : Types) (starts : List (ℕ × ℕ)) where
   pub compared_linked : (ps : Pairs) (cs : List ComparedTypes) → AreCompared old new starts ps cs → slice_get (pairs_of ps) (length cs) ≡ None → AreLinked old new cs
   compared_linked ps cs compared ended = record {
     within = λ i c at. all_got (IsWithin old new) (pairs_of ps) i (types_of c) compared.walk.within (compared.pairs i c at);
-    steps = λ i c s at by. subst (IsReachedIn old new starts cs i c) by ((compared_all old new starts ps cs compared ended).steps i c at);
+    steps = λ i c s at by. let h = subst (IsReachedBy old new starts cs i c) by ((compared_all old new starts ps cs compared ended).steps i c at) in (h.1, h.2);
   }
 
   -- where the comparison began
   pub began_in : (cs : List ComparedTypes) → IsComparisonFrom old new starts cs → (start : ℕ × ℕ) (n i : ℕ) → IsReachedFrom cs start n i → Contains starts start
   began_in cs compared start zero i r =
       let c = some_of (slice_get cs i) (λ c. (c.reached_by ≡ None) × (types_of c ≡ start)) r in
-      subst (Contains starts) c.2.1 (subst (IsReachedIn old new starts cs i c.0) c.2.0 (compared.steps i c.0 c.1)).1
+      subst (Contains starts) c.2.1 (contains_got starts i (types_of c.0) (subst (IsReachedBy old new starts cs i c.0) c.2.0 (compared.steps i c.0 c.1)))
   began_in cs compared start (suc n) i r =
       let c = some_of (slice_get cs i) (λ c. IsSomeAnd c.reached_by (λ s. IsReachedFrom cs start n s.from)) r in
       let s = some_of c.0.reached_by (λ s. IsReachedFrom cs start n s.from) c.2 in

@@ -38,6 +38,10 @@ pub mod ReportedLemmas
 pub mod LostLemmas
 -- worked cases of the rules
 pub mod Rows
+-- worked lines of differences
+pub mod LineRows
+-- worked cases of the pairs of a comparison
+pub mod PairRows
 -- worked cases of messages that agree
 pub mod MessageRows
 -- full names are in UTF-8
@@ -86,3 +90,5 @@ pub mod NestedLemmas
 pub mod RoundLemmas
 -- from types of a comparison back to those with which it began
 pub mod ClimbLemmas
+-- steps of a comparison, as few as the fields that lead to a pair
+pub mod FewLemmas

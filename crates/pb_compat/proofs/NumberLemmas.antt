@@ -1,15 +1,16 @@
 -- Numbers that lead on are numbers of fields.
-use Rattle.std.proofs.Common.{◌≡◌, ℕ, Bool, true, false, cond, List, [], ◌∷◌, map, Option, Some, None, refl, subst, Contains, eqb}
+use Rattle.std.proofs.Common.{◌≡◌, ◌<◌, ℕ, Bool, true, false, cond, List, [], ◌∷◌, length, get_or, take, map, Option, Some, None, refl, subst, Contains, eqb}
 use Rattle.std.specs.Prelude.{option_and_then}
 use Rattle.std.proofs.lemmas.Bool.Decides.{Decides-eqb}
 use Rattle.std.proofs.lemmas.List.Sorted.{Contains-permutation}
 use Rattle.pb_graphs.proofs.ContainsLemmas.{Contains-first, Contains-later}
 use Rattle.pb_schema.specs.Types.{FieldView, Types, message_fields, field_numbered}
 use Rattle.pb_schema.specs.Kinds.{message_of_kind}
-use Rattle.pb_compat.specs.Pairs.{pair_of, message_at, AreRising}
+use Rattle.pb_compat.specs.Pairs.{leads, pair_of, message_at, AreRising}
 use Rattle.pb_compat.specs.declared.pairs.Pairs.{Pairs}
-use Rattle.pb_compat.specs.Walk.{Follows, FollowsAll, pairs_of}
-use Rattle.std.specs.Prelude.{slice_get}
+use Rattle.pb_compat.specs.Walk.{Follows, FollowsAll}
+use Rattle.pb_compat.proofs.Lists.{taken_least, taken_or_no_less}
+use Rattle.pb_compat.proofs.WalkLemmas.{IsNext}
 
 none_some : {X : Type 0} {x : X} → ◌≡◌ {A = Option X} None (Some x) → ⊥
 none_some p = cc
@@ -26,14 +27,18 @@ leading_number : (k : ℕ) (fs : List FieldView) (o : Option FieldView) (b : Opt
 leading_number k fs None b q e h = absurd (none_some h)
 leading_number k fs (Some f) b q e h = found_number k fs f e
 
-pub follow_all : (old new : Types) (i : ℕ) (p : ℕ × ℕ) (ns : List ℕ) (a b : Pairs) → slice_get (pairs_of a) i ≡ Some p → AreRising (message_fields old p.0) ns → Follows old new i p ns a b → FollowsAll old new i p a b
-follow_all old new i p ns a b at rising f = record {
-  added = f.added;
-  more = f.more;
-  added_steps = f.added_steps;
-  more_steps = f.more_steps;
-  walk = λ starts w. f.walk starts w at;
-  listed = λ k q h.
+module _ (old new : Types) (p : ℕ × ℕ) (ns : List ℕ) (rising : AreRising (message_fields old p.0) ns) where
+  pub every_number : (k : ℕ) (q : ℕ × ℕ) → leads old new p k ≡ Some q → Contains ns k
+  every_number k q h =
       let fs = message_fields old p.0 in
-      f.listed k q (Contains-permutation (map (λ g. g.number) fs) ns k rising.all (leading_number k fs (field_numbered k fs) (message_at new p.1 k) q refl h)) h;
-}
+      Contains-permutation (map (λ g. g.number) fs) ns k rising.all (leading_number k fs (field_numbered k fs) (message_at new p.1 k) q refl h)
+
+  -- of numbers that rise, the one that comes next
+  pub next_number : (j : ℕ) → j < length ns → IsNext ns (take j ns) (get_or ns j 0)
+  next_number j inside = record {
+    least = λ k h. taken_least ns j k rising.rising inside h;
+    rest = λ k h. taken_or_no_less ns j k rising.rising h;
+  }
+
+  pub follow_all : (i : ℕ) (a b : Pairs) → Follows old new i p ns a b → FollowsAll old new i p a b
+  follow_all i a b f = record { numbers = ns; all = every_number; follows = f }

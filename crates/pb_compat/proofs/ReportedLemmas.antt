@@ -4,7 +4,7 @@ use Rattle.std.specs.Prelude.{flat_map}
 use Rattle.std.specs.List.{AllByRecursion, list_any}
 use Rattle.std.proofs.lemmas.List.Elements.{Contains-append_left, Contains-append_right}
 use Rattle.std.proofs.lemmas.List.Sorted.{Contains-permutation}
-use Rattle.pb_graphs.proofs.ContainsLemmas.{Contains-none, Contains-cases}
+use Rattle.pb_graphs.proofs.ContainsLemmas.{Contains-none, Contains-first, Contains-cases}
 use Rattle.pb_schema.specs.Types.{FieldView, Types, message_fields, field_numbered}
 use Rattle.pb_schema.specs.Rules.{IsPool}
 use Rattle.pb_compat.specs.declared.difference.ComparedTypes.{ComparedTypes}
@@ -13,7 +13,7 @@ use Rattle.pb_compat.specs.declared.difference.Severity.{Severity}
 use Rattle.pb_compat.specs.declared.difference.Severity.TheVariants.{BreaksReading}
 use Rattle.pb_compat.specs.Oneofs.{is_crowded}
 use Rattle.pb_compat.specs.Fields.{severities_at, differences_of, differences_at}
-use Rattle.pb_compat.specs.Pairs.{AreDifferences, IsComparison, IsComparisonFrom, Reached, ReachedIn, ReachedFrom, begun, further, begun_in, further_in, given, onward, types_of}
+use Rattle.pb_compat.specs.Pairs.{AreDifferences, IsComparison, IsComparisonFrom, ReachedIn, ReachedFrom, begun_in, further_in, given, onward, types_of}
 use Rattle.pb_compat.specs.Agrees.{NothingBreaks, IsReadAs, is_break, break_among, break_in}
 use Rattle.pb_compat.proofs.NumberLemmas.{found_number}
 use Rattle.pb_compat.proofs.EncodingLemmas.{encodings_read}
@@ -57,28 +57,22 @@ differences_listed old new m n ds k d are h = by (field_numbered k (message_fiel
 no_break : (s : Severity) → is_break s ≡ false → s ≢ BreaksReading
 no_break s e same = let z : is_break BreaksReading ≡ false = subst (λ (t : Severity). is_break t ≡ false) same e in absurd (cc)
 
--- what is reached by some fields is reached
-reached_by_fields : (old new : Types) (start p : ℕ × ℕ) (fields : ℕ) → ReachedIn old new start fields p → Reached old new start p
-reached_by_fields old new start p zero begun_in = begun
-reached_by_fields old new start q (suc fields) (further_in {p = p} k r to) = further k (reached_by_fields old new start p fields r) to
+-- what is reached by some fields from one of several pairs is reached from them
+pub reached_by_fields : (old new : Types) (starts : List (ℕ × ℕ)) (start p : ℕ × ℕ) (fields : ℕ) → Contains starts start → ReachedIn old new start fields p → ReachedFrom old new starts p
+reached_by_fields old new starts start p zero there begun_in = given there
+reached_by_fields old new starts start q (suc fields) there (further_in {p = p} k r to) = onward k (reached_by_fields old new starts start p fields there r) to
 
-nothing_breaks : (old new : Types) (m n : ℕ) (cs : List ComparedTypes) → ((p : ℕ × ℕ) → Reached old new (m, n) p → Contains (map types_of cs) p)
-    → AllByRecursion (λ c. AreDifferences old new c.old.0 c.new.0 c.differences.items) cs → break_in cs ≡ false → NothingBreaks old new m n
-nothing_breaks old new m n cs has are none fields p few reached k d h =
-    let c = mapped_from types_of cs p (has p (reached_by_fields old new (m, n) p fields reached)) (λ c. AreDifferences old new c.old.0 c.new.0 c.differences.items) are (λ c. break_among c.differences.items) none in
+nothing_breaks : (old new : Types) (starts : List (ℕ × ℕ)) (m n : ℕ) (cs : List ComparedTypes) → ((p : ℕ × ℕ) → ReachedFrom old new starts p → Contains (map types_of cs) p)
+    → Contains starts (m, n) → AllByRecursion (λ c. AreDifferences old new c.old.0 c.new.0 c.differences.items) cs → break_in cs ≡ false → NothingBreaks old new m n
+nothing_breaks old new starts m n cs has there are none fields p few reached k d h =
+    let c = mapped_from types_of cs p (has p (reached_by_fields old new starts (m, n) p fields there reached)) (λ c. AreDifferences old new c.old.0 c.new.0 c.differences.items) are (λ c. break_among c.differences.items) none in
     let compared : AreDifferences old new p.0 p.1 c.0.differences.items = subst (λ (q : ℕ × ℕ). AreDifferences old new q.0 q.1 c.0.differences.items) c.1 c.2 in
     no_break d.severity (none_passes (λ x. is_break x.severity) c.0.differences.items d c.3 (differences_listed old new p.0 p.1 c.0.differences.items k d compared h))
-
-pub read_unless_break : (old new : Types) (m n : ℕ) (cs : List ComparedTypes) (b : Bool) → b ≡ break_in cs → IsPool old → IsPool new → IsComparison old new (m, n) cs → b ≡ false → IsReadAs old new m n
-read_unless_break old new m n cs b exact rules_old rules_new are none = encodings_read old new rules_old rules_new m n (nothing_breaks old new m n cs (λ p. (are.reached p).1) are.differences (sym exact ∙ none))
-
--- what is reached from one of several pairs is reached from them
-reached_on : (old new : Types) (starts : List (ℕ × ℕ)) (s p : ℕ × ℕ) → Contains starts s → Reached old new s p → ReachedFrom old new starts p
-reached_on old new starts s p h begun = given h
-reached_on old new starts s q h (further {p = p} k r to) = onward k (reached_on old new starts s p h r) to
 
 pub each_read_unless_break : (old new : Types) (starts : List (ℕ × ℕ)) (m n : ℕ) (cs : List ComparedTypes) (b : Bool) → b ≡ break_in cs → IsPool old → IsPool new
     → IsComparisonFrom old new starts cs → Contains starts (m, n) → b ≡ false → IsReadAs old new m n
 each_read_unless_break old new starts m n cs b exact rules_old rules_new are there none =
-    encodings_read old new rules_old rules_new m n
-    (nothing_breaks old new m n cs (λ p r. (are.reached p).1 (reached_on old new starts (m, n) p there r)) are.differences (sym exact ∙ none))
+    encodings_read old new rules_old rules_new m n (nothing_breaks old new starts m n cs (λ p. (are.reached p).1) there are.differences (sym exact ∙ none))
+
+pub read_unless_break : (old new : Types) (m n : ℕ) (cs : List ComparedTypes) (b : Bool) → b ≡ break_in cs → IsPool old → IsPool new → IsComparison old new (m, n) cs → b ≡ false → IsReadAs old new m n
+read_unless_break old new m n cs b exact rules_old rules_new are none = each_read_unless_break old new ((m, n) ∷ []) m n cs b exact rules_old rules_new are (Contains-first (m, n) []) none

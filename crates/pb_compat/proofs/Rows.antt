@@ -1,10 +1,10 @@
 -- Worked cases of the rules.
-use Rattle.std.proofs.Common.{◌≡◌, ℕ, List, [], ◌∷◌, true, false, Some, None, refl}
+use Rattle.std.proofs.Common.{◌≡◌, ℕ, ℤ, pos, List, [], ◌∷◌, true, false, Some, None, refl}
 use Rattle.pb_schema.specs.declared.types.Kind.{Kind}
 use Rattle.pb_schema.specs.declared.types.Kind.TheVariants as kind
 use Rattle.pb_schema.specs.declared.types.Shape.{Shape}
 use Rattle.pb_schema.specs.declared.types.Shape.TheVariants as shape
-use Rattle.pb_schema.specs.Types.{FieldView, Types}
+use Rattle.pb_schema.specs.Types.{FieldView, EnumView, Types}
 use Rattle.pb_compat.specs.declared.difference.Severity.{Severity}
 use Rattle.pb_compat.specs.declared.difference.Severity.TheVariants.{BreaksReading, Loses, ChangesPresence, Converts, Renames}
 use Rattle.pb_compat.specs.Oneofs.{at_most_one, is_crowded}
@@ -86,3 +86,62 @@ module _ (old new : Types) where
   -- in a crowded oneof
   crowded : severities old new (λ o. true) (a_field 97 1 kind.Int32 shape.Explicit) (Some (a_field 97 1 kind.Int32 (shape.OneofMember 0))) ≡ BreaksReading ∷ []
   crowded = refl
+
+  -- PRESENCE
+
+  -- a member of a oneof counts as set also with its default
+  into_oneof : changed (a_field 97 1 kind.Int32 shape.Implicit) (a_field 97 1 kind.Int32 (shape.OneofMember 0)) ≡ ChangesPresence ∷ []
+  into_oneof = refl
+
+  out_of_oneof : changed (a_field 97 1 kind.Int32 (shape.OneofMember 0)) (a_field 97 1 kind.Int32 shape.Implicit) ≡ ChangesPresence ∷ []
+  out_of_oneof = refl
+
+  out_of_oneof_with_presence : changed (a_field 97 1 kind.Int32 (shape.OneofMember 0)) (a_field 97 1 kind.Int32 shape.Explicit) ≡ Converts ∷ []
+  out_of_oneof_with_presence = refl
+
+  -- a list has no value that counts as set or not
+  into_list : changed (a_field 97 1 kind.Int32 shape.Implicit) (a_field 97 1 kind.Int32 (shape.List true)) ≡ Converts ∷ []
+  into_list = refl
+
+  into_list_with_presence : changed (a_field 97 1 kind.Int32 shape.Explicit) (a_field 97 1 kind.Int32 (shape.List true)) ≡ Converts ∷ []
+  into_list_with_presence = refl
+
+  -- FORMS
+
+  -- a list has one form, packed or not
+  unpacked_list : changed (a_field 97 1 kind.Int32 (shape.List true)) (a_field 97 1 kind.Int32 (shape.List false)) ≡ []
+  unpacked_list = refl
+
+  -- the kind of the keys is of a map's form
+  keys_as_another_kind : changed (a_field 97 1 kind.Text (shape.Map kind.Uint32)) (a_field 97 1 kind.Text (shape.Map kind.Uint64)) ≡ Converts ∷ []
+  keys_as_another_kind = refl
+
+  -- the name of a message is not
+  another_message : changed (a_field 97 1 (kind.Message (record { 0 = 1 })) shape.Explicit) (a_field 97 1 (kind.Message (record { 0 = 2 })) shape.Explicit) ≡ []
+  another_message = refl
+
+  message_as_bytes : changed (a_field 97 1 (kind.Message (record { 0 = 1 })) shape.Explicit) (a_field 97 1 kind.Bytes shape.Explicit) ≡ Converts ∷ []
+  message_as_bytes = refl
+
+  message_as_group : changed (a_field 97 1 (kind.Message (record { 0 = 1 })) shape.Explicit) (a_field 97 1 (kind.Group (record { 0 = 1 })) shape.Explicit) ≡ BreaksReading ∷ []
+  message_as_group = refl
+
+  int32_as_enum : changed (a_field 97 1 kind.Int32 shape.Explicit) (a_field 97 1 (kind.Enum (record { 0 = 0 })) shape.Explicit) ≡ Converts ∷ []
+  int32_as_enum = refl
+
+-- enum E { A = 0; B = 1; }
+abbrev an_enum : EnumView
+an_enum = record { name = []; file = 0; parent = None; values = ([], pos 0) ∷ ([], pos 1) ∷ [] }
+
+abbrev with_enum : Types
+with_enum = record { files = []; messages = []; enums = an_enum ∷ [] }
+
+-- a closed enum has another form than an open one
+opened : severities with_enum with_enum (λ o. false) (a_field 97 1 (kind.ClosedEnum (record { 0 = 0 })) shape.Explicit) (Some (a_field 97 1 (kind.Enum (record { 0 = 0 })) shape.Explicit)) ≡ Converts ∷ []
+opened = refl
+
+still_closed : severities with_enum with_enum (λ o. false) (a_field 97 1 (kind.ClosedEnum (record { 0 = 0 })) shape.Explicit) (Some (a_field 97 1 (kind.ClosedEnum (record { 0 = 0 })) shape.Explicit)) ≡ []
+still_closed = refl
+
+bool_as_closed : severities with_enum with_enum (λ o. false) (a_field 97 1 kind.Bool shape.Explicit) (Some (a_field 97 1 (kind.ClosedEnum (record { 0 = 0 })) shape.Explicit)) ≡ Converts ∷ []
+bool_as_closed = refl

@@ -1,5 +1,5 @@
 -- Messages of the type with which a comparison began, that show that a difference between types nested in it breaks reading.
-use Rattle.std.specs.Prelude.{◌≡◌, ◌<◌, ◌≤◌, ℕ, zero, suc, length, List, Some, None, false, slice_get, IsSomeAnd}
+use Rattle.std.specs.Prelude.{◌≡◌, ◌↔◌, ◌<◌, ◌≤◌, ℕ, zero, suc, length, List, Some, None, Bool, true, false, slice_get, IsSomeAnd}
 use Rattle.pb_schema.specs.Types.{FieldView, Types, message_fields, field_numbered}
 use Rattle.pb_value.specs.Data.{message, Message, Holding}
 use Rattle.pb_value.specs.WellFormed.{IsOfShape}
@@ -7,7 +7,7 @@ use Rattle.pb_compat.specs.declared.difference.ComparedTypes.{ComparedTypes}
 use Rattle.pb_compat.specs.declared.difference.Step.{Step}
 use Rattle.pb_compat.specs.Agrees.{break_among}
 use Rattle.pb_compat.specs.Fields.{differences_at}
-use Rattle.pb_compat.specs.Pairs.{leads, types_of}
+use Rattle.pb_compat.specs.Pairs.{leads, types_of, IsWithinFields, IsComparisonFrom}
 use Rattle.pb_compat.specs.Witness.{IsWitness, alone, IsContentOf, AreFieldsAt, IsBuilt}
 
 -- HOW TYPES ARE REACHED
@@ -22,6 +22,12 @@ pub record AreLinked (old new : Types) (cs : List ComparedTypes) : Type 0 where
 abbrev pub IsReachedFrom : List ComparedTypes → (ℕ × ℕ) → ℕ → ℕ → Type 0
 IsReachedFrom cs start zero i = IsSomeAnd (slice_get cs i) (λ c. (c.reached_by ≡ None) × (types_of c ≡ start))
 IsReachedFrom cs start (suc n) i = IsSomeAnd (slice_get cs i) (λ c. IsSomeAnd c.reached_by (λ s. IsReachedFrom cs start n s.from))
+
+-- The answer is yes exactly where something breaks at the field of a number, and at most 99 fields, one in another, lead to the pair at an index.
+abbrev pub IsFoundWhereNear : Types → Types → List ComparedTypes → ℕ → ℕ → Bool → Type 0
+IsFoundWhereNear old new cs i k found =
+    (c : ComparedTypes) (starts : List (ℕ × ℕ)) → IsComparisonFrom old new starts cs → slice_get cs i ≡ Some c
+    → (found ≡ true) ↔ ((break_among (differences_at old new c.old.0 c.new.0 k) ≡ true) × IsWithinFields old new starts 99 (types_of c))
 
 -- WHAT THE CALL BUILDS
 

@@ -7,6 +7,7 @@ ghost use Rattle.pb_compat.specs.Nested.{AreLinked, IsReachedFrom};
 ghost use Rattle.pb_compat.specs.Pairs.{types_of, AreDifferences, IsComparison, IsComparisonFrom};
 ghost use Rattle.pb_compat.specs.Walk.{pairs_of, steps_of, FollowsAll, IsWithin};
 ghost use Rattle.pb_compat.specs.Pairs.{AreRising};
+ghost use Rattle.pb_schema.specs.Names.{AllDiffer};
 ghost use Rattle.pb_schema.specs.Types.{message_fields};
 
 use crate::difference::ComparedTypes;
@@ -61,7 +62,8 @@ fn compare_pairs(
     new: &Pool,
     starts: &[(usize, usize)],
 ) -> Result<Vec<ComparedTypes>, AllocError>
-    requires { AllByRecursion (IsWithin old.now new.now) starts.now }
+    requires within { AllByRecursion (IsWithin old.now new.now) starts.now }
+    requires differ { AllDiffer starts.now }
     ensures compared { IfOk result (λ v. IsComparisonFrom old.now new.now starts.now v.items) }
     ensures linked { IfOk result (λ v. AreLinked old.now new.now v.items) }
 {

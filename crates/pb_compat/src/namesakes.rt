@@ -3,6 +3,7 @@
 ghost use Rattle.std.specs.Prelude.{◌≡◌, ◌<◌, ◌++◌, length, option_map, IfOk, IfSome, OnOk};
 ghost use Rattle.std.specs.List.{AllByRecursion};
 ghost use Rattle.pb_compat.specs.Namesakes.{namesake as namesake_of, namesake_at, namesakes as namesakes_of};
+ghost use Rattle.pb_schema.specs.Names.{AllDiffer};
 ghost use Rattle.pb_compat.specs.Walk.{IsWithin};
 
 use crate::report::message_name;
@@ -46,6 +47,7 @@ pub(crate) fn namesakes(
 ) -> Result<Vec<(usize, usize)>, AllocError>
     ensures pairs { IfOk result (λ v. v.items ≡ namesakes_of old.now new.now) }
     ensures within { IfOk result (λ v. AllByRecursion (IsWithin old.now new.now) v.items) }
+    ensures differ { IfOk result (λ v. AllDiffer v.items) }
 {
     let mut pairs = Vec::new(alloc);
     for index in 0..old.messages().len() {

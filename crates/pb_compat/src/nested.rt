@@ -5,7 +5,7 @@ ghost use Rattle.pb_schema.specs.Types.{FieldView, message_fields, field_numbere
 ghost use Rattle.pb_value.specs.View.{body_view};
 ghost use Rattle.pb_compat.specs.Agrees.{break_among};
 ghost use Rattle.pb_compat.specs.Fields.{differences_at};
-ghost use Rattle.pb_compat.specs.Nested.{AreLinked, IsReachedFrom, IsBuiltRound, IsNestedWitness};
+ghost use Rattle.pb_compat.specs.Nested.{AreLinked, IsReachedFrom, IsBuiltRound, IsFoundWhereNear, IsNestedWitness};
 ghost use Rattle.pb_compat.specs.declared.difference.ComparedTypes.{ComparedTypes as Compared};
 
 use crate::difference::ComparedTypes;
@@ -84,8 +84,8 @@ fn nested_body(
 /// It holds, in the fields by which the types were reached, the message that `witness` builds for these types; or, where one of these fields breaks
 /// itself, what shows that, for the first that does.
 ///
-/// There is one exactly where the difference breaks and at most 99 fields lead to the types. No message holds one that is more than 100 levels
-/// down. Time and memory go by the fields that lead to the types, as for `witness` at each.
+/// There is one exactly where the difference breaks and the types can be reached by at most 99 fields, one in another: the steps of a comparison
+/// are the fewest (`reachable`). No message holds one that is more than 100 levels down. Time and memory go by the fields that lead to the types, as for `witness` at each.
 pub fn nested_witness<'p>(
     alloc: Global,
     old: &'p Pool,
@@ -100,6 +100,7 @@ pub fn nested_witness<'p>(
     ensures shown { IfOk result (λ o. IfSome o (λ w. IsNestedWitness old.now new.now compared.now index w.kind w.body)) }
     ensures exact { (c : Compared) (start : ℕ × ℕ) (n : ℕ) → slice_get compared.now index ≡ Some c → IsReachedFrom compared.now start n index
         → IfOk result (λ o. is_some o ≡ (break_among (differences_at old.now new.now c.old.0 c.new.0 number) && nat_lt n 100)) }
+    ensures reachable { IfOk result (λ o. IsFoundWhereNear old.now new.now compared.now index number (is_some o)) }
 {
     match nested_body(alloc, old, new, compared, index, number)? {
         Some((message_type, body)) => Ok(Some(from_well_formed(alloc, old, message_type, body))),

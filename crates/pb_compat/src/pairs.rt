@@ -2,8 +2,9 @@
 
 ghost use Rattle.std.specs.Prelude.{◌≡◌, ◌<◌, [], Some, length, slice_get, IfOk, OnOk, IfSome};
 ghost use Rattle.std.specs.List.{AllByRecursion};
-ghost use Rattle.pb_schema.specs.Types.{Types};
-ghost use Rattle.pb_compat.specs.Pairs.{leads};
+ghost use Rattle.pb_schema.specs.Names.{AllDiffer};
+ghost use Rattle.pb_schema.specs.Types.{Types, message_fields};
+ghost use Rattle.pb_compat.specs.Pairs.{leads, AreRising};
 ghost use Rattle.pb_compat.specs.Walk.{pairs_of, steps_of, Adds, Follows, HasBegun, IsWithin};
 
 use crate::difference::Step;
@@ -48,9 +49,9 @@ impl Pairs {
         }
     }
 
-    /// The pairs where a comparison begins, each once.
+    /// The pairs where a comparison begins, which differ.
     pub(crate) fn begin(alloc: Global, starts: &[(usize, usize)]) -> Result<Pairs, AllocError>
-        ensures { (old new : Types) → AllByRecursion (IsWithin old new) starts.now → IfOk result (HasBegun old new starts.now (length starts.now)) }
+        ensures { (old new : Types) → AllDiffer starts.now → AllByRecursion (IsWithin old new) starts.now → IfOk result (HasBegun old new starts.now (length starts.now)) }
     {
         let mut pairs = Pairs::new(alloc);
         for start in starts {
@@ -70,7 +71,7 @@ impl Pairs {
         Ok(())
     }
 
-    /// Adds the pairs that the fields of some numbers lead to from two types, the pair at an index.
+    /// Adds the pairs that the fields of some rising numbers lead to from two types, the pair at an index.
     pub(crate) fn follow(
         &mut self,
         old: &Pool,
@@ -82,6 +83,7 @@ impl Pairs {
     ) -> Result<(), AllocError>
         requires old { old_type.0 < length old.now.messages }
         requires new { new_type.0 < length new.now.messages }
+        requires rising { AreRising (message_fields old.now old_type.0) numbers.now }
         ensures { OnOk result (Follows old.now new.now index (old_type.0, new_type.0) numbers.now self.old self.new) }
     {
         for number in numbers {

@@ -11,12 +11,12 @@ use Rattle.pb_schema.specs.Context.{a_message, schema_of}
 use Rattle.pb_value.specs.Dynamic.{Dynamic}
 use Rattle.pb_decode.specs.declared.error.DecodeError.{DecodeError}
 use Rattle.pb_decode.specs.declared.push.Reading.{Reading}
-use Rattle.pb_building.specs.Open.Parents.{Parent}
+use Rattle.pb_decode_parts.specs.Open.Parents.{Parent}
 use Rattle.pb_decode.specs.Reader.{State, state_view}
 use Rattle.pb_decode.specs.Push.{Took, TookSome}
 use Rattle.pb_decode.specs.Reader.Waiting.{Waits, lists_in}
 use Rattle.pb_decode.specs.Pending.{EndsInside, IsPending, HasOpen, IsDeclared}
-use Rattle.pb_building.specs.Open.PartView.{parent_view}
+use Rattle.pb_decode_parts.specs.Open.PartView.{parent_view}
 use Rattle.pb_decode.specs.Decoder as decoder
 use Rattle.pb_decode.specs.Parts.{IsOfPool}
 use Rattle.pb_decode.specs.ReadingView.{open_parent, reading_view, IsSound}

@@ -14,14 +14,14 @@ use Rattle.pb_schema.specs.declared.types.Kind.TheVariants as kind
 use Rattle.pb_schema.specs.Types.{Types, message_fields, field_numbered}
 use Rattle.pb_schema.specs.Kinds.{wire_type_of, is_packable}
 use Rattle.pb_schema.specs.Context.{a_message as in_message, element_of, schema_of}
-use Rattle.pb_building.specs.declared.tokens.step.Step.{Step}
-use Rattle.pb_building.specs.declared.tokens.step.Step.TheVariants as step
-use Rattle.pb_building.specs.Open.Parents.{path_of, next_step, Part, Parent, Scope}
-use Rattle.pb_building.specs.Tokens.Numbers.{NumberFault, a_varint, eight_bytes, four_bytes}
-use Rattle.pb_building.specs.Tokens.After.{After}
-use Rattle.pb_building.specs.Tokens.Number.{IsNumberType}
+use Rattle.pb_decode_parts.specs.declared.tokens.step.Step.{Step}
+use Rattle.pb_decode_parts.specs.declared.tokens.step.Step.TheVariants as step
+use Rattle.pb_decode_parts.specs.Open.Parents.{path_of, next_step, Part, Parent, Scope}
+use Rattle.pb_decode_parts.specs.Tokens.Numbers.{NumberFault, a_varint, eight_bytes, four_bytes}
+use Rattle.pb_decode_parts.specs.Tokens.After.{After}
+use Rattle.pb_decode_parts.specs.Tokens.Number.{IsNumberType}
 use Rattle.pb_decode.specs.Reader.{State, here, own_step, path_here, Reads, AfterAt, Stops, cut, Reported}
-use Rattle.pb_building.proofs.ListSteps.{at_list, packed_field, list_reported}
+use Rattle.pb_decode_parts.proofs.ListSteps.{at_list, packed_field, list_reported}
 use Rattle.pb_decode.proofs.ReaderLemmas.{passed_here}
 
 varint_of : {u : Place} {g : Fault} → NumberFault 0 u g → VarintFault u g

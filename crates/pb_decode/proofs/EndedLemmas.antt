@@ -13,23 +13,23 @@ use Rattle.pb_schema.specs.declared.types.Kind.{Kind}
 use Rattle.pb_schema.specs.Types.{Types}
 use Rattle.pb_schema.specs.Rules.{IsPool}
 use Rattle.pb_schema.specs.Context.{a_message as in_message, schema_of}
-use Rattle.pb_building.specs.declared.open.part.Parent.{Parent as ParentKept}
-use Rattle.pb_building.specs.declared.open.part.Part.{Part as PartKept}
-use Rattle.pb_building.specs.declared.tokens.step.Step.{Step}
-use Rattle.pb_building.specs.declared.tokens.step.Step.TheVariants as step
-use Rattle.pb_building.specs.Open.Parents.{Part, Scope, Parent, parent_of, one_more_in, up_to, path_of, Reached}
-use Rattle.pb_building.specs.Open.PartView.{part_view, scope_view, parent_view}
-use Rattle.pb_building.specs.Open.Openings.{innermost_group}
-use Rattle.pb_building.specs.Tokens.After.{After}
-use Rattle.pb_building.specs.Close.Closes.{ClosesAt}
+use Rattle.pb_decode_parts.specs.declared.open.part.Parent.{Parent as ParentKept}
+use Rattle.pb_decode_parts.specs.declared.open.part.Part.{Part as PartKept}
+use Rattle.pb_decode_parts.specs.declared.tokens.step.Step.{Step}
+use Rattle.pb_decode_parts.specs.declared.tokens.step.Step.TheVariants as step
+use Rattle.pb_decode_parts.specs.Open.Parents.{Part, Scope, Parent, parent_of, one_more_in, up_to, path_of, Reached}
+use Rattle.pb_decode_parts.specs.Open.PartView.{part_view, scope_view, parent_view}
+use Rattle.pb_decode_parts.specs.Open.Openings.{innermost_group}
+use Rattle.pb_decode_parts.specs.Tokens.After.{After}
+use Rattle.pb_decode_parts.specs.Close.Closes.{ClosesAt}
 use Rattle.pb_decode.specs.Reader.{State, parents_view, left_of, here, own_step, path_here, Reads, HasReached, Reported}
 use Rattle.pb_decode.specs.Reader.Ended.{EndsWith}
 use Rattle.pb_decode.proofs.LengthSteps.{reached_here}
-use Rattle.pb_building.proofs.AfterLemmas.{after_record, at_record}
-use Rattle.pb_building.proofs.GroupLemmas.{past_end_reported}
+use Rattle.pb_decode_parts.proofs.AfterLemmas.{after_record, at_record}
+use Rattle.pb_decode_parts.proofs.GroupLemmas.{past_end_reported}
 use Rattle.pb_decode.proofs.FewRecords.{counts_fit}
-use Rattle.pb_building.proofs.ListSteps.{at_list, list_over}
-use Rattle.pb_whole.proofs.ListHolds.{list_can_hold}
+use Rattle.pb_decode_parts.proofs.ListSteps.{at_list, list_over}
+use Rattle.pb_decode_whole.proofs.ListHolds.{list_can_hold}
 
 -- parents are kept outermost first, so the last is the innermost
 pub parents_split : (fs gs : List ParentKept) (f : ParentKept) → fs ≡ gs ++ f ∷ [] → parents_view fs ≡ parent_view f ∷ parents_view gs

@@ -8,10 +8,10 @@ use Rattle.pb_wire.proofs.Tokens.{ends_some}
 use Rattle.pb_schema.specs.Types.{Types}
 use Rattle.pb_schema.specs.Context.{Context}
 use Rattle.pb_wire.specs.declared.fault.PathStep.{PathStep}
-use Rattle.pb_building.specs.Open.Occurrences.{CountsOf}
-use Rattle.pb_building.specs.Open.Opened.{SoFar, Begun, a_message, a_value, a_group}
-use Rattle.pb_building.specs.Open.Parents.{Part, Scope, Parent, Held, inside, Reached}
-use Rattle.pb_building.proofs.StepCounts.{occurrence-le-length}
+use Rattle.pb_decode_parts.specs.Open.Occurrences.{CountsOf}
+use Rattle.pb_decode_parts.specs.Open.Opened.{SoFar, Begun, a_message, a_value, a_group}
+use Rattle.pb_decode_parts.specs.Open.Parents.{Part, Scope, Parent, Held, inside, Reached}
+use Rattle.pb_decode_parts.proofs.StepCounts.{occurrence-le-length}
 
 few_records : (rs : List Record) (b : List ℕ) → AreRecords rs b → length rs ≤ length b
 few_records [] b h = omega arith

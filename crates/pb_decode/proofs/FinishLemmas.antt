@@ -7,10 +7,10 @@ use Rattle.pb_wire.specs.Grammar.{Bad, Begins}
 use Rattle.pb_wire.specs.declared.fault.Cause.TheVariants.{Truncated}
 use Rattle.pb_schema.specs.Types.{Types}
 use Rattle.pb_schema.specs.Context.{a_message as in_message, schema_of}
-use Rattle.pb_building.specs.Open.Opened.{below}
-use Rattle.pb_building.specs.Open.Parents.{Part, Parent, path_of, Reached, Scope}
-use Rattle.pb_building.proofs.OpenedLemmas.{cut_at_end}
-use Rattle.pb_building.proofs.AfterLemmas.{reported_here}
+use Rattle.pb_decode_parts.specs.Open.Opened.{below}
+use Rattle.pb_decode_parts.specs.Open.Parents.{Part, Parent, path_of, Reached, Scope}
+use Rattle.pb_decode_parts.proofs.OpenedLemmas.{cut_at_end}
+use Rattle.pb_decode_parts.proofs.AfterLemmas.{reported_here}
 
 -- CUT SHORT: no byte is left, and the open part doesn't end here
 pub cut_reported :

@@ -4,18 +4,18 @@ use Rattle.std.proofs.lemmas.List.{map-append, reverse-append}
 use Rattle.pb_wire.specs.Record.{Record}
 use Rattle.pb_wire.specs.Fault.{Place}
 use Rattle.pb_schema.specs.Types.{Types}
-use Rattle.pb_building.specs.declared.open.part.Parent.{Parent as ParentKept}
-use Rattle.pb_building.specs.declared.tokens.step.Step.{Step}
-use Rattle.pb_building.specs.declared.tokens.step.Step.TheVariants as step
-use Rattle.pb_building.specs.Open.Parents.{Parent, Reached}
-use Rattle.pb_building.specs.Open.PartView.{part_view, scope_view, parent_view}
-use Rattle.pb_building.specs.Tokens.After.{After}
-use Rattle.pb_building.specs.declared.open.part.Part.{Part as PartKept}
-use Rattle.pb_building.specs.declared.open.part.Scope.{Scope as ScopeKept}
+use Rattle.pb_decode_parts.specs.declared.open.part.Parent.{Parent as ParentKept}
+use Rattle.pb_decode_parts.specs.declared.tokens.step.Step.{Step}
+use Rattle.pb_decode_parts.specs.declared.tokens.step.Step.TheVariants as step
+use Rattle.pb_decode_parts.specs.Open.Parents.{Parent, Reached}
+use Rattle.pb_decode_parts.specs.Open.PartView.{part_view, scope_view, parent_view}
+use Rattle.pb_decode_parts.specs.Tokens.After.{After}
+use Rattle.pb_decode_parts.specs.declared.open.part.Part.{Part as PartKept}
+use Rattle.pb_decode_parts.specs.declared.open.part.Scope.{Scope as ScopeKept}
 use Rattle.pb_decode.specs.declared.reader.state.State.{State as StateKept}
 use Rattle.pb_decode.specs.Reader.{State, state_view, parents_view, left_of, here, Reads}
-use Rattle.pb_building.proofs.ParentLemmas.{place_up_to}
-use Rattle.pb_building.proofs.AfterLemmas.{after_record}
+use Rattle.pb_decode_parts.proofs.ParentLemmas.{place_up_to}
+use Rattle.pb_decode_parts.proofs.AfterLemmas.{after_record}
 
 -- one more parent is the innermost
 pub parents_pushed : (fs : List ParentKept) (f : ParentKept) → parents_view (fs ++ f ∷ []) ≡ parent_view f ∷ parents_view fs

@@ -9,13 +9,13 @@ use Rattle.pb_wire.specs.Schema.{records}
 use Rattle.pb_wire.specs.Grammar.{Bad}
 use Rattle.pb_schema.specs.Types.{Types}
 use Rattle.pb_schema.specs.Context.{a_message as in_message, schema_of}
-use Rattle.pb_building.specs.declared.open.target.Target.{Target}
-use Rattle.pb_building.specs.declared.tokens.step.Step.{Step}
-use Rattle.pb_building.specs.declared.tokens.step.Step.TheVariants as step
-use Rattle.pb_building.specs.Open.Parents.{path_of, next_step}
-use Rattle.pb_building.specs.Tokens.After.{awaited, After}
+use Rattle.pb_decode_parts.specs.declared.open.target.Target.{Target}
+use Rattle.pb_decode_parts.specs.declared.tokens.step.Step.{Step}
+use Rattle.pb_decode_parts.specs.declared.tokens.step.Step.TheVariants as step
+use Rattle.pb_decode_parts.specs.Open.Parents.{path_of, next_step}
+use Rattle.pb_decode_parts.specs.Tokens.After.{awaited, After}
 use Rattle.pb_decode.specs.Reader.{State, here, own_step, path_here, Reads, Stops, cut, Reported}
-use Rattle.pb_building.proofs.TokenReports.{length_refused}
+use Rattle.pb_decode_parts.proofs.TokenReports.{length_refused}
 
 -- the reader awaits the length of this record
 pub at_length :

@@ -10,11 +10,11 @@ use Rattle.pb_wire.specs.Sound.{AreElements}
 use Rattle.pb_wire.proofs.Fronts.{align, RecordAt}
 use Rattle.pb_wire.proofs.OneFault.{bad_not_record}
 use Rattle.pb_wire.proofs.Tokens.{one_tag, one_length, varint_not_both}
-use Rattle.pb_building.specs.Open.Opened as opened
-use Rattle.pb_building.specs.Open.Opened.{SoFar, Begun, Opened}
-use Rattle.pb_building.specs.Tokens.Numbers.{a_varint, eight_bytes, four_bytes, IsCutVarint, IsCutNumber}
+use Rattle.pb_decode_parts.specs.Open.Opened as opened
+use Rattle.pb_decode_parts.specs.Open.Opened.{SoFar, Begun, Opened}
+use Rattle.pb_decode_parts.specs.Tokens.Numbers.{a_varint, eight_bytes, four_bytes, IsCutVarint, IsCutNumber}
 use Rattle.pb_decode.specs.Pending.{Unfinished, in_tag, in_number, in_length, in_payload, in_list, EndsInside}
-use Rattle.pb_building.proofs.OpenedLemmas.{begins_at_tag, bad_after, bad_begun}
+use Rattle.pb_decode_parts.proofs.OpenedLemmas.{begins_at_tag, bad_after, bad_begun}
 use Rattle.pb_decode.proofs.OneElement.{one_front, varint_open, element_open}
 
 -- THE SAME FROM THE TOP: after whole records the bytes end in what comes next, or in what is begun there

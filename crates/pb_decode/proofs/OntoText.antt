@@ -32,7 +32,7 @@ use Rattle.pb_decode.specs.Reader.{State, Stops, over, cut}
 use Rattle.pb_decode.specs.Reader.Start.{starting, further, TookFrom, IsWhole, BadFrom, ReportedFrom}
 use Rattle.pb_decode.specs.Onto.{IsTextOnto}
 use Rattle.pb_decode.specs.Push.{Took}
-use Rattle.pb_whole.proofs.Top.{nothing_good}
+use Rattle.pb_decode_whole.proofs.Top.{nothing_good}
 use Rattle.pb_decode.proofs.StartLemmas.{is_message, whole_there}
 
 -- THE START: the canonical records have the message as their value

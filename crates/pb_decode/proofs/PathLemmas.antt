@@ -2,9 +2,9 @@
 use Rattle.std.proofs.Common.{◌≡◌, List, [], ◌∷◌, ◌++◌, map, refl, sym, ap, ◌∙◌, append-nil, append_assoc}
 use Rattle.std.proofs.lemmas.List.{reverse-append}
 use Rattle.pb_wire.specs.declared.fault.PathStep.{PathStep}
-use Rattle.pb_building.specs.declared.open.part.Parent.{Parent as ParentKept}
-use Rattle.pb_building.specs.Open.Parents.{Parent, path_of, next_step}
-use Rattle.pb_building.specs.Open.PartView.{scope_view, parent_view}
+use Rattle.pb_decode_parts.specs.declared.open.part.Parent.{Parent as ParentKept}
+use Rattle.pb_decode_parts.specs.Open.Parents.{Parent, path_of, next_step}
+use Rattle.pb_decode_parts.specs.Open.PartView.{scope_view, parent_view}
 use Rattle.pb_decode.specs.Reader.{parents_view}
 
 path_of-append : (xs ys : List Parent) → path_of (xs ++ ys) ≡ path_of ys ++ path_of xs

@@ -12,18 +12,18 @@ use Rattle.pb_wire.proofs.ScanLemmas.{moves_passed}
 use Rattle.pb_schema.specs.Types.{Types}
 use Rattle.pb_schema.specs.Rules.{IsPool}
 use Rattle.pb_schema.specs.Context.{a_message as in_message, schema_of}
-use Rattle.pb_building.specs.declared.open.target.Target.{Target}
-use Rattle.pb_building.specs.declared.tokens.step.Step.{Step}
-use Rattle.pb_building.specs.declared.tokens.step.Step.TheVariants as step
-use Rattle.pb_building.specs.Open.Parents.{CanHold, next_step, path_of}
-use Rattle.pb_building.specs.declared.values.payload_value.PayloadError.{PayloadError}
-use Rattle.pb_building.specs.declared.values.payload_value.PayloadError.TheVariants as error
-use Rattle.pb_building.specs.Values.PayloadValue.{IsBytesTarget, IfBadText}
-use Rattle.pb_building.specs.Tokens.After.{After}
+use Rattle.pb_decode_parts.specs.declared.open.target.Target.{Target}
+use Rattle.pb_decode_parts.specs.declared.tokens.step.Step.{Step}
+use Rattle.pb_decode_parts.specs.declared.tokens.step.Step.TheVariants as step
+use Rattle.pb_decode_parts.specs.Open.Parents.{CanHold, next_step, path_of}
+use Rattle.pb_decode_parts.specs.declared.values.payload_value.PayloadError.{PayloadError}
+use Rattle.pb_decode_parts.specs.declared.values.payload_value.PayloadError.TheVariants as error
+use Rattle.pb_decode_parts.specs.Values.PayloadValue.{IsBytesTarget, IfBadText}
+use Rattle.pb_decode_parts.specs.Tokens.After.{After}
 use Rattle.pb_decode.specs.Reader.{State, here, own_step, path_here, Reads, Stops, cut, Reported}
-use Rattle.pb_building.proofs.AfterLemmas.{at_payload}
-use Rattle.pb_building.proofs.PayloadSteps.{payload_cut}
-use Rattle.pb_building.proofs.WellLemmas.{can_hold}
+use Rattle.pb_decode_parts.proofs.AfterLemmas.{at_payload}
+use Rattle.pb_decode_parts.proofs.PayloadSteps.{payload_cut}
+use Rattle.pb_decode_parts.proofs.WellLemmas.{can_hold}
 use Rattle.pb_decode.proofs.FewRecords.{counts_fit}
 
 -- the step of a payload's record

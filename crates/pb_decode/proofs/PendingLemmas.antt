@@ -18,27 +18,27 @@ use Rattle.pb_schema.specs.declared.types.Kind.TheVariants as kind
 use Rattle.pb_schema.specs.declared.types.Shape.{Shape}
 use Rattle.pb_schema.specs.declared.types.Shape.TheVariants as shape
 use Rattle.pb_value.specs.Data.{Message}
-use Rattle.pb_building.specs.declared.open.part.Slot.{Slot}
-use Rattle.pb_building.specs.declared.open.part.Slot.TheVariants as slot
-use Rattle.pb_building.specs.declared.tokens.step.Step.{Step}
-use Rattle.pb_building.specs.declared.tokens.step.Step.TheVariants as step
-use Rattle.pb_building.specs.Open.Opened as opened
-use Rattle.pb_building.specs.Open.Opened.{Begun}
-use Rattle.pb_building.specs.Open.Parents.{Part, message_part, entry_part, group_part, IsSameForm, IsPartOf, Takes, Parent, Scope, Held, at_top, inside, Reached}
-use Rattle.pb_building.specs.Tokens.Numbers.{a_varint, eight_bytes, four_bytes, IsCutVarint, IsCutNumber}
-use Rattle.pb_building.specs.Tokens.After.{tag, After}
+use Rattle.pb_decode_parts.specs.declared.open.part.Slot.{Slot}
+use Rattle.pb_decode_parts.specs.declared.open.part.Slot.TheVariants as slot
+use Rattle.pb_decode_parts.specs.declared.tokens.step.Step.{Step}
+use Rattle.pb_decode_parts.specs.declared.tokens.step.Step.TheVariants as step
+use Rattle.pb_decode_parts.specs.Open.Opened as opened
+use Rattle.pb_decode_parts.specs.Open.Opened.{Begun}
+use Rattle.pb_decode_parts.specs.Open.Parents.{Part, message_part, entry_part, group_part, IsSameForm, IsPartOf, Takes, Parent, Scope, Held, at_top, inside, Reached}
+use Rattle.pb_decode_parts.specs.Tokens.Numbers.{a_varint, eight_bytes, four_bytes, IsCutVarint, IsCutNumber}
+use Rattle.pb_decode_parts.specs.Tokens.After.{tag, After}
 use Rattle.pb_decode.specs.Reader.{State}
 use Rattle.pb_decode.specs.Reader.Waiting.{WaitsAt, Waits, lists_in}
 use Rattle.pb_decode.specs.Push.{Took}
 use Rattle.pb_decode.specs.Pending.{Unfinished, in_tag, in_number, in_length, in_payload, in_list, EndsInside}
 use Rattle.pb_wire.specs.Grammar.{IsAllowed}
-use Rattle.pb_building.proofs.TokenReports.{reads_allowed}
-use Rattle.pb_building.proofs.ParentLemmas.{held_opened, part_of_context}
-use Rattle.pb_building.proofs.AfterLemmas.{at_record, at_tag, at_payload}
-use Rattle.pb_building.proofs.ListSteps.{at_list, list_reading}
+use Rattle.pb_decode_parts.proofs.TokenReports.{reads_allowed}
+use Rattle.pb_decode_parts.proofs.ParentLemmas.{held_opened, part_of_context}
+use Rattle.pb_decode_parts.proofs.AfterLemmas.{at_record, at_tag, at_payload}
+use Rattle.pb_decode_parts.proofs.ListSteps.{at_list, list_reading}
 use Rattle.pb_decode.proofs.ElementLemmas.{packs_here, element_fault}
-use Rattle.pb_building.proofs.PayloadSteps.{payload_reading}
-use Rattle.pb_building.proofs.WellLemmas.{can_hold}
+use Rattle.pb_decode_parts.proofs.PayloadSteps.{payload_reading}
+use Rattle.pb_decode_parts.proofs.WellLemmas.{can_hold}
 use Rattle.pb_decode.proofs.PushLemmas.{top_known}
 
 -- AS MANY STEPS AS FRAMES

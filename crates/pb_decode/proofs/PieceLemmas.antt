@@ -10,7 +10,7 @@ use Rattle.pb_wire.proofs.Longer.{bad_longer}
 use Rattle.pb_schema.specs.Types.{Types}
 use Rattle.pb_decode.specs.Reader.{State, Reads, Reported}
 use Rattle.pb_decode.proofs.PushLemmas.{reads_more, no_bytes}
-use Rattle.pb_building.proofs.PlaceLemmas.{slice_from}
+use Rattle.pb_decode_parts.proofs.PlaceLemmas.{slice_from}
 
 -- a fault that is settled is that of every longer input
 pub reported_longer : {pool : Types} {m depth : ℕ} {p : Place} (more : List ℕ) (f : Fault) → Reported pool m depth p f → Reported pool m depth (longer p more) f

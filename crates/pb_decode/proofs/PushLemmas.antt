@@ -14,15 +14,15 @@ use Rattle.pb_schema.specs.Types.{Types}
 use Rattle.pb_schema.specs.Context.{Context, a_message as in_message, schema_of}
 use Rattle.pb_value.specs.Data.{Message, empty}
 use Rattle.pb_value.specs.Derives.{Text}
-use Rattle.pb_building.specs.declared.tokens.step.Step.{Step}
-use Rattle.pb_building.specs.declared.tokens.step.Step.TheVariants as step
-use Rattle.pb_building.specs.Open.Parents.{Part, message_part, Parent, Scope, Held, at_top, Reached}
-use Rattle.pb_building.specs.Tokens.After.{After}
+use Rattle.pb_decode_parts.specs.declared.tokens.step.Step.{Step}
+use Rattle.pb_decode_parts.specs.declared.tokens.step.Step.TheVariants as step
+use Rattle.pb_decode_parts.specs.Open.Parents.{Part, message_part, Parent, Scope, Held, at_top, Reached}
+use Rattle.pb_decode_parts.specs.Tokens.After.{After}
 use Rattle.pb_decode.specs.Reader.{State, here, path_here, Reads, IsReading, Stops, over, cut, Reported}
 use Rattle.pb_decode.specs.Push.{Took, IsSettled}
-use Rattle.pb_building.proofs.AfterLemmas.{after_longer, at_record}
-use Rattle.pb_whole.proofs.Top.{is_top, text_read}
-use Rattle.pb_building.proofs.PlaceLemmas.{slice_from}
+use Rattle.pb_decode_parts.proofs.AfterLemmas.{after_longer, at_record}
+use Rattle.pb_decode_whole.proofs.Top.{is_top, text_read}
+use Rattle.pb_decode_parts.proofs.PlaceLemmas.{slice_from}
 
 -- WHAT IS HELD is the rest of the bytes
 pub held_rest :

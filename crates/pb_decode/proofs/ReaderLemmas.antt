@@ -12,16 +12,16 @@ use Rattle.pb_wire.specs.Schema.{records}
 use Rattle.pb_wire.specs.Grammar.{Bad}
 use Rattle.pb_schema.specs.Types.{Types}
 use Rattle.pb_schema.specs.Context.{a_message as in_message, schema_of}
-use Rattle.pb_building.specs.declared.tokens.step.Step.{Step}
-use Rattle.pb_building.specs.declared.tokens.step.Step.TheVariants as step
-use Rattle.pb_building.specs.Open.Parents.{Scope, path_of, next_step}
-use Rattle.pb_building.specs.Tokens.Numbers.{NumberFault}
-use Rattle.pb_building.specs.Tokens.After.{Tag, tag, awaited, After}
-use Rattle.pb_building.specs.declared.open.target.Target.{Target}
+use Rattle.pb_decode_parts.specs.declared.tokens.step.Step.{Step}
+use Rattle.pb_decode_parts.specs.declared.tokens.step.Step.TheVariants as step
+use Rattle.pb_decode_parts.specs.Open.Parents.{Scope, path_of, next_step}
+use Rattle.pb_decode_parts.specs.Tokens.Numbers.{NumberFault}
+use Rattle.pb_decode_parts.specs.Tokens.After.{Tag, tag, awaited, After}
+use Rattle.pb_decode_parts.specs.declared.open.target.Target.{Target}
 use Rattle.pb_decode.specs.declared.reader.state.State.{State as StateKept}
 use Rattle.pb_decode.specs.Reader.{State, state_view, CanRead, here, own_step, path_here, Reads, Stops, cut, Taken, Reported, HasReached, IfFault}
-use Rattle.pb_building.proofs.AfterLemmas.{after_record, number_reported}
-use Rattle.pb_building.proofs.PlaceLemmas.{slice_from}
+use Rattle.pb_decode_parts.proofs.AfterLemmas.{after_record, number_reported}
+use Rattle.pb_decode_parts.proofs.PlaceLemmas.{slice_from}
 
 pub reads_slice :
     (pool : Types) (m depth levels : ℕ) (base : List Record) (p0 : Place) (s : State) (n : ℕ) (l : List ℕ) → Reads pool m depth levels base p0 s (drop n l)

@@ -4,11 +4,11 @@ use Rattle.pb_wire.specs.Record.{Record}
 use Rattle.pb_wire.specs.Fault.{Place}
 use Rattle.pb_schema.specs.Types.{Types}
 use Rattle.pb_schema.specs.Rules.{IsPool}
-use Rattle.pb_building.specs.declared.tokens.step.Step.{Step}
-use Rattle.pb_building.specs.Open.Parents.{Part, CanHold, Parent, Scope}
-use Rattle.pb_building.specs.Tokens.After.{Tag, awaited, After}
-use Rattle.pb_building.proofs.AfterLemmas.{at_tag}
-use Rattle.pb_building.proofs.WellLemmas.{can_hold}
+use Rattle.pb_decode_parts.specs.declared.tokens.step.Step.{Step}
+use Rattle.pb_decode_parts.specs.Open.Parents.{Part, CanHold, Parent, Scope}
+use Rattle.pb_decode_parts.specs.Tokens.After.{Tag, awaited, After}
+use Rattle.pb_decode_parts.proofs.AfterLemmas.{at_tag}
+use Rattle.pb_decode_parts.proofs.WellLemmas.{can_hold}
 use Rattle.pb_decode.proofs.FewRecords.{counts_fit}
 
 -- THE PART MAY BE CHANGED

@@ -16,17 +16,17 @@ use Rattle.pb_value.specs.Data.{Message, empty}
 use Rattle.pb_value.specs.Value.{value, value_within}
 use Rattle.pb_value.proofs.MessageSteps.{value_of_nothing}
 use Rattle.pb_value.specs.WellFormed.{IsWellFormed}
-use Rattle.pb_building.specs.declared.tokens.step.Step.{Step}
-use Rattle.pb_building.specs.declared.tokens.step.Step.TheVariants as step
-use Rattle.pb_building.specs.Open.Opened.{SoFar}
-use Rattle.pb_building.specs.Open.Parents.{Part, message_part, Parent, Scope, EndsAt, Held, at_top, Reached}
-use Rattle.pb_building.specs.Tokens.After.{After}
+use Rattle.pb_decode_parts.specs.declared.tokens.step.Step.{Step}
+use Rattle.pb_decode_parts.specs.declared.tokens.step.Step.TheVariants as step
+use Rattle.pb_decode_parts.specs.Open.Opened.{SoFar}
+use Rattle.pb_decode_parts.specs.Open.Parents.{Part, message_part, Parent, Scope, EndsAt, Held, at_top, Reached}
+use Rattle.pb_decode_parts.specs.Tokens.After.{After}
 use Rattle.pb_decode.specs.Reader.{State, here, path_here, Reads, IsReading, Stops, over, cut}
 use Rattle.pb_decode.specs.Reader.Start.{Start, starting, further, TookFrom, IsOverAt, IsWhole, BadFrom}
-use Rattle.pb_building.proofs.AfterLemmas.{after_record, at_record}
-use Rattle.pb_building.proofs.ParentLemmas.{reached_at_start}
+use Rattle.pb_decode_parts.proofs.AfterLemmas.{after_record, at_record}
+use Rattle.pb_decode_parts.proofs.ParentLemmas.{reached_at_start}
 use Rattle.pb_decode.proofs.FinishLemmas.{cut_reported}
-use Rattle.pb_whole.proofs.Top.{is_top, top_well_formed}
+use Rattle.pb_decode_whole.proofs.Top.{is_top, top_well_formed}
 
 -- MORE BYTES
 

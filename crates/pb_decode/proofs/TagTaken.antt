@@ -11,15 +11,15 @@ use Rattle.pb_wire.specs.Schema.{Open, records, in_group}
 use Rattle.pb_wire.specs.Grammar.{Bad, RecordFault, Begins}
 use Rattle.pb_schema.specs.Types.{Types}
 use Rattle.pb_schema.specs.Context.{Context, a_message as in_message, schema_of}
-use Rattle.pb_building.specs.declared.tokens.step.Step.{Step}
-use Rattle.pb_building.specs.declared.tokens.step.Step.TheVariants as step
-use Rattle.pb_building.specs.Open.Opened.{Begun}
-use Rattle.pb_building.specs.Open.Opened as opened
-use Rattle.pb_building.specs.Open.Parents.{Part, Scope, Parent, path_of, Held, inside, Reached}
+use Rattle.pb_decode_parts.specs.declared.tokens.step.Step.{Step}
+use Rattle.pb_decode_parts.specs.declared.tokens.step.Step.TheVariants as step
+use Rattle.pb_decode_parts.specs.Open.Opened.{Begun}
+use Rattle.pb_decode_parts.specs.Open.Opened as opened
+use Rattle.pb_decode_parts.specs.Open.Parents.{Part, Scope, Parent, path_of, Held, inside, Reached}
 use Rattle.pb_decode.specs.Reader.{State, left_of, here, own_step, path_here, weight, Reads, Stops, over, cut, Reported}
 use Rattle.pb_decode.specs.Reader.Ended.{NothingEnds, StepGoesOn}
-use Rattle.pb_building.proofs.OpenedLemmas.{cut_at_end}
-use Rattle.pb_building.proofs.AfterLemmas.{reported_here}
+use Rattle.pb_decode_parts.proofs.OpenedLemmas.{cut_at_end}
+use Rattle.pb_decode_parts.proofs.AfterLemmas.{reported_here}
 use Rattle.pb_decode.proofs.EndedLemmas.{has_reached}
 
 -- A STEP weighs at most as much as half a byte

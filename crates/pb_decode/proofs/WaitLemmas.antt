@@ -1,19 +1,19 @@
 -- A reader that stops waits for the rest of what comes next.
 use Rattle.std.proofs.Common.{◌≡◌, ◌≢◌, ◌⊎◌, ℕ, zero, suc, ◌-◌, List, [], take, drop, length, ◌<◌, refl, sym, ◌∙◌, subst, inl, inr, Option, Some, None}
 use Rattle.std.specs.Prelude.{IfNone}
-use Rattle.pb_building.specs.declared.open.target.Target.{Target}
-use Rattle.pb_building.specs.declared.tokens.step.Step.{Step}
-use Rattle.pb_building.specs.declared.tokens.step.Step.TheVariants as step
+use Rattle.pb_decode_parts.specs.declared.open.target.Target.{Target}
+use Rattle.pb_decode_parts.specs.declared.tokens.step.Step.{Step}
+use Rattle.pb_decode_parts.specs.declared.tokens.step.Step.TheVariants as step
 use Rattle.pb_schema.specs.declared.types.Kind.{Kind}
 use Rattle.pb_schema.specs.Kinds.{wire_type_of}
-use Rattle.pb_building.specs.Tokens.After.{Tag, tag, awaited}
+use Rattle.pb_decode_parts.specs.Tokens.After.{Tag, tag, awaited}
 use Rattle.pb_decode.specs.Reader.{State, left_of, here}
 use Rattle.pb_decode.specs.Reader.Waiting.{WaitsAt, Waits}
-use Rattle.pb_building.specs.Tokens.Numbers.{IsCutVarint, IsCutNumber}
-use Rattle.pb_building.specs.Tokens.Number.{IsNumberType}
+use Rattle.pb_decode_parts.specs.Tokens.Numbers.{IsCutVarint, IsCutNumber}
+use Rattle.pb_decode_parts.specs.Tokens.Number.{IsNumberType}
 use Rattle.pb_decode.specs.Reader.Ended.{NothingEnds, StepGoesOn}
-use Rattle.pb_building.proofs.OpenedLemmas.{nothing_left}
-use Rattle.pb_building.proofs.PlaceLemmas.{slice_from}
+use Rattle.pb_decode_parts.proofs.OpenedLemmas.{nothing_left}
+use Rattle.pb_decode_parts.proofs.PlaceLemmas.{slice_from}
 
 same_type : (t u : Tag) → Some t ≡ Some u → t.type ≡ u.type
 same_type t u is = cc

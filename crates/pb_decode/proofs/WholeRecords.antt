@@ -8,24 +8,24 @@ use Rattle.pb_schema.specs.declared.types.MessageId.{MessageId}
 use Rattle.pb_schema.specs.Types.{Types}
 use Rattle.pb_schema.specs.Rules.{IsPool}
 use Rattle.pb_value.specs.Data.{Message}
-use Rattle.pb_building.specs.declared.open.part.Slot.{Slot}
-use Rattle.pb_building.specs.declared.open.part.Slot.TheVariants as slot
-use Rattle.pb_building.specs.declared.open.target.Target.TheVariants as target
-use Rattle.pb_building.specs.declared.tokens.record_tag.RecordTag.{RecordTag}
-use Rattle.pb_building.specs.declared.tokens.step.Step.{Step}
-use Rattle.pb_building.specs.declared.tokens.step.Step.TheVariants as step
-use Rattle.pb_building.specs.Open.Parents.{Part, message_part, entry_part, parent_of, CanHold, up_to, Reached}
-use Rattle.pb_building.specs.Open.Openings.{taken_message, without_message, depth_left_in}
-use Rattle.pb_building.specs.Open.Targets.{Means, part_context}
-use Rattle.pb_building.specs.Tokens.After.{HasLevelFor, After}
-use Rattle.pb_whole.specs.Reads.{IsOpen}
+use Rattle.pb_decode_parts.specs.declared.open.part.Slot.{Slot}
+use Rattle.pb_decode_parts.specs.declared.open.part.Slot.TheVariants as slot
+use Rattle.pb_decode_parts.specs.declared.open.target.Target.TheVariants as target
+use Rattle.pb_decode_parts.specs.declared.tokens.record_tag.RecordTag.{RecordTag}
+use Rattle.pb_decode_parts.specs.declared.tokens.step.Step.{Step}
+use Rattle.pb_decode_parts.specs.declared.tokens.step.Step.TheVariants as step
+use Rattle.pb_decode_parts.specs.Open.Parents.{Part, message_part, entry_part, parent_of, CanHold, up_to, Reached}
+use Rattle.pb_decode_parts.specs.Open.Openings.{taken_message, without_message, depth_left_in}
+use Rattle.pb_decode_parts.specs.Open.Targets.{Means, part_context}
+use Rattle.pb_decode_parts.specs.Tokens.After.{HasLevelFor, After}
+use Rattle.pb_decode_whole.specs.Reads.{IsOpen}
 use Rattle.pb_decode.specs.declared.reader.state.State.{State as StateKept}
 use Rattle.pb_decode.specs.Reader.{State, state_view, left_of, here, Reads, HasReached, IsReading}
 use Rattle.pb_decode.specs.Reader.Steps.{IsAtTag}
-use Rattle.pb_building.proofs.AfterLemmas.{after_record}
-use Rattle.pb_building.proofs.PlaceLemmas.{slice_from}
-use Rattle.pb_building.proofs.WellLemmas.{can_hold}
-use Rattle.pb_whole.proofs.Payloads.{entry_begun, message_begun}
+use Rattle.pb_decode_parts.proofs.AfterLemmas.{after_record}
+use Rattle.pb_decode_parts.proofs.PlaceLemmas.{slice_from}
+use Rattle.pb_decode_parts.proofs.WellLemmas.{can_hold}
+use Rattle.pb_decode_whole.proofs.Payloads.{entry_begun, message_begun}
 use Rattle.pb_decode.proofs.EndedLemmas.{has_reached}
 use Rattle.pb_decode.proofs.FewRecords.{counts_fit}
 

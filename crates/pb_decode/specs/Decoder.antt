@@ -7,10 +7,10 @@ use Rattle.pb_wire.specs.Record.{Payload}
 use Rattle.pb_schema.specs.Types.{Types}
 use Rattle.pb_value.specs.Data.{Datum}
 use Rattle.pb_value.specs.Code.{to_datum, from_datum, from_datum-to_datum, to_payload, from_payload, from_payload-to_payload}
-use Rattle.pb_building.specs.declared.open.part.Slot.{Slot}
-use Rattle.pb_building.specs.declared.tokens.step.Step.{Step}
-use Rattle.pb_building.specs.Open.Parents.{Part, Scope, Parent}
-use Rattle.pb_building.specs.Open.Occurrences.{counts_view}
+use Rattle.pb_decode_parts.specs.declared.open.part.Slot.{Slot}
+use Rattle.pb_decode_parts.specs.declared.tokens.step.Step.{Step}
+use Rattle.pb_decode_parts.specs.Open.Parents.{Part, Scope, Parent}
+use Rattle.pb_decode_parts.specs.Open.Occurrences.{counts_view}
 use Rattle.pb_decode.specs.Reader.{State}
 
 -- the scope of a part, with the counts of its records as a list

@@ -7,8 +7,8 @@ use Rattle.pb_wire.specs.Schema.{Schema, Element, unread, text, packed, Open, re
 use Rattle.pb_wire.specs.Sound.{AreElements}
 use Rattle.pb_wire.specs.Grammar.{payload_at, IsAllowed, ElementFault}
 use Rattle.pb_wire.specs.declared.fault.Cause.TheVariants.{Truncated}
-use Rattle.pb_building.specs.Open.Opened.{SoFar, Opened}
-use Rattle.pb_building.specs.Tokens.Numbers.{IsCutVarint, IsCutNumber}
+use Rattle.pb_decode_parts.specs.Open.Opened.{SoFar, Opened}
+use Rattle.pb_decode_parts.specs.Tokens.Numbers.{IsCutVarint, IsCutNumber}
 
 -- With this many levels left the bytes end inside the record that comes next at q, or before it: this many of its open token or payload
 -- are given, this many packed lists are open in it, and this many bytes are declared for its payload of a string, of bytes or of an unknown record.

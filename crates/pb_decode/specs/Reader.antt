@@ -19,13 +19,13 @@ use Rattle.pb_schema.specs.Rules.{IsPool}
 use Rattle.pb_schema.specs.Context.{a_message, schema_of}
 use Rattle.pb_decode.specs.declared.error.DecodeError.{DecodeError}
 use Rattle.pb_decode.specs.declared.error.DecodeError.TheVariants as error
-use Rattle.pb_building.specs.declared.open.part.Parent.{Parent as ParentKept}
+use Rattle.pb_decode_parts.specs.declared.open.part.Parent.{Parent as ParentKept}
 use Rattle.pb_decode.specs.declared.reader.state.State.{State as StateKept}
-use Rattle.pb_building.specs.declared.tokens.step.Step.{Step}
-use Rattle.pb_building.specs.declared.tokens.step.Step.TheVariants as step
-use Rattle.pb_building.specs.Open.Parents.{Part, Scope, Parent, path_of, path_to, next_step, Reached}
-use Rattle.pb_building.specs.Open.PartView.{part_view, scope_view, parent_view}
-use Rattle.pb_building.specs.Tokens.After.{After}
+use Rattle.pb_decode_parts.specs.declared.tokens.step.Step.{Step}
+use Rattle.pb_decode_parts.specs.declared.tokens.step.Step.TheVariants as step
+use Rattle.pb_decode_parts.specs.Open.Parents.{Part, Scope, Parent, path_of, path_to, next_step, Reached}
+use Rattle.pb_decode_parts.specs.Open.PartView.{part_view, scope_view, parent_view}
+use Rattle.pb_decode_parts.specs.Tokens.After.{After}
 
 -- where a reader is: the innermost part with its scope, its parents, innermost first, and what comes next at a position
 pub record State : Type 0 where

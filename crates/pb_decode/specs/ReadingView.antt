@@ -3,11 +3,11 @@ use Rattle.std.specs.Prelude.{ℕ, ◌<◌, length, map, Option, IfSome}
 use Rattle.pb_wire.specs.Limits.{Bounds}
 use Rattle.pb_schema.specs.Types.{Types}
 use Rattle.pb_schema.specs.Rules.{IsPool}
-use Rattle.pb_building.specs.declared.open.part.Scope.{Scope}
-use Rattle.pb_building.specs.declared.open.part.Parent.{Parent}
+use Rattle.pb_decode_parts.specs.declared.open.part.Scope.{Scope}
+use Rattle.pb_decode_parts.specs.declared.open.part.Parent.{Parent}
 use Rattle.pb_decode.specs.declared.push.Reading.{Reading}
 use Rattle.pb_decode.specs.Decoder as decoder
-use Rattle.pb_building.specs.Open.PartView.{part_view}
+use Rattle.pb_decode_parts.specs.Open.PartView.{part_view}
 use Rattle.pb_decode.specs.Reader.{state_view}
 use Rattle.pb_decode.specs.Push.{TookSome}
 use Rattle.pb_decode.specs.Reader.Waiting.{Waits}

@@ -4,7 +4,7 @@ ghost use Rattle.std.specs.Prelude.{◌≡◌};
 ghost use Rattle.pb_decode.specs.ErrorNumber.{number_of};
 ghost use Rattle.pb_decode.specs.declared.error.DecodeError.TheVariants.{Memory};
 
-use pb_building::NoMemory;
+use pb_decode_parts::NoMemory;
 use pb_wire::{Cause, PathStep};
 use std::alloc::{AllocError, AllocFailed};
 use thiserror::Error;

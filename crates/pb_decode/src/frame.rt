@@ -17,9 +17,9 @@ use crate::error::DecodeError;
 use crate::from_device::read_pieces;
 use crate::push::Reading;
 use crate::reader::start::{begin_empty, finish_message, take_onward};
+use pb_decode_whole::build;
 use pb_schema::{MessageId, Pool};
 use pb_value::DynamicMessage;
-use pb_whole::build;
 use pb_wire::{Input, Limits};
 use std::alloc::Global;
 

@@ -19,12 +19,12 @@ use crate::reader::fault::too_large;
 use crate::reader::start::{begin_empty, finish_message};
 use crate::reader::state::State;
 use crate::validating::refuse;
-use pb_building::{NoMemory, Step};
+use pb_decode_parts::{NoMemory, Step};
+use pb_decode_whole::build;
+use pb_decode_whole::reader::Reader;
 use pb_schema::{MessageId, Pool};
 use pb_value::DynamicMessage;
 use pb_value::bodies::empty_body;
-use pb_whole::build;
-use pb_whole::reader::Reader;
 use pb_wire::{Cause, Limits};
 use std::alloc::Global;
 

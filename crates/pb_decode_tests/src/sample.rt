@@ -21,14 +21,14 @@
 
 ghost use Rattle.std.specs.Prelude.{◌<◌, length};
 
-use pb_building::NoMemory;
 use pb_decode::{DecodeError, PushDecoder, decode, validate};
+use pb_decode_parts::NoMemory;
+use pb_decode_whole::build;
 use pb_schema::{EnumId, Kind, MessageId, Pool, Shape};
 use pb_test_types::{
     EnumRow, FIELDS_OF_F, FIELDS_OF_T, FieldRow, FileRow, PACKED, TypeRow, UNPACKED, pool_of,
 };
 use pb_value::DynamicMessage;
-use pb_whole::build;
 use pb_wire::Limits;
 use std::alloc::Global;
 use std::test::Fail;

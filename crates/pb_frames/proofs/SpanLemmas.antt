@@ -1,13 +1,14 @@
 -- The bytes of a frame, where an input begins with them, and what is wrong where it does not.
-use Rattle.std.specs.Prelude.{IfOk, IfSome, Result, Ok, Err}
+use Rattle.std.specs.Prelude.{⊤, IfOk, IfSome, IfNone, Result, Ok, Err}
 use Rattle.std.proofs.KnownBytes.{Consumes-trans}
-use Rattle.std.proofs.Common.{◌≡◌, ℕ, ◌+◌, ◌-◌, ◌^◌, ◌<◌, ◌≤◌, min, List, [], ◌++◌, length, take, drop, refl, sym, ap, subst, ◌∙◌, arith, append_assoc, append-nil, length-append, Option, Some, None}
+use Rattle.std.proofs.Common.{◌≡◌, ℕ, ◌+◌, ◌-◌, ◌^◌, ◌<◌, ◌≤◌, min, List, [], ◌++◌, length, take, drop, refl, sym, ap, subst, ◌∙◌, add-one, arith, append_assoc, append-nil, length-append, Option, Some, None}
 use Rattle.std.proofs.lemmas.List.{take_all, take-append-drop, length-take-le, length-take}
 use Rattle.std.specs.Io.KnownBytes.{Consumes, IsAtEnd}
 use Rattle.pb_wire.specs.Varint.{IsVarint}
 use Rattle.pb_wire.specs.Fault.{Fault, fault, text_at, VarintFault}
 use Rattle.pb_wire.specs.Limits.{Bounds}
 use Rattle.pb_wire.specs.declared.transfer.ReadFault.{ReadFault}
+use Rattle.pb_wire.specs.declared.fault.Cause.{Cause}
 use Rattle.pb_wire.specs.declared.fault.Cause.TheVariants.{LengthTooLarge}
 use Rattle.pb_wire.proofs.Tokens.{varint_not_both}
 use Rattle.pb_wire.proofs.Unique.{same_varint}
@@ -18,7 +19,8 @@ use Rattle.pb_stream.specs.Loops.{EndsVarint}
 use Rattle.pb_stream.specs.Taking.{Takes, TakesLength}
 use Rattle.pb_stream.proofs.LengthLemmas.{fault_taken, reads_first}
 use Rattle.pb_frames.specs.Next.{IsJudged, IsNext, TakesSpan, bounded_size, fault_of}
-use Rattle.pb_frames.specs.Spans.{HasNoSpan, IsSpan}
+use Rattle.pb_frames.specs.Passed.{HasFewerSpans, PassesSpans}
+use Rattle.pb_frames.specs.Spans.{AreSpans, HasNoSpan, IsSpan, none_there, one_more}
 use Rattle.pb_frames.specs.declared.taking.NextFrame.{NextFrame}
 use Rattle.pb_frames.specs.declared.taking.NextFrame.TheVariants.{End, Message, Refused, Cut}
 use Rattle.pb_frames.specs.declared.taking.Reason.{Reason}
@@ -202,3 +204,83 @@ unread_length pool m limits b reason (Some input) (Some rest) small some taken e
     rw none (fault_taken b rest (fault reason.byte [] reason.cause) small ends bad) in
     subst (λ (z : List ℕ). IsNext pool m limits (Some z) (Some rest) (Cut reason)) (sym taken)
     (no_length (b ++ rest) (fault_of reason) there, FrameFault.no_length (some_bytes b rest some) there)
+
+-- FRAMES THAT ARE PASSED OVER
+
+pub unread_span :
+    (b : List ℕ) (byte : ℕ) (cause : Cause) (old new : Option (List ℕ)) → length b ≤ 10 → Consumes old new b → EndsVarint b new
+    → VarintFault (text_at b) (fault byte [] cause) → IfSome old HasNoSpan
+unread_span b byte cause None new small taken ends bad = tt
+unread_span b byte cause (Some input) None small taken ends bad = absurd taken
+unread_span b byte cause (Some input) (Some rest) small taken ends bad =
+    subst HasNoSpan (sym taken) (no_length (b ++ rest) (fault byte [] cause) (fault_taken b rest (fault byte [] cause) small ends bad))
+
+pub cut_span :
+    (start n passed : ℕ) (x middle new : Option (List ℕ)) → TakesLength start n x middle → passed < n → Takes passed middle new → IsAtEnd new
+    → IfSome x HasNoSpan
+cut_span start n passed None middle new h few gone end = tt
+cut_span start n passed (Some input) None new (front, is_varint, counts, taken) few gone end = absurd taken
+cut_span start n passed (Some input) (Some l) None (front, is_varint, counts, taken) few (bytes, all, gone) end = absurd gone
+cut_span start n passed (Some input) (Some l) (Some rest) (front, is_varint, counts, taken) few (bytes, all, gone) end =
+    let size : length l ≡ length bytes + length rest = ap length gone ∙ length-append bytes rest in
+    let none : length rest ≡ 0 = ap length end in
+    subst HasNoSpan (sym taken) (fewer_bytes n front l is_varint (omega (arith, size, none, all, few)))
+
+pub whole_span :
+    (start n size : ℕ) (x middle new : Option (List ℕ)) → TakesLength start n x middle → Takes n middle new → size ≡ min (n + start) (2 ^ 64 - 1)
+    → IfSome x (λ input. TakesSpan input new size (λ span. ⊤))
+whole_span start n size None middle new h passed sized = tt
+whole_span start n size (Some input) None new (front, is_varint, counts, taken) passed sized = absurd taken
+whole_span start n size (Some input) (Some l) None (front, is_varint, counts, taken) (bytes, all, passed) sized = absurd passed
+whole_span start n size (Some input) (Some l) (Some rest) (front, is_varint, counts, taken) (bytes, all, passed) sized = record {
+  span = front ++ bytes;
+  rest = rest;
+  joined = taken ∙ ap (λ (z : List ℕ). front ++ z) passed ∙ sym (append_assoc front bytes rest);
+  is_span = whole n front bytes is_varint all;
+  after = refl;
+  size_is = let sum = length-append front bytes in omega (arith, sum, all, counts, sized);
+  holds = tt;
+}
+
+some_same : (a b : List ℕ) → Some a ≡ Some b → a ≡ b
+some_same a b e = let P : Option (List ℕ) → Type 0 = λ o. IfSome o (λ z. z ≡ b) in subst P (sym e) refl
+
+none_some : (b : List ℕ) → None ≡ Some b → ⊥
+none_some b e = let P : Option (List ℕ) → Type 0 = λ o. IfNone o ⊥ in subst P (sym e) tt
+
+pub none_passed : (o : Option (List ℕ)) → IfSome o (λ input. PassesSpans 0 input o 0)
+none_passed None = tt
+none_passed (Some input) = record { span = []; rest = input; joined = refl; are_spans = none_there; after = refl; size_is = refl }
+
+-- one more
+pub more_passed :
+    (n done size sum : ℕ) (x middle new : Option (List ℕ)) → IfSome x (λ input. PassesSpans n input middle done)
+    → IfSome middle (λ input. TakesSpan input new size (λ span. ⊤)) → sum ≡ min (done + size) (2 ^ 64 - 1)
+    → IfSome x (λ input. PassesSpans (n + 1) input new sum)
+more_passed n done size sum None middle new before next is = tt
+more_passed n done size sum (Some input) None new before next is = absurd (none_some before.rest before.after)
+more_passed n done size sum (Some input) (Some rest) new before next is =
+    let same : rest ≡ before.rest = some_same rest before.rest before.after in record {
+      span = before.span ++ next.span;
+      rest = next.rest;
+      joined =
+          before.joined ∙ ap (λ (z : List ℕ). before.span ++ z) (sym same ∙ next.joined) ∙ sym (append_assoc before.span next.span next.rest);
+      are_spans =
+          let P : ℕ → Type 0 = λ k. AreSpans k (before.span ++ next.span) in
+          subst P (sym (add-one n)) (one_more before.are_spans next.is_span);
+      after = next.after;
+      size_is =
+          let all = length-append before.span next.span in
+          let first = before.size_is in
+          let second = next.size_is in
+          omega (arith, is, all, first, second);
+    }
+
+-- or none
+pub fewer_passed :
+    (n count done : ℕ) (x middle : Option (List ℕ)) → n < count → IfSome x (λ input. PassesSpans n input middle done) → IfSome middle HasNoSpan
+    → IfSome x (HasFewerSpans count)
+fewer_passed n count done None middle below before none = tt
+fewer_passed n count done (Some input) None below before none = absurd (none_some before.rest before.after)
+fewer_passed n count done (Some input) (Some rest) below before none =
+    (n, before.span, before.rest, below, before.joined, before.are_spans, subst HasNoSpan (some_same rest before.rest before.after) none)

@@ -13,6 +13,8 @@ pub(crate) const MAX_LEN: usize = 10;
 fn next_byte<I: Input>(input: &mut I) -> Result<Option<u8>, DeviceFault>
     ensures taken { IfOk result (λ o. IfSome o (λ b. Consumes (I.left input.old) (I.left input.new) (b ∷ []))) }
     ensures end { IfOk result (λ o. IfNone o (Consumes (I.left input.old) (I.left input.new) [] × IsAtEnd (I.left input.new))) }
+    ensures kept { OnOk result (I.failures input.new ≡ I.failures input.old) }
+    ensures failed { OnErr result (I.failures input.new ≢ I.failures input.old) }
     ensures steady { I.is_steady input.old ≡ true → IsOk result × (I.is_steady input.new ≡ true) }
 {
     let mut byte = [0u8];
@@ -31,6 +33,8 @@ pub(crate) fn take_varint<I: Input>(
     ensures within { IfOk result (λ n. n ≤ 10) }
     ensures taken { IfOk result (λ n. Consumes (I.left input.old) (I.left input.new) (take n bytes.new)) }
     ensures ends { IfOk result (λ n. EndsVarint (take n bytes.new) (I.left input.new)) }
+    ensures kept { OnOk result (I.failures input.new ≡ I.failures input.old) }
+    ensures failed { OnErr result (I.failures input.new ≢ I.failures input.old) }
     ensures steady { I.is_steady input.old ≡ true → IsOk result × (I.is_steady input.new ≡ true) }
 {
     for count in 0..MAX_LEN {

@@ -1,6 +1,6 @@
 //! Bytes that are taken and not kept.
 
-ghost use Rattle.std.specs.Prelude.{◌≡◌, ◌≤◌, ◌<◌, true, length, IfOk, IsOk};
+ghost use Rattle.std.specs.Prelude.{◌≡◌, ◌≢◌, ◌≤◌, ◌<◌, true, length, IfOk, IsOk, OnOk, OnErr};
 ghost use Rattle.std.specs.Io.KnownBytes.{Consumes, IsAtEnd};
 ghost use Rattle.pb_stream.specs.Taking.{Takes};
 
@@ -14,6 +14,8 @@ pub(crate) fn pass_over<I: Input>(input: &mut I, count: u64) -> Result<u64, Devi
     ensures within { IfOk result (λ n. n ≤ count) }
     ensures taken { IfOk result (λ n. Takes n (I.left input.old) (I.left input.new)) }
     ensures ends { IfOk result (λ n. n < count → IsAtEnd (I.left input.new)) }
+    ensures kept { OnOk result (I.failures input.new ≡ I.failures input.old) }
+    ensures failed { OnErr result (I.failures input.new ≢ I.failures input.old) }
     ensures steady { I.is_steady input.old ≡ true → IsOk result × (I.is_steady input.new ≡ true) }
 {
     let mut buffer = [0u8; PIECE];

@@ -1,6 +1,6 @@
 //! The next frame of a stream.
 
-ghost use Rattle.std.specs.Prelude.{◌≡◌, ◌≢◌, ◌<◌, ◌≤◌, ℕ, List, [], Option, true, Err, length, IfOk};
+ghost use Rattle.std.specs.Prelude.{◌≡◌, ◌≢◌, ◌<◌, ◌≤◌, ℕ, List, [], Option, true, Err, length, IfOk, OnOk, IsErrOf};
 ghost use Rattle.pb_wire.specs.Limits.{Bounds};
 ghost use Rattle.pb_schema.specs.Types.{Types};
 ghost use Rattle.pb_stream.specs.Taking.{TakesLength};
@@ -60,6 +60,9 @@ pub fn next_frame<'p, I: Input>(
     requires { message_type.0 < length pool.now.messages }
     ensures of_type { IfOk result (IsOfType pool.now message_type.0) }
     ensures next { IfOk result (IsNext pool.now message_type.0 limits (I.left input.old) (I.left input.new)) }
+    ensures kept { OnOk result (I.failures input.new ≡ I.failures input.old) }
+    ensures failed { IsErrOf result ReadFault.Device → I.failures input.new ≢ I.failures input.old }
+    ensures memory { IsErrOf result ReadFault.Memory → I.failures input.new ≡ I.failures input.old }
     ensures steady { I.is_steady input.old ≡ true → result ≢ Err ReadFault.Device }
     ensures stays { I.is_steady input.old ≡ true → I.is_steady input.new ≡ true }
 {
@@ -111,6 +114,9 @@ fn pass_too_large<'p, I: Input>(
     ensures of_type { (pool : Types) (m : ℕ) → IfOk result (IsOfType pool m) }
     ensures next { (pool : Types) (m : ℕ) (limits : Bounds) (x : Option (List ℕ)) → limits.bytes < count
         → TakesLength start count x (I.left input.old) → IfOk result (IsNext pool m limits x (I.left input.new)) }
+    ensures kept { OnOk result (I.failures input.new ≡ I.failures input.old) }
+    ensures failed { IsErrOf result ReadFault.Device → I.failures input.new ≢ I.failures input.old }
+    ensures memory { IsErrOf result ReadFault.Memory → I.failures input.new ≡ I.failures input.old }
     ensures steady { I.is_steady input.old ≡ true → result ≢ Err ReadFault.Device }
     ensures stays { I.is_steady input.old ≡ true → I.is_steady input.new ≡ true }
 {
@@ -141,6 +147,9 @@ fn take_message<'p, I: Input>(
     ensures of_type { IfOk result (IsOfType pool.now message_type.0) }
     ensures next { (x : Option (List ℕ)) → TakesLength start size x (I.left input.old)
         → IfOk result (IsNext pool.now message_type.0 limits x (I.left input.new)) }
+    ensures kept { OnOk result (I.failures input.new ≡ I.failures input.old) }
+    ensures failed { IsErrOf result ReadFault.Device → I.failures input.new ≢ I.failures input.old }
+    ensures memory { IsErrOf result ReadFault.Memory → I.failures input.new ≡ I.failures input.old }
     ensures steady { I.is_steady input.old ≡ true → result ≢ Err ReadFault.Device }
     ensures stays { I.is_steady input.old ≡ true → I.is_steady input.new ≡ true }
 {

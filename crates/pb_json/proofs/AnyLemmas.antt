@@ -1,5 +1,5 @@
 -- What an Any holds, and whether a pool declares it.
-use Rattle.std.proofs.Common.{◌≡◌, ℕ, zero, suc, ◌+◌, List, [], ◌∷◌, Option, None, Some, Bor, refl, sym, ap, ◌∙◌, inl, inr, ◌⊎◌}
+use Rattle.std.proofs.Common.{◌≡◌, ℕ, zero, suc, ◌+◌, List, [], ◌∷◌, Option, None, Some, Bor, Result, Ok, Err, IfOk, IfErr, IfSome, refl, sym, ap, ◌∙◌, subst, inl, inr, ◌⊎◌}
 use Rattle.std.specs.Prelude.{Bool, true, false, is_some, option_map, option_and_then, All, codes, cond, if◌then◌else◌}
 use Rattle.std.specs.Str.{bytes_eq}
 use Rattle.std.specs.List.{AllByRecursion, list_all, position_from}
@@ -7,6 +7,7 @@ use Rattle.std.proofs.lemmas.Bool.{and_from, lt-ltb}
 use Rattle.std.proofs.lemmas.Iterator.Adapters.{position_from-zero}
 use Rattle.std.proofs.lemmas.List.Elements.{recursion_from_All}
 use Rattle.std.proofs.lemmas.Slice.Eq.{bytes_eq-Decides}
+use Rattle.std.specs.declared.alloc.AllocError.{AllocError}
 use Rattle.pb_wire.specs.Exact.{Exactly}
 use Rattle.pb_wire.specs.Fault.{Fault}
 use Rattle.pb_wire.specs.Grammar.{HasFault}
@@ -18,9 +19,15 @@ use Rattle.pb_schema.specs.Names.{message_names, name_at}
 use Rattle.pb_schema.specs.Tables.{place_of}
 use Rattle.pb_value.specs.Data.{Message}
 use Rattle.pb_value.specs.Derives.{Text}
+use Rattle.pb_value.specs.Dynamic.{Dynamic}
+use Rattle.pb_decode.specs.Push.{IsFaultOf}
+use Rattle.pb_decode.specs.Reader.{IfFault}
+use Rattle.pb_decode.specs.declared.error.DecodeError.{DecodeError}
+use Rattle.pb_decode.specs.declared.error.DecodeError.TheVariants as error
 use Rattle.pb_decode.proofs.DecodeLemmas.{exactly_value, same_value}
 use Rattle.pb_json.specs.declared.well_known.WellKnown.TheVariants as form
 use Rattle.std.specs.Path.{rsplit_once}
+use Rattle.pb_json.specs.Opening.{Opens}
 use Rattle.pb_json.specs.Anys.{type_meant, typed}
 use Rattle.pb_json.specs.Encoded.{bytes_are, encoded_if, is_byte, message_encoded, value_or_none}
 use Rattle.pb_json.specs.WellKnown.{declares_any, is_wrapper_name, well_known, well_known_named}
@@ -71,6 +78,25 @@ module _ (pool : Types) (m : ℕ) (b : List ℕ) (bytes : All IsByte b) where
 
   pub opened_none : (f : Fault) → HasFault (schema_of pool) (a_message m) full b f → None ≡ typed pool b m
   opened_none f wrong = ap (λ (o : Option Message). option_map (λ w. (m, w)) o) (sym (encoded-none f wrong))
+
+  -- what is opened, by what decoding answers
+  pub opened_of : (d : Result Dynamic DecodeError) (r : Result (Option Dynamic) AllocError) → IfOk d (λ v. (v.pool ≡ pool) × (v.kind ≡ m))
+      → IfOk d (λ v. Text pool m full b v.body) → IfErr d (λ e. IfFault e (IsFaultOf pool m full b)) → Opens d r
+      → IfOk r (λ o. option_map (λ v. (v.kind, v.body)) o ≡ typed pool b m)
+  opened_of (Ok v) r of text wrong e = subst (λ (x : Result (Option Dynamic) AllocError). IfOk x (λ o. option_map (λ w. (w.kind, w.body)) o ≡ typed pool b m)) (sym e) (opened_is v.kind v.body of.1 text)
+  opened_of (Err (error.Fault byte path cause)) r of text wrong e =
+      subst (λ (x : Result (Option Dynamic) AllocError). IfOk x (λ o. option_map (λ w. (w.kind, w.body)) o ≡ typed pool b m)) (sym e) (opened_none _ wrong)
+  opened_of (Err error.Memory) r of text wrong (x, e) = rw e tt
+  opened_of (Err error.Device) r of text wrong (x, e) = rw e tt
+  opened_of (Err error.Finished) r of text wrong (x, e) = rw e tt
+
+  pub opened_pool : (d : Result Dynamic DecodeError) (r : Result (Option Dynamic) AllocError) → IfOk d (λ v. (v.pool ≡ pool) × (v.kind ≡ m)) → Opens d r
+      → IfOk r (λ o. IfSome o (λ v. v.pool ≡ pool))
+  opened_pool (Ok v) r of e = rw e (of.0)
+  opened_pool (Err (error.Fault byte path cause)) r of e = rw e tt
+  opened_pool (Err error.Memory) r of (x, e) = rw e tt
+  opened_pool (Err error.Device) r of (x, e) = rw e tt
+  opened_pool (Err error.Finished) r of (x, e) = rw e tt
 
 -- THE NAME OF A TYPE
 

@@ -20,4 +20,4 @@ pub mod TaggedLemmas
 -- for what is refused
 pub mod RefusalLemmas
 -- messages as JSON, worked out by the definitions
-mod JsonRows
+mod Rows

@@ -10,6 +10,7 @@ pub mod WellKnown
 pub mod Held
 pub mod Encoded
 pub mod Anys
+pub mod Opening
 pub mod Mapping
 pub mod Refusals
 -- ---- what the calls answer

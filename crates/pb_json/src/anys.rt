@@ -2,6 +2,7 @@
 
 ghost use Rattle.std.specs.Prelude.{◌≡◌, ◌<◌, length, option_map, IfOk, IfSome};
 ghost use Rattle.pb_value.specs.View.{fields_view};
+ghost use Rattle.pb_json.specs.Opening.{Opens};
 ghost use Rattle.pb_json.specs.Anys.{any_message, is_unset, type_meant, typed};
 ghost use Rattle.pb_json.specs.Held.{string_at};
 
@@ -70,7 +71,16 @@ pub fn open<'p>(
     ensures opened { IfOk result (λ o. option_map (λ m. (m.kind, m.body)) o ≡ typed pool.now bytes.now id.0) }
     ensures pool { IfOk result (λ o. IfSome o (λ m. m.pool ≡ pool.now)) }
 {
-    match decode(alloc, pool, id, bytes, Limits::FULL) {
+    opened(decode(alloc, pool, id, bytes, Limits::FULL))
+}
+
+/// What is opened, by what decoding answers: nothing of bytes with a fault.
+fn opened(
+    decoded: Result<DynamicMessage<'_>, DecodeError>,
+) -> Result<Option<DynamicMessage<'_>>, AllocError>
+    ensures { Opens decoded.entry result }
+{
+    match decoded {
         Ok(message) => Ok(Some(message)),
         Err(DecodeError::Fault { .. }) => Ok(None),
         Err(_) => Err(AllocError),

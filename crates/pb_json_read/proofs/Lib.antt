@@ -1,5 +1,7 @@
--- for names of members
+-- for names of members: the places of the first things that have a name, and tables of these
 pub mod NameLemmas
+pub mod PlaceLemmas
+pub mod NameTableLemmas
 -- for readers of single values: the one thing of which a fact holds, and what is read of none
 pub mod ScalarLemmas
 pub mod ValueLemmas
@@ -17,5 +19,7 @@ pub mod TextsLemmas
 mod Rows
 mod FormRows
 mod AnyRows
+mod EnumRows
+mod MemberRows
 -- for the whole call
 pub mod TextLemmas

@@ -1,5 +1,5 @@
 -- Faults by their parts, and the names of causes.
-use Rattle.std.specs.Prelude.{ℕ, List, codes}
+use Rattle.std.specs.Prelude.{ℕ, List, ◌++◌, codes, decimal}
 use Rattle.pb_json_text.specs.declared.fault.JsonCause.{JsonCause}
 use Rattle.pb_json_text.specs.declared.fault.JsonCause.TheVariants as text_cause
 use Rattle.pb_json_text.specs.declared.fault.JsonFault.{JsonFault}
@@ -35,3 +35,7 @@ name_of SecondMember = codes "SecondMember"
 name_of BadKey = codes "BadKey"
 name_of BadValue = codes "BadValue"
 name_of OutOfMemory = codes "OutOfMemory"
+
+-- the byte and the cause
+abbrev pub error_text : JsonReadError → List ℕ
+error_text e = codes "byte " ++ decimal e.byte ++ codes ": " ++ name_of e.cause

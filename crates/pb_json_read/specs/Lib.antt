@@ -3,6 +3,8 @@ pub mod Faults
 -- ---- what single parts are read as
 pub mod WellKnown
 pub mod Names
+pub mod NameTables
+pub mod Tables
 pub mod Scalars
 pub mod Values
 pub mod Keys

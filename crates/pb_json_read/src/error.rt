@@ -100,6 +100,11 @@ impl fmt::Display for JsonReadCause {
 }
 
 impl fmt::Display for JsonReadError {
+    ghost use Rattle.std.specs.Prelude.{Some};
+    ghost use Rattle.pb_json_read.specs.Faults.{error_text};
+
+    ghost output = { λ e. Some (error_text e) };
+
     fn fmt<W: fmt::Write>(&self, f: &mut fmt::Formatter<W>) -> fmt::Result {
         write!(f, "byte {}: {}", self.byte, self.cause)
     }

@@ -85,7 +85,7 @@ impl Context<'_> {
             (meant self.now.names.now self.now.pool.now id.0 (named member.now).1)
             (named member.now) (parts_view parts.old)) result }
     {
-        match field_meant(self.names, self.pool, id, member.name.as_str()) {
+        match field_meant(self.names, self.pool, self.tables, id, member.name.as_str()) {
             Some(field) => self.read_field(field, parts, member),
             None => unknown_name(self.rules, member.at),
         }

@@ -25,7 +25,7 @@ pub(crate) fn read_plain(
     requires { NamesType (length context.now.pool.now.messages) (length context.now.pool.now.enums) kind }
     ensures { Answers (option_map value_view) (ReadsScalar context.now.pool.now context.now.rules kind value.now.at (form_view value.now.form)) result }
 {
-    match read_scalar(context.alloc, context.pool, kind, &value.form)? {
+    match read_scalar(context, kind, &value.form)? {
         Some(read) => Ok(Some(read)),
         None => without_value(context.rules, kind, value),
     }

@@ -7,8 +7,11 @@ ghost use Rattle.pb_json_text.specs.Json.{null};
 ghost use Rattle.pb_json_text.specs.View.{form_view};
 ghost use Rattle.pb_schema.specs.EnumValues.{enum_values};
 ghost use Rattle.pb_json_read.specs.Scalars.{IsBool, IsBytes, IsClosedEnumValue, IsEnumValue, IsFloat, IsInteger, IsNamed, IsOnly, IsString};
+ghost use Rattle.pb_json_read.specs.NameTables.{IsValueTable};
 ghost use Rattle.pb_json_read.specs.Scalars.{characters as characters_of, is_null_enum, number_named};
 
+use crate::context::Context;
+use crate::name_table::NameTable;
 use pb_json_scalars::{
     read_base64, read_double, read_double_string, read_float, read_float_string, read_i32,
     read_i64, read_u32, read_u64,
@@ -119,6 +122,26 @@ fn number_named(values: &[(String, i32)], name: &str) -> Option<i32>
     None
 }
 
+fn number_of(value: Option<&(String, i32)>) -> Option<i32>
+    ensures { result ≡ option_map (λ v. v.now.1) value.entry }
+{
+    match value {
+        Some(value) => Some(value.1),
+        None => None,
+    }
+}
+
+/// The number of the value of a name, by the table of its enum.
+fn number_at(values: &[(String, i32)], table: &NameTable, name: &str) -> Option<i32>
+    requires { IsValueTable (map (λ v. (string_bytes v.0, v.1)) values.now) table.now }
+    ensures { result ≡ number_named name.now (map (λ v. (string_bytes v.0, v.1)) values.now) }
+{
+    match table.get(name.as_bytes()) {
+        Some(index) => number_of(values.get(*index)),
+        None => None,
+    }
+}
+
 /// The number that a string means, where a value may have its name.
 fn number_meant(named: Option<i32>, characters: &[u8]) -> Option<i32>
     ensures { IsOnly (IsNamed named characters.now) result }
@@ -129,12 +152,32 @@ fn number_meant(named: Option<i32>, characters: &[u8]) -> Option<i32>
     }
 }
 
-/// The number of an enum's value that a string means: by its name, or in digits.
-fn read_enum_name(pool: &Pool, id: EnumId, name: &str) -> Option<i32>
+/// The values of an enum.
+pub(crate) fn values_of(pool: &Pool, id: EnumId) -> &[(String, i32)]
     requires { id.0 < length pool.now.enums }
-    ensures { IsOnly (IsNamed (number_named name.now (enum_values pool.now id.0)) name.now) result }
+    ensures { map (λ v. (string_bytes v.0, v.1)) result.now ≡ enum_values pool.now id.0 }
 {
-    let named = number_named(&pool.enums()[id.0].values, name);
+    &pool.enums()[id.0].values
+}
+
+/// The number of the first value of an enum with a name. One look-up, where the enum has a table.
+fn number_in(context: &Context<'_>, id: EnumId, name: &str) -> Option<i32>
+    requires { id.0 < length context.now.pool.now.enums }
+    ensures { result ≡ number_named name.now (enum_values context.now.pool.now id.0) }
+{
+    let values = values_of(context.pool, id);
+    match context.tables.values.get(&id.0) {
+        Some(table) => number_at(values, table, name),
+        None => number_named(values, name),
+    }
+}
+
+/// The number of an enum's value that a string means: by its name, or in digits.
+fn read_enum_name(context: &Context<'_>, id: EnumId, name: &str) -> Option<i32>
+    requires { id.0 < length context.now.pool.now.enums }
+    ensures { IsOnly (IsNamed (number_named name.now (enum_values context.now.pool.now id.0)) name.now) result }
+{
+    let named = number_in(context, id, name);
     number_meant(named, name.as_bytes())
 }
 
@@ -159,25 +202,25 @@ fn read_null(pool: &Pool, id: EnumId) -> Option<i32>
 }
 
 /// The number of an enum's value.
-pub(crate) fn read_enum(pool: &Pool, id: EnumId, form: &JsonForm) -> Option<i32>
-    requires { id.0 < length pool.now.enums }
-    ensures { IsOnly (IsEnumValue pool.now id.0 (form_view form.now)) result }
+pub(crate) fn read_enum(context: &Context<'_>, id: EnumId, form: &JsonForm) -> Option<i32>
+    requires { id.0 < length context.now.pool.now.enums }
+    ensures { IsOnly (IsEnumValue context.now.pool.now id.0 (form_view form.now)) result }
 {
     match form {
         JsonForm::Number(digits) => read_i32(digits),
-        JsonForm::String(name) => read_enum_name(pool, id, name.as_str()),
-        JsonForm::Null => read_null(pool, id),
+        JsonForm::String(name) => read_enum_name(context, id, name.as_str()),
+        JsonForm::Null => read_null(context.pool, id),
         JsonForm::Bool(_) | JsonForm::Array(_) | JsonForm::Object(_) => None,
     }
 }
 
 /// The number of a closed enum's value, which the enum declares.
-pub(crate) fn read_closed_enum(pool: &Pool, id: EnumId, form: &JsonForm) -> Option<i32>
-    requires { id.0 < length pool.now.enums }
-    ensures { IsOnly (IsClosedEnumValue pool.now id.0 (form_view form.now)) result }
+pub(crate) fn read_closed_enum(context: &Context<'_>, id: EnumId, form: &JsonForm) -> Option<i32>
+    requires { id.0 < length context.now.pool.now.enums }
+    ensures { IsOnly (IsClosedEnumValue context.now.pool.now id.0 (form_view form.now)) result }
 {
-    let number = read_enum(pool, id, form)?;
-    if pool.declares(id, number) {
+    let number = read_enum(context, id, form)?;
+    if context.pool.declares(id, number) {
         Some(number)
     } else {
         None

@@ -14,6 +14,7 @@ use crate::context::Context;
 use crate::depth::within_depth;
 use crate::error::JsonReadError;
 use crate::rules::JsonRules;
+use crate::survey::tables_for;
 use pb_json::JsonNames;
 use pb_json_text::read_value;
 use pb_schema::{MessageId, Pool};
@@ -76,10 +77,12 @@ pub fn read_json_by<'p>(
         → IsErrAnd result (λ e. (e ≡ out_of_memory) ⊎ (e ≡ f)) }
 {
     let value = read_value(alloc, bytes)?;
+    let tables = tables_for(alloc, pool, names, message_type, &value, bytes.len())?;
     let context = Context {
         alloc,
         pool,
         names,
+        tables: &tables,
         rules,
     };
     let body = context.read_message(message_type, &value)?;

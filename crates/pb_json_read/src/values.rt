@@ -8,12 +8,13 @@ ghost use Rattle.pb_json_read.specs.Scalars.{IsOnly};
 ghost use Rattle.pb_json_read.specs.Values.{IsBoolValue, IsBytesValue, IsClosedEnumOf, IsDouble, IsEnumOf, IsFloatValue, IsInt32, IsInt64};
 ghost use Rattle.pb_json_read.specs.Values.{IsScalar, IsText, IsUint32, IsUint64};
 
+use crate::context::Context;
 use crate::scalars::{
     read_bool, read_bytes, read_closed_enum, read_double_bits, read_enum, read_float_bits,
     read_int32, read_int64, read_text, read_uint32, read_uint64,
 };
 use pb_json_text::JsonForm;
-use pb_schema::{EnumId, Kind, Pool};
+use pb_schema::{EnumId, Kind};
 use pb_value::Value;
 use std::alloc::{AllocError, Global};
 
@@ -66,19 +67,19 @@ fn double_value(form: &JsonForm) -> Option<Value>
     Some(Value::F64(bits))
 }
 
-fn enum_value(pool: &Pool, id: EnumId, form: &JsonForm) -> Option<Value>
-    requires { id.0 < length pool.now.enums }
-    ensures { IsOnly (IsEnumOf pool.now id.0 (form_view form.now)) (option_map value_view result) }
+fn enum_value(context: &Context<'_>, id: EnumId, form: &JsonForm) -> Option<Value>
+    requires { id.0 < length context.now.pool.now.enums }
+    ensures { IsOnly (IsEnumOf context.now.pool.now id.0 (form_view form.now)) (option_map value_view result) }
 {
-    let number = read_enum(pool, id, form)?;
+    let number = read_enum(context, id, form)?;
     Some(Value::Enum(number))
 }
 
-fn closed_enum_value(pool: &Pool, id: EnumId, form: &JsonForm) -> Option<Value>
-    requires { id.0 < length pool.now.enums }
-    ensures { IsOnly (IsClosedEnumOf pool.now id.0 (form_view form.now)) (option_map value_view result) }
+fn closed_enum_value(context: &Context<'_>, id: EnumId, form: &JsonForm) -> Option<Value>
+    requires { id.0 < length context.now.pool.now.enums }
+    ensures { IsOnly (IsClosedEnumOf context.now.pool.now id.0 (form_view form.now)) (option_map value_view result) }
 {
-    let number = read_closed_enum(pool, id, form)?;
+    let number = read_closed_enum(context, id, form)?;
     Some(Value::Enum(number))
 }
 
@@ -102,13 +103,12 @@ fn bytes_value(alloc: Global, form: &JsonForm) -> Result<Option<Value>, AllocErr
 
 /// A value of a kind that is no message, unless the JSON value means none.
 pub(crate) fn read_scalar(
-    alloc: Global,
-    pool: &Pool,
+    context: &Context<'_>,
     kind: Kind,
     form: &JsonForm,
 ) -> Result<Option<Value>, AllocError>
-    requires { NamesType (length pool.now.messages) (length pool.now.enums) kind }
-    ensures { IfOk result (λ read. IsOnly (IsScalar pool.now kind (form_view form.now)) (option_map value_view read)) }
+    requires { NamesType (length context.now.pool.now.messages) (length context.now.pool.now.enums) kind }
+    ensures { IfOk result (λ read. IsOnly (IsScalar context.now.pool.now kind (form_view form.now)) (option_map value_view read)) }
 {
     match kind {
         Kind::Int32 => Ok(int32_value(form)),
@@ -124,10 +124,10 @@ pub(crate) fn read_scalar(
         Kind::Bool => Ok(bool_value(form)),
         Kind::Float => Ok(float_value(form)),
         Kind::Double => Ok(double_value(form)),
-        Kind::Enum(id) => Ok(enum_value(pool, id, form)),
-        Kind::ClosedEnum(id) => Ok(closed_enum_value(pool, id, form)),
-        Kind::Text => text_value(alloc, form),
-        Kind::Bytes => bytes_value(alloc, form),
+        Kind::Enum(id) => Ok(enum_value(context, id, form)),
+        Kind::ClosedEnum(id) => Ok(closed_enum_value(context, id, form)),
+        Kind::Text => text_value(context.alloc, form),
+        Kind::Bytes => bytes_value(context.alloc, form),
         Kind::Message(_) | Kind::Group(_) => Ok(None),
     }
 }

@@ -6,7 +6,7 @@ use Rattle.pb_json_scalars.specs.Numbers.{Number, IsNumber, nearest, IsFloatText
 use Rattle.pb_json_scalars.specs.Scanned.{parts_of, IsScanned, ScannedAs}
 use Rattle.pb_json_scalars.proofs.WorthLemmas.{signs}
 
-nearest_same : (f : Format) (n : Number) → nearest_to_parts f n.negative (parts_of n) ≡ nearest f n
+pub nearest_same : (f : Format) (n : Number) → nearest_to_parts f n.negative (parts_of n) ≡ nearest f n
 nearest_same f n = let e = signs n.sign n.exponent in rw (e.0, e.1)
 
 nearest_scanned : (f : Format) (negative : Bool) (p : Parts) (n : Number) (x : Float) → ScannedAs n negative p → x ≡ nearest_to_parts f negative p → x ≡ nearest f n

@@ -1,14 +1,17 @@
 -- Rows that pin the definitions, each worked by hand or by Python.
-use Rattle.std.proofs.Common.{◌≡◌, true, false, [], ◌∷◌, refl, Some, None, codes, pos, negsuc}
-use Rattle.std.specs.Float.{binary32, binary64, fin, inf, nan}
+use Rattle.std.proofs.Common.{◌≡◌, ℕ, ℤ, Bool, List, ◌++◌, length, get_or, true, false, [], ◌∷◌, refl, sym, ap, ap₂, ◌∙◌, subst, Some, None, codes, pos, negsuc, arith, lit<}
+use Rattle.std.specs.Float.{binary32, binary64, fin, float_is_finite, inf, nan}
 use Rattle.std.specs.Float.Ieee.{round}
+use Rattle.fast_float.specs.Text.{nearest as nearest_to_parts, scan}
 use Rattle.jiff_core.specs.Calendar.{day_count, days_from_civil, days_of_months, days_of_years}
 use Rattle.pb_json_scalars.specs.Base64.{base64_bytes}
 use Rattle.pb_json_scalars.specs.Clock.{date_days, day_second, duration, offset, time, timestamp}
-use Rattle.pb_json_scalars.specs.Keys.{bool_key}
-use Rattle.pb_json_scalars.specs.Numbers.{Equals, float_word, minus, nearest, none, number_text, plus}
-use Rattle.pb_json_scalars.specs.Paths.{between_commas, has_no_underscore, snake_case}
-use Rattle.pb_json_scalars.specs.Scanned.{is_int}
+use Rattle.pb_json_scalars.specs.Keys.{IsKeyText, bool_key}
+use Rattle.pb_json_scalars.specs.Numbers.{Equals, IsFloatText, IsInt, Number, float_word, minus, minus_text, nearest, none, number_text, plus}
+use Rattle.pb_json_scalars.specs.Paths.{between_commas, has_no_underscore, mask_paths, path_of, snake_case}
+use Rattle.pb_json_scalars.specs.Scanned.{is_int, parts_of}
+use Rattle.pb_json_scalars.proofs.FloatLemmas.{nearest_same}
+use Rattle.pb_json_scalars.proofs.ScanLemmas.{minus_of, scanned}
 
 -- ---- numbers
 
@@ -43,6 +46,34 @@ large_row = refl
 words_row : (float_word (codes "NaN") ≡ Some nan) × (float_word (codes "Infinity") ≡ Some (inf false)) × (float_word (codes "-Infinity") ≡ Some (inf true)) × (float_word (codes "inf") ≡ None)
 words_row = (refl, refl, refl, refl)
 
+-- 1.5 equals no integer
+half_row : (z : ℤ) → Equals (record { negative = false; whole = codes "1"; fraction = codes "5"; upper = false; sign = none; exponent = [] }) z → ⊥
+half_row z (k, e, f) = omega (arith, f)
+
+not_true : false ≡ true → ⊥
+not_true e = absurd (cc)
+
+-- 1e39 has no `float`: the nearest one would be an infinity
+too_large_row : (bits : ℕ) → IsFloatText binary32 (codes "1e39") bits → ⊥
+unfolding scan round float_is_finite
+too_large_row bits (n, is, finite, same) =
+    let m = minus_of (codes "1e39") n is in
+    let parts = ap scan m.1 ∙ scanned n is.whole.0.1 is.fraction is.exponent in
+    let near = ap₂ (nearest_to_parts binary32) m.0 parts ∙ nearest_same binary32 n in
+    let e : float_is_finite (nearest_to_parts binary32 false (scan (codes "1e39"))) ≡ true = ap float_is_finite near ∙ finite in
+    not_true e
+
+-- a key has no 0 before another digit
+strict_key : (negative : Bool) (ds : List ℕ) → IsInt ds → codes "01" ≡ minus_text negative ++ ds → ⊥
+strict_key true ds int text = let e : 48 ≡ 45 = ap (λ (l : List ℕ). get_or l 0 0) text in absurd (omega (arith, e))
+strict_key false ds int text = let e : 2 ≡ 1 = ap length text ∙ int.1 (sym (ap (λ (l : List ℕ). get_or l 0 0) text)) in absurd (omega (arith, e))
+
+strict_key_row : (z : ℤ) → IsKeyText (codes "01") z → ⊥
+strict_key_row z (negative, ds, int, text, e) = strict_key negative ds int text
+
+minus_key_row : IsKeyText (codes "-10") (negsuc 9)
+minus_key_row = (true, codes "10", ((lit< tt, (lit< tt, (lit< tt, tt))), λ e. absurd (omega (arith, e))), refl, refl)
+
 keys_row : (bool_key (codes "true") ≡ Some true) × (bool_key (codes "false") ≡ Some false) × (bool_key (codes "True") ≡ None)
 keys_row = (refl, refl, refl)
 
@@ -57,8 +88,8 @@ no_padding_row : (base64_bytes (codes "Zg") ≡ Some (codes "f")) × (base64_byt
 no_padding_row = (refl, refl, refl, refl, refl, refl)
 
 alphabets_row : (base64_bytes (codes "+/8=") ≡ Some (251 ∷ 255 ∷ [])) × (base64_bytes (codes "-_8=") ≡ Some (251 ∷ 255 ∷ [])) × (base64_bytes (codes "-_") ≡ Some (251 ∷ []))
-    × (base64_bytes (codes "Zm 9v") ≡ None)
-alphabets_row = (refl, refl, refl, refl)
+    × (base64_bytes (codes "+_8=") ≡ Some (251 ∷ 255 ∷ [])) × (base64_bytes (codes "Zm 9v") ≡ None)
+alphabets_row = (refl, refl, refl, refl, refl)
 
 -- ---- times
 
@@ -79,6 +110,12 @@ timestamp_row : (timestamp (codes "1972-01-01T10:00:20.021Z") ≡ Some (time (po
 unfolding days_from_civil day_count days_of_years days_of_months
 timestamp_row = (refl, refl, refl, refl, refl)
 
+-- a time whose offset leads out of the years 0001 to 9999, by a minute at either end, and one that ends within them
+years_row : (timestamp (codes "9999-12-31T23:59:00-00:01") ≡ None) × (timestamp (codes "0001-01-01T00:00:59+00:01") ≡ None)
+    × (timestamp (codes "9999-12-31T23:58:59-00:01") ≡ Some (time (pos 253_402_300_799) (pos 0))) × (timestamp (codes "0001-01-01T00:01:00+00:01") ≡ Some (time (negsuc 62_135_596_799) (pos 0)))
+unfolding days_from_civil day_count days_of_years days_of_months
+years_row = (refl, refl, refl, refl)
+
 duration_row : (duration (codes "1.000340012s") ≡ Some (time (pos 1) (pos 340_012))) × (duration (codes "-0.5s") ≡ Some (time (pos 0) (negsuc 499_999_999)))
     × (duration (codes "-315576000000s") ≡ Some (time (negsuc 315_575_999_999) (pos 0))) × (duration (codes "315576000001s") ≡ None) × (duration (codes "1") ≡ None)
     × (duration (codes ".5s") ≡ None) × (duration (codes "1.s") ≡ None)
@@ -91,3 +128,6 @@ names_row = (refl, refl)
 
 snake_row : (snake_case (codes "fooBar") ≡ codes "foo_bar") × (snake_case (codes "b.cD") ≡ codes "b.c_d") × (has_no_underscore (codes "foo_bar") ≡ false)
 snake_row = (refl, refl, refl)
+
+no_path_row : (path_of [] ≡ None) × (path_of (codes "foo_bar") ≡ None) × (mask_paths (codes ",a") ≡ None) × (mask_paths (codes ",") ≡ None) × (mask_paths [] ≡ Some [])
+no_path_row = (refl, refl, refl, refl, refl)

@@ -14,3 +14,5 @@ pub mod FaultLaws
 pub mod Steps
 pub mod ReadingSteps
 pub mod ViewLemmas
+-- small cases, which pin the definitions
+mod Rows

@@ -1,6 +1,7 @@
 //! Why bytes are no JSON text.
 
 ghost use Rattle.std.specs.Prelude.{◌≡◌};
+ghost use Rattle.pb_json_text.specs.CauseName.{name_of};
 
 use std::alloc::{AllocError, AllocFailed};
 use std::error::Error as StdError;
@@ -25,6 +26,21 @@ pub enum JsonCause {
 pub struct JsonFault {
     pub byte: usize,
     pub cause: JsonCause,
+}
+
+impl JsonCause {
+    /// The cause's name.
+    pub fn name(self) -> &'static str
+        ensures { result.now ≡ name_of self }
+    {
+        match self {
+            JsonCause::UnexpectedByte => "UnexpectedByte",
+            JsonCause::UnexpectedEnd => "UnexpectedEnd",
+            JsonCause::BadUtf8 => "BadUtf8",
+            JsonCause::TooDeep => "TooDeep",
+            JsonCause::OutOfMemory => "OutOfMemory",
+        }
+    }
 }
 
 impl JsonFault {
@@ -70,18 +86,21 @@ impl JsonFault {
 }
 
 impl fmt::Display for JsonCause {
+    ghost use Rattle.std.specs.Prelude.{Some};
+
+    ghost output = { λ cause. Some (name_of cause) };
+
     fn fmt<W: fmt::Write>(&self, f: &mut fmt::Formatter<W>) -> fmt::Result {
-        f.write_str(match self {
-            JsonCause::UnexpectedByte => "UnexpectedByte",
-            JsonCause::UnexpectedEnd => "UnexpectedEnd",
-            JsonCause::BadUtf8 => "BadUtf8",
-            JsonCause::TooDeep => "TooDeep",
-            JsonCause::OutOfMemory => "OutOfMemory",
-        })
+        f.write_str(self.name())
     }
 }
 
 impl fmt::Display for JsonFault {
+    ghost use Rattle.std.specs.Prelude.{Some};
+    ghost use Rattle.pb_json_text.specs.CauseName.{fault_text};
+
+    ghost output = { λ fault. Some (fault_text fault.byte fault.cause) };
+
     fn fmt<W: fmt::Write>(&self, f: &mut fmt::Formatter<W>) -> fmt::Result {
         write!(f, "byte {}: {}", self.byte, self.cause)
     }

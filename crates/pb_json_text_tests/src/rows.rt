@@ -207,3 +207,23 @@ fn depth(rt: HostRuntime) -> Result<(), Fail> {
     assert!(rt; nests(rt.alloc(), "{\"a\":", "}", "500 TooDeep")?);
     Ok(())
 }
+
+/// Whether bytes have a fault that shows like this.
+fn shows_as(alloc: Global, bytes: &[u8], wanted: &str) -> Result<bool, Fail> {
+    match read_value(alloc, bytes) {
+        Ok(_) => Ok(false),
+        Err(fault) => {
+            let shown = format!(in alloc; "{fault}")?;
+            Ok(shown.as_str() == wanted)
+        }
+    }
+}
+
+#[test]
+fn faults_shown(rt: HostRuntime) -> Result<(), Fail> {
+    let alloc = rt.alloc();
+    assert!(rt; shows_as(alloc, b"[1,]", "byte 3: UnexpectedByte")?);
+    assert!(rt; shows_as(alloc, b"[1", "byte 2: UnexpectedEnd")?);
+    assert!(rt; shows_as(alloc, b"\"\xff\"", "byte 1: BadUtf8")?);
+    Ok(())
+}

@@ -3,7 +3,7 @@ use Rattle.std.proofs.Common.{◌≡◌, ℕ, zero, suc, ◌+◌, List, [], ◌�
 use Rattle.std.specs.Prelude.{slice_get, filter}
 use Rattle.std.specs.List.{enumerate_from}
 use Rattle.std.proofs.lemmas.Option.{none-some}
-use Rattle.pb_names.proofs.BehindLemmas.{some_same, get_behind, get_front}
+use Rattle.pb_link_names.proofs.BehindLemmas.{some_same, get_behind, get_front}
 
 -- COUNTS
 

@@ -11,7 +11,7 @@ use Rattle.pb_schema.specs.Names.{AllDiffer}
 use Rattle.pb_schema.specs.Rules.{IsPool}
 use Rattle.pb_schema.proofs.NameTreeLemmas.{name_at-get}
 use Rattle.pb_declarations.specs.Decls.{DeclaredFile}
-use Rattle.pb_names.specs.Sees.{file_named, file_of, files_of}
+use Rattle.pb_link_names.specs.Sees.{file_named, file_of, files_of}
 use Rattle.pb_link.specs.ToDecls.{file_name, declared_file, decls_of}
 
 some_same : {A : Type 0} (a b : A) → Some a ≡ Some b → a ≡ b

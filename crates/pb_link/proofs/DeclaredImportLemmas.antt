@@ -13,15 +13,15 @@ use Rattle.pb_schema.specs.Rules.{IsPool}
 use Rattle.pb_schema.proofs.NameSetLemmas.{All-at}
 use Rattle.pb_schema.proofs.NameTreeLemmas.{get-contains, get-name_at}
 use Rattle.pb_declarations.specs.Decls.{DeclaredFile}
-use Rattle.pb_rules.specs.declared.cause.LinkCause.TheVariants as cause
-use Rattle.pb_names.specs.Declarations.{Item, a_file, a_message, a_field, a_oneof, an_enum, a_value, a_service, a_method, Declaration, file_declared, files_declared}
-use Rattle.pb_rules.specs.Rules.{World, is_import_index, imports_are_there}
-use Rattle.pb_rules.specs.Link.{holds, IsWorldOf}
+use Rattle.pb_link_rules.specs.declared.cause.LinkCause.TheVariants as cause
+use Rattle.pb_link_names.specs.Declarations.{Item, a_file, a_message, a_field, a_oneof, an_enum, a_value, a_service, a_method, Declaration, file_declared, files_declared}
+use Rattle.pb_link_rules.specs.Rules.{World, is_import_index, imports_are_there}
+use Rattle.pb_link_rules.specs.Link.{holds, IsWorldOf}
 use Rattle.pb_link.specs.ToDecls.{file_name, declared_file, decls_of}
-use Rattle.pb_names.proofs.AnyLemmas.{any_there, there_any, and_both}
-use Rattle.pb_names.proofs.NameSetsLemmas.{any_append}
-use Rattle.pb_names.proofs.BehindLemmas.{get_split}
-use Rattle.pb_rules.proofs.FileRowLemmas.{NamesFile}
+use Rattle.pb_link_names.proofs.AnyLemmas.{any_there, there_any, and_both}
+use Rattle.pb_link_names.proofs.NameSetsLemmas.{any_append}
+use Rattle.pb_link_names.proofs.BehindLemmas.{get_split}
+use Rattle.pb_link_rules.proofs.FileRowLemmas.{NamesFile}
 use Rattle.pb_link.proofs.FileRowLemmas.{Behind, no_file_behind, one_file, all_files}
 use Rattle.pb_link.proofs.ScopeLemmas.{file_is}
 use Rattle.pb_link.proofs.WholeLemmas.{all_at}

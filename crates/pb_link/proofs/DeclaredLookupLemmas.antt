@@ -10,10 +10,10 @@ use Rattle.pb_schema.specs.Types.{FieldView, MessageView, EnumView, Types}
 use Rattle.pb_schema.specs.Rules.{IsPool}
 use Rattle.pb_schema.proofs.NameTreeLemmas.{name_at-get}
 use Rattle.pb_declarations.specs.Decls.{DeclaredEnum, MessageHead, DeclaredMessages}
-use Rattle.pb_names.specs.Declarations.{Item, a_file, a_message, a_field, a_oneof, an_enum, a_value, a_service, a_method, item_of_message, Declaration, simple_name, is_named, is_type, full_name}
-use Rattle.pb_names.specs.Lookup.{found, looked_up}
-use Rattle.pb_rules.specs.Rules.{World, is_enum, is_message_type}
-use Rattle.pb_rules.specs.Link.{IsWorldOf}
+use Rattle.pb_link_names.specs.Declarations.{Item, a_file, a_message, a_field, a_oneof, an_enum, a_value, a_service, a_method, item_of_message, Declaration, simple_name, is_named, is_type, full_name}
+use Rattle.pb_link_names.specs.Lookup.{found, looked_up}
+use Rattle.pb_link_rules.specs.Rules.{World, is_enum, is_message_type}
+use Rattle.pb_link_rules.specs.Link.{IsWorldOf}
 use Rattle.pb_link.specs.PoolOf.{message_index, enum_index}
 use Rattle.pb_link.specs.ToDecls.{declared_head, declared_enum, entry_message, decls_of}
 use Rattle.pb_link.proofs.EachDeclaredLemmas.{Name, Scope}

@@ -8,8 +8,8 @@ use Rattle.pb_schema.specs.Nesting.{parent_of, itself, deeper}
 use Rattle.pb_schema.specs.Types.{MessageView, EnumView, Types}
 use Rattle.pb_schema.specs.Rules.{IsPool}
 use Rattle.pb_declarations.specs.Decls.{MessageHead, DeclaredMessage, message, DeclaredMessages, messages_of}
-use Rattle.pb_names.specs.Declarations.{a_message, Declaration, enums_declared, head_row, message_declared, messages_declared}
-use Rattle.pb_rules.specs.Rules.{World, item_of}
+use Rattle.pb_link_names.specs.Declarations.{a_message, Declaration, enums_declared, head_row, message_declared, messages_declared}
+use Rattle.pb_link_rules.specs.Rules.{World, item_of}
 use Rattle.pb_link.specs.Heads.{enums_among}
 use Rattle.pb_link.specs.PoolOf.{message_index, enum_index, parent_type, parent_by_item}
 use Rattle.pb_link.specs.ToDecls.{is_parent, numbered, messages_in, declared_head, declared_message, entry_of_field}

@@ -11,8 +11,8 @@ use Rattle.pb_schema.specs.Types.{FieldView, MessageView, EnumView, Types, is_pr
 use Rattle.pb_schema.specs.Rules.{IsPool}
 use Rattle.pb_schema.proofs.NameLemmas.{scope_of-names}
 use Rattle.pb_declarations.specs.Decls.{MessageHead, message, DeclaredMessages, messages_of}
-use Rattle.pb_names.specs.Declarations.{a_field, a_oneof, a_value, Declaration, is_named, is_synthetic, full_name, fields_of, oneofs_of, head_row, messages_declared, enum_declared, declarations}
-use Rattle.pb_rules.specs.Rules.{key_name, value_name}
+use Rattle.pb_link_names.specs.Declarations.{a_field, a_oneof, a_value, Declaration, is_named, is_synthetic, full_name, fields_of, oneofs_of, head_row, messages_declared, enum_declared, declarations}
+use Rattle.pb_link_rules.specs.Rules.{key_name, value_name}
 use Rattle.pb_link.specs.ToDecls.{numbered, declared_fields, declared_head, declared_enum, is_optional_view, synthetic_names, entry_of_field, decls_of}
 use Rattle.pb_link.proofs.FlatLemmas.{Stands, before}
 use Rattle.pb_link.proofs.EnumWholeLemmas.{numbered_enums}

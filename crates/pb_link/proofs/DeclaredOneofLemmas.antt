@@ -16,8 +16,8 @@ use Rattle.pb_schema.specs.Names.{message_names, name_at}
 use Rattle.pb_schema.specs.Types.{FieldView, MessageView, Types, is_proto2}
 use Rattle.pb_schema.specs.Rules.{IsPool, NamesOneof, IsMemberOf, HasMember, EachOneofHasMember}
 use Rattle.pb_declarations.specs.Decls.{DeclaredField, MessageHead}
-use Rattle.pb_names.specs.Declarations.{is_member_of, is_synthetic}
-use Rattle.pb_names.specs.MarkRules.{same_oneof, how_many, oneof_of_field_is_right, oneof_is_right}
+use Rattle.pb_link_names.specs.Declarations.{is_member_of, is_synthetic}
+use Rattle.pb_link_names.specs.MarkRules.{same_oneof, how_many, oneof_of_field_is_right, oneof_is_right}
 use Rattle.pb_link.specs.ToDecls.{is_repeated_shape, is_optional_field, oneof_of_field, declared_field, declared_fields, is_optional_view, synthetic_names, declared_head}
 use Rattle.pb_link.proofs.FlatLemmas.{Stands}
 use Rattle.pb_link.proofs.WholeLemmas.{all_at}

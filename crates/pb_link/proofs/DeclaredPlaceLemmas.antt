@@ -6,9 +6,9 @@ use Rattle.std.proofs.lemmas.List.{length-map}
 use Rattle.pb_schema.specs.Types.{MessageView, EnumView, FileView, Types}
 use Rattle.pb_schema.specs.Rules.{IsPool}
 use Rattle.pb_declarations.specs.Decls.{messages_of}
-use Rattle.pb_names.specs.Declarations.{a_file, Declaration, messages_declared, enums_declared, file_declared, files_declared, declarations}
-use Rattle.pb_rules.specs.Rules.{World, item_of}
-use Rattle.pb_rules.specs.Link.{IsWorldOf}
+use Rattle.pb_link_names.specs.Declarations.{a_file, Declaration, messages_declared, enums_declared, file_declared, files_declared, declarations}
+use Rattle.pb_link_rules.specs.Rules.{World, item_of}
+use Rattle.pb_link_rules.specs.Link.{IsWorldOf}
 use Rattle.pb_link.specs.Heads.{enums_among}
 use Rattle.pb_link.specs.PoolOf.{message_index, enum_index, parent_type, parent_by_item}
 use Rattle.pb_link.specs.ToDecls.{is_outermost, numbered, outermost_messages, outermost_enums, declared_head, declared_enum, declared_message, declared_file, decls_of}

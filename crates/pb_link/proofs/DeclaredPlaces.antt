@@ -2,8 +2,8 @@
 use Rattle.std.specs.Prelude.{◌≡◌, ℕ, false, Some, slice_get}
 use Rattle.pb_schema.specs.Types.{MessageView, EnumView, Types}
 use Rattle.pb_declarations.specs.Decls.{DeclaredMessages}
-use Rattle.pb_names.specs.Declarations.{a_message, an_enum, Declaration}
-use Rattle.pb_rules.specs.Rules.{World, is_enum, is_message_type}
+use Rattle.pb_link_names.specs.Declarations.{a_message, an_enum, Declaration}
+use Rattle.pb_link_rules.specs.Rules.{World, is_enum, is_message_type}
 use Rattle.pb_link.specs.PoolOf.{message_index, enum_index, parent_type}
 use Rattle.pb_link.specs.ToDecls.{declared_head, declared_enum}
 use Rattle.pb_link.proofs.EachDeclaredLemmas.{Scope}

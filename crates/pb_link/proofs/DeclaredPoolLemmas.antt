@@ -4,11 +4,11 @@ use Rattle.std.specs.Prelude.{slice_get}
 use Rattle.std.proofs.lemmas.Bool.{false≢true}
 use Rattle.pb_schema.specs.Types.{Types}
 use Rattle.pb_schema.specs.Rules.{IsPool}
-use Rattle.pb_rules.specs.declared.cause.LinkCause.{LinkCause}
-use Rattle.pb_rules.specs.declared.cause.LinkCause.TheVariants as cause
-use Rattle.pb_names.specs.Declarations.{Declaration}
-use Rattle.pb_rules.specs.Rules.{World}
-use Rattle.pb_rules.specs.Link.{IsWorldOf, NothingFails, holds}
+use Rattle.pb_link_rules.specs.declared.cause.LinkCause.{LinkCause}
+use Rattle.pb_link_rules.specs.declared.cause.LinkCause.TheVariants as cause
+use Rattle.pb_link_names.specs.Declarations.{Declaration}
+use Rattle.pb_link_rules.specs.Rules.{World}
+use Rattle.pb_link_rules.specs.Link.{IsWorldOf, NothingFails, holds}
 use Rattle.pb_link.proofs.OwnRules.{MeetsOwnRules}
 use Rattle.pb_link.specs.ToDecls.{decls_of}
 use Rattle.pb_link.proofs.DeclaredImportLemmas.{two_files, missing_import, import_cycle}

@@ -16,10 +16,10 @@ use Rattle.pb_schema.specs.Names.{AllDiffer, message_names, name_at}
 use Rattle.pb_schema.specs.Types.{FieldView, MessageView, EnumView, Types, is_proto2}
 use Rattle.pb_schema.specs.Rules.{IsPool, IsFieldNumber, MayBePacked}
 use Rattle.pb_declarations.specs.Decls.{DeclaredField}
-use Rattle.pb_names.specs.Declarations.{Item, a_field, Declaration, head_of}
-use Rattle.pb_rules.specs.Rules.{World, is_field_number, is_packable_code}
-use Rattle.pb_names.specs.MarkRules.{oneof_of_field_is_right}
-use Rattle.pb_rules.specs.Link.{IsWorldOf}
+use Rattle.pb_link_names.specs.Declarations.{Item, a_field, Declaration, head_of}
+use Rattle.pb_link_rules.specs.Rules.{World, is_field_number, is_packable_code}
+use Rattle.pb_link_names.specs.MarkRules.{oneof_of_field_is_right}
+use Rattle.pb_link_rules.specs.Link.{IsWorldOf}
 use Rattle.pb_link.specs.ToDecls.{is_repeated_shape, code_of_kind, code_of_field, packed_of_field, declared_field, declared_fields, is_optional_view, shares_numbers, declared_enum, declared_head, entry_message, decls_of}
 use Rattle.pb_link.proofs.OwnRules.{MeetsOwnRules}
 use Rattle.pb_link.proofs.FlatLemmas.{Stands}

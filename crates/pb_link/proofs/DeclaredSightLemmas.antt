@@ -6,9 +6,9 @@ use Rattle.pb_schema.specs.Types.{FileView, Types}
 use Rattle.pb_schema.specs.Imports.{imports_of, Reaches, directly, further, IsSeen}
 use Rattle.pb_schema.specs.Rules.{IsPool}
 use Rattle.pb_declarations.specs.Decls.{DeclaredFile}
-use Rattle.pb_names.specs.Sees.{file_named, import_at, file_of, files_of, public_file_of, public_files_of, Sees, itself, imported, onward}
-use Rattle.pb_rules.specs.Rules.{World}
-use Rattle.pb_rules.specs.Link.{IsWorldOf}
+use Rattle.pb_link_names.specs.Sees.{file_named, import_at, file_of, files_of, public_file_of, public_files_of, Sees, itself, imported, onward}
+use Rattle.pb_link_rules.specs.Rules.{World}
+use Rattle.pb_link_rules.specs.Link.{IsWorldOf}
 use Rattle.pb_link.specs.ToDecls.{file_name, declared_file, decls_of}
 use Rattle.pb_link.proofs.SeenLemmas.{seen-reached}
 use Rattle.pb_link.proofs.DeclaredFileLemmas.{files_again}

@@ -9,8 +9,8 @@ use Rattle.pb_schema.specs.declared.types.Shape.{Shape}
 use Rattle.pb_schema.specs.Kinds.{is_of_proto2}
 use Rattle.pb_schema.specs.Types.{FieldView, MessageView, Types, is_proto2}
 use Rattle.pb_schema.specs.Rules.{IsPool, EachField, MayStandIn, EnumIsRight}
-use Rattle.pb_rules.specs.Rules.{World, is_two}
-use Rattle.pb_rules.specs.Link.{IsWorldOf}
+use Rattle.pb_link_rules.specs.Rules.{World, is_two}
+use Rattle.pb_link_rules.specs.Link.{IsWorldOf}
 use Rattle.pb_link.specs.ToDecls.{decls_of}
 use Rattle.pb_link.proofs.FieldLemmas.{same_syntax}
 use Rattle.pb_link.proofs.FlatLemmas.{Stands}

@@ -8,8 +8,8 @@ use Rattle.pb_schema.specs.declared.types.Shape.TheVariants as shape
 use Rattle.pb_schema.specs.Types.{FieldView, MessageView, EnumView, Types}
 use Rattle.pb_schema.specs.Rules.{IsPool}
 use Rattle.pb_declarations.specs.Decls.{DeclaredMessage, message, DeclaredMessages, messages_of}
-use Rattle.pb_names.specs.Declarations.{a_field, a_oneof, a_value, Declaration, fields_of, oneofs_of, enum_declared, enums_declared, head_row, message_declared, messages_declared}
-use Rattle.pb_rules.specs.Rules.{World}
+use Rattle.pb_link_names.specs.Declarations.{a_field, a_oneof, a_value, Declaration, fields_of, oneofs_of, enum_declared, enums_declared, head_row, message_declared, messages_declared}
+use Rattle.pb_link_rules.specs.Rules.{World}
 use Rattle.pb_link.specs.PoolOf.{message_index, enum_index, parent_type}
 use Rattle.pb_link.specs.ToDecls.{numbered, declared_head, declared_enum, declared_message, entry_of_field}
 use Rattle.pb_link.proofs.FlatLemmas.{Stands, under}

@@ -12,7 +12,7 @@ use Rattle.pb_schema.specs.Rules.{IsPool, IsInFileOfParent}
 use Rattle.pb_schema.proofs.NameLemmas.{scope_of-names}
 use Rattle.pb_schema.proofs.NameTreeLemmas.{name_at-get}
 use Rattle.pb_declarations.specs.Decls.{DeclaredMessage, message, DeclaredMessages, messages_of}
-use Rattle.pb_names.specs.Declarations.{a_file, Declaration, enum_declared, enums_declared, head_row, message_declared, messages_declared, file_declared, files_declared, declarations}
+use Rattle.pb_link_names.specs.Declarations.{a_file, Declaration, enum_declared, enums_declared, head_row, message_declared, messages_declared, file_declared, files_declared, declarations}
 use Rattle.pb_link.specs.ToDecls.{is_parent, is_outermost, numbered, messages_in, outermost_messages, outermost_enums, declared_head, declared_enum, declared_message, declared_file, decls_of, entry_of_field}
 use Rattle.pb_link.proofs.ForestLemmas.{all_each}
 use Rattle.pb_link.proofs.FlatLemmas.{Stands, under, before, children, parent_there, get_less, all_filtered, parent_is, all_numbered}

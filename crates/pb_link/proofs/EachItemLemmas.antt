@@ -8,7 +8,7 @@ use Rattle.pb_schema.specs.declared.types.Shape.TheVariants as shape
 use Rattle.pb_schema.specs.Names.{in_scope}
 use Rattle.pb_schema.specs.Types.{FieldView, MessageView, EnumView, FileView, Types}
 use Rattle.pb_declarations.specs.Decls.{DeclaredField, DeclaredEnum, MessageHead, DeclaredMessage, message, DeclaredMessages, no_messages, more_messages, messages_of}
-use Rattle.pb_names.specs.Declarations.{Item, a_file, a_message, a_field, a_oneof, an_enum, a_value, Declaration, head_of, fields_of, oneofs_of, enum_declared, enums_declared, head_row, message_declared, messages_declared, file_declared, files_declared, declarations}
+use Rattle.pb_link_names.specs.Declarations.{Item, a_file, a_message, a_field, a_oneof, an_enum, a_value, Declaration, head_of, fields_of, oneofs_of, enum_declared, enums_declared, head_row, message_declared, messages_declared, file_declared, files_declared, declarations}
 use Rattle.pb_link.specs.ToDecls.{is_parent, is_outermost, numbered, messages_in, outermost_messages, declared_head, declared_enum, declared_message, declared_file, decls_of, entry_message, entry_of_field}
 use Rattle.pb_link.proofs.ForestLemmas.{all_append}
 use Rattle.pb_link.proofs.FlatLemmas.{Stands, all_numbered, all_filtered, each_stands}

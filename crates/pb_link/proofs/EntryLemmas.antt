@@ -8,13 +8,13 @@ use Rattle.std.proofs.lemmas.Bool.Decides.{nat_tests}
 use Rattle.std.proofs.lemmas.Option.{none-some}
 use Rattle.std.proofs.lemmas.Slice.Eq.{bytes_eq-Decides}
 use Rattle.pb_declarations.specs.Decls.{DeclaredField, MessageHead, DeclaredMessages}
-use Rattle.pb_rules.specs.declared.cause.LinkCause.TheVariants as cause
-use Rattle.pb_names.specs.Declarations.{Item, a_message, a_field, Declaration, full_name}
-use Rattle.pb_names.specs.Lookup.{Found, found, not_found, not_visible, not_a_type, looked_up}
-use Rattle.pb_rules.specs.Rules.{World, uses, is_found_at, is_used_rightly, is_map_field, has_one_use, has_key_and_value, has_nothing_inside, are_key_and_value, is_part, is_value_part, is_group, is_key_code, is_no_entry, key_name, value_name, place_found, is_entry}
-use Rattle.pb_rules.specs.Link.{holds, NothingFails}
+use Rattle.pb_link_rules.specs.declared.cause.LinkCause.TheVariants as cause
+use Rattle.pb_link_names.specs.Declarations.{Item, a_message, a_field, Declaration, full_name}
+use Rattle.pb_link_names.specs.Lookup.{Found, found, not_found, not_visible, not_a_type, looked_up}
+use Rattle.pb_link_rules.specs.Rules.{World, uses, is_found_at, is_used_rightly, is_map_field, has_one_use, has_key_and_value, has_nothing_inside, are_key_and_value, is_part, is_value_part, is_group, is_key_code, is_no_entry, key_name, value_name, place_found, is_entry}
+use Rattle.pb_link_rules.specs.Link.{holds, NothingFails}
 use Rattle.pb_link.specs.PoolOf.{entry_of, entry_declared, entry_by_item, part_named}
-use Rattle.pb_rules.proofs.ThereLemmas.{some_same, and_left, and_right, place_holds}
+use Rattle.pb_link_rules.proofs.ThereLemmas.{some_same, and_left, and_right, place_holds}
 
 -- a field uses an entry
 pub record UsesEntry (w : World) (d : Declaration) (head : MessageHead) (name : List ℕ) : Type 0 where

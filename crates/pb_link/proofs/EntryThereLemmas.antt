@@ -9,9 +9,9 @@ use Rattle.pb_schema.specs.declared.types.Shape.TheVariants as shape
 use Rattle.pb_schema.specs.Types.{FieldView, MessageView, Types}
 use Rattle.pb_schema.specs.Rules.{IsPool}
 use Rattle.pb_declarations.specs.Decls.{message, no_messages, messages_of}
-use Rattle.pb_names.specs.Declarations.{a_message, Declaration, head_row, messages_declared, declarations}
+use Rattle.pb_link_names.specs.Declarations.{a_message, Declaration, head_row, messages_declared, declarations}
 use Rattle.pb_link.specs.ToDecls.{declared_head, decls_of, entry_of_field}
-use Rattle.pb_names.proofs.BehindLemmas.{get_front, get_behind}
+use Rattle.pb_link_names.proofs.BehindLemmas.{get_front, get_behind}
 use Rattle.pb_link.proofs.ForestLemmas.{In}
 use Rattle.pb_link.proofs.FlatLemmas.{Stands, in_numbered}
 use Rattle.pb_link.proofs.EachDeclaredLemmas.{Name, Scope, entries_of, tell}

@@ -13,12 +13,12 @@ use Rattle.pb_schema.specs.Names.{in_scope, entry_name}
 use Rattle.pb_schema.specs.Types.{FieldView, MessageView, Types}
 use Rattle.pb_schema.specs.Rules.{IsPool}
 use Rattle.pb_declarations.specs.Decls.{no_messages}
-use Rattle.pb_names.specs.Declarations.{a_message, a_field, Declaration, is_named, simple_name}
-use Rattle.pb_rules.specs.Rules.{World, passes, item_of, is_not_entry, is_found_at, uses, is_one_map_field, has_one_use, is_key_code, is_part, is_value_part, is_no_entry, are_key_and_value, has_key_and_value, key_name, value_name, is_map_right}
-use Rattle.pb_rules.specs.Link.{IsWorldOf}
+use Rattle.pb_link_names.specs.Declarations.{a_message, a_field, Declaration, is_named, simple_name}
+use Rattle.pb_link_rules.specs.Rules.{World, passes, item_of, is_not_entry, is_found_at, uses, is_one_map_field, has_one_use, is_key_code, is_part, is_value_part, is_no_entry, are_key_and_value, has_key_and_value, key_name, value_name, is_map_right}
+use Rattle.pb_link_rules.specs.Link.{IsWorldOf}
 use Rattle.pb_link.specs.ToDecls.{name_of_kind, name_of_type, code_of_kind, declared_field, declared_head, entry_part, decls_of}
 use Rattle.pb_link.proofs.FlatLemmas.{Stands}
-use Rattle.pb_rules.proofs.ThereLemmas.{field_there}
+use Rattle.pb_link_rules.proofs.ThereLemmas.{field_there}
 use Rattle.pb_link.proofs.EachDeclaredLemmas.{Name}
 use Rattle.pb_link.proofs.FromLemmas.{Two, IsFrom, from_file, from_message, from_field, from_oneof, from_entry, from_key, from_value, from_enum, from_enum_value, IsMapField, entry_head}
 use Rattle.pb_link.proofs.OneNameLemmas.{one_place}

@@ -7,8 +7,8 @@ use Rattle.pb_declarations.specs.View.{field_view, enum_view, message_view, file
 use Rattle.pb_declarations.specs.declared.decl.MessageDecl.{MessageDecl, out-MessageDecl, roll-MessageDecl, the_lemmas as message_lemmas}
 use Rattle.pb_declarations.specs.declared.decl.FileDecl.{FileDecl}
 use Rattle.pb_declarations.proofs.ViewLemmas.{message_view-parts}
-use Rattle.pb_names.specs.Declarations.{head_of}
-use Rattle.pb_rules.proofs.ExactLemmas.{one_world}
+use Rattle.pb_link_names.specs.Declarations.{head_of}
+use Rattle.pb_link_rules.proofs.ExactLemmas.{one_world}
 use Rattle.pb_link.specs.Resolved.{resolved_files}
 use Rattle.pb_link.specs.EnumMaps.{is_enum_value, is_map, message_without_maps, messages_without_maps, file_without_maps, ListsEnumMaps}
 use Rattle.pb_link.proofs.ResolvedNestLemmas.{each_resolved}

@@ -13,10 +13,10 @@ use Rattle.pb_schema.specs.Names.{message_names, enum_names, name_at}
 use Rattle.pb_schema.specs.Types.{FieldView, MessageView, EnumView, Types, is_proto2}
 use Rattle.pb_schema.specs.Rules.{IsPool, NamesType, TypeIsSeen, HasKeyKind, MayBePacked, MayBeImplicit, MayStandIn, EnumIsRight}
 use Rattle.pb_declarations.specs.Decls.{DeclaredField}
-use Rattle.pb_names.specs.Declarations.{full_name, head_of}
-use Rattle.pb_names.specs.Lookup.{looked_up}
-use Rattle.pb_rules.specs.Rules.{World, is_two, is_group, place_found, value_name}
-use Rattle.pb_rules.specs.Link.{IsWorldOf}
+use Rattle.pb_link_names.specs.Declarations.{full_name, head_of}
+use Rattle.pb_link_names.specs.Lookup.{looked_up}
+use Rattle.pb_link_rules.specs.Rules.{World, is_two, is_group, place_found, value_name}
+use Rattle.pb_link_rules.specs.Link.{IsWorldOf}
 use Rattle.pb_link.specs.PoolOf.{enum_index, kind_of_code, enum_kind, kind_by_item, kind_declared, kind_at, grouped, type_place, kind_by_place, kind_of_field, entry_by_item, entry_declared, entry_of, with_kind, field_by_entry, field_type}
 use Rattle.pb_link.specs.ToDecls.{code_of_kind, name_of_kind, code_of_field, name_of_type, is_optional_view, declared_field, declared_fields, declared_head, entry_part, entry_message, decls_of}
 use Rattle.pb_link.proofs.FlatLemmas.{Stands}

@@ -4,9 +4,9 @@ use Rattle.std.specs.List.{list_any, enumerate_from}
 use Rattle.std.specs.Str.{bytes_eq}
 use Rattle.pb_schema.specs.Types.{FileView, Types}
 use Rattle.pb_declarations.specs.Decls.{message, messages_of}
-use Rattle.pb_names.specs.Declarations.{Declaration, enums_declared, messages_declared, file_declared, files_declared}
-use Rattle.pb_names.proofs.NameSetsLemmas.{any_append}
-use Rattle.pb_rules.proofs.FileRowLemmas.{NamesFile, none_append, no_file_enums, no_file_messages}
+use Rattle.pb_link_names.specs.Declarations.{Declaration, enums_declared, messages_declared, file_declared, files_declared}
+use Rattle.pb_link_names.proofs.NameSetsLemmas.{any_append}
+use Rattle.pb_link_rules.proofs.FileRowLemmas.{NamesFile, none_append, no_file_enums, no_file_messages}
 use Rattle.pb_link.specs.ToDecls.{outermost_messages, outermost_enums, declared_enum, declared_message, declared_file}
 
 module _ (ts : Types) where

@@ -8,12 +8,12 @@ use Rattle.pb_schema.specs.Types.{MessageView, EnumView}
 use Rattle.pb_schema.specs.Nesting.{parent_of, IsWithin, itself, deeper}
 use Rattle.pb_schema.specs.Rules.{FollowsParent, EnumsStandInOrder, StandsBefore, EndsNoLater}
 use Rattle.pb_declarations.specs.Decls.{DeclaredEnum, MessageHead, DeclaredMessages, DeclaredFile}
-use Rattle.pb_names.specs.Declarations.{Item, a_file, a_message, a_field, a_oneof, an_enum, a_value, a_service, a_method, Declaration}
-use Rattle.pb_rules.specs.Rules.{World, item_of, is_message, is_message_type}
-use Rattle.pb_rules.specs.Link.{NothingFails, IsWorldOf}
+use Rattle.pb_link_names.specs.Declarations.{Item, a_file, a_message, a_field, a_oneof, an_enum, a_value, a_service, a_method, Declaration}
+use Rattle.pb_link_rules.specs.Rules.{World, item_of, is_message, is_message_type}
+use Rattle.pb_link_rules.specs.Link.{NothingFails, IsWorldOf}
 use Rattle.pb_link.specs.PoolOf.{message_type, message_by_item, message_of_head, message_index, enum_type, enum_by_item, parent_type, parent_by_item, pool_of}
-use Rattle.pb_names.proofs.BehindLemmas.{StandsBehind, MayStandIn}
-use Rattle.pb_rules.proofs.ThereLemmas.{some_same}
+use Rattle.pb_link_names.proofs.BehindLemmas.{StandsBehind, MayStandIn}
+use Rattle.pb_link_rules.proofs.ThereLemmas.{some_same}
 use Rattle.pb_link.proofs.KindLemmas.{stands_behind, is_a_message}
 use Rattle.pb_link.proofs.IndexLemmas.{MayHoldType, message_in, enum_in, holds_types}
 use Rattle.pb_link.proofs.OrderLemmas.{in_order, pairs_of, declared_by_file}

@@ -9,8 +9,8 @@ use Rattle.pb_schema.specs.Names.{in_scope, entry_name}
 use Rattle.pb_schema.specs.Types.{FieldView, MessageView, EnumView, FileView, Types, is_proto2}
 use Rattle.pb_schema.specs.Rules.{IsPool}
 use Rattle.pb_declarations.specs.Decls.{MessageHead, message, DeclaredMessages, no_messages, messages_of}
-use Rattle.pb_names.specs.Declarations.{a_file, a_message, a_field, a_oneof, an_enum, a_value, Declaration, head_of, fields_of, oneofs_of, enum_declared, head_row, messages_declared, declarations}
-use Rattle.pb_rules.specs.Rules.{key_name, value_name}
+use Rattle.pb_link_names.specs.Declarations.{a_file, a_message, a_field, a_oneof, an_enum, a_value, Declaration, head_of, fields_of, oneofs_of, enum_declared, head_row, messages_declared, declarations}
+use Rattle.pb_link_rules.specs.Rules.{key_name, value_name}
 use Rattle.pb_link.specs.ToDecls.{declared_field, declared_fields, declared_head, declared_enum, declared_file, decls_of, is_optional_view, entry_part, entry_message, entry_of_field}
 use Rattle.pb_link.proofs.ForestLemmas.{all_append}
 use Rattle.pb_link.proofs.FlatLemmas.{Stands, all_numbered}

@@ -9,12 +9,12 @@ use Rattle.pb_schema.specs.Types.{MessageView, FileView, Types}
 use Rattle.pb_schema.specs.Rules.{IsPool, IsFree, MessageIsOfWords}
 use Rattle.pb_schema.proofs.NameTreeLemmas.{in_scope-some}
 use Rattle.pb_declarations.specs.Decls.{DeclaredField, MessageHead, DeclaredMessages, DeclaredFile}
-use Rattle.pb_names.specs.Declarations.{Item, a_file, a_message, a_field, a_oneof, an_enum, a_value, a_service, a_method, Declaration, is_named, full_name}
-use Rattle.pb_rules.specs.Rules.{World}
-use Rattle.pb_rules.specs.Link.{IsWorldOf}
-use Rattle.pb_names.specs.TypeRefs.{file_in}
+use Rattle.pb_link_names.specs.Declarations.{Item, a_file, a_message, a_field, a_oneof, an_enum, a_value, a_service, a_method, Declaration, is_named, full_name}
+use Rattle.pb_link_rules.specs.Rules.{World}
+use Rattle.pb_link_rules.specs.Link.{IsWorldOf}
+use Rattle.pb_link_names.specs.TypeRefs.{file_in}
 use Rattle.pb_link.specs.ToDecls.{decls_of}
-use Rattle.pb_names.proofs.BehindLemmas.{MayStandIn, StandsBehind, scope_in}
+use Rattle.pb_link_names.proofs.BehindLemmas.{MayStandIn, StandsBehind, scope_in}
 use Rattle.pb_link.proofs.KindLemmas.{stands_behind}
 use Rattle.pb_link.proofs.ForestLemmas.{in_left, in_flat}
 use Rattle.pb_link.proofs.FlatLemmas.{Stands}

@@ -15,14 +15,14 @@ use Rattle.pb_schema.specs.Rules.{KindsNameTypes, NamesType, TypesAreSeen, TypeI
 use Rattle.pb_declarations.specs.declared.decl.TypeCode.{TypeCode}
 use Rattle.pb_declarations.specs.declared.decl.TypeCode.TheVariants as code
 use Rattle.pb_declarations.specs.Decls.{DeclaredField, DeclaredEnum, MessageHead, DeclaredMessages, DeclaredFile}
-use Rattle.pb_names.specs.Sees.{files_of}
-use Rattle.pb_names.specs.Declarations.{Item, a_file, a_message, a_field, an_enum, Declaration, full_name, is_type, has_name}
-use Rattle.pb_names.specs.Lookup.{Found, found, not_found, not_visible, not_a_type, looked_up, type_found, type_named, decided_name, unless_found, every_file, is_no_type}
-use Rattle.pb_rules.specs.Rules.{World, item_of, is_entry, is_enum, is_field, place_found, is_key_code, is_no_entry, passes, is_message_type, is_two, is_group}
-use Rattle.pb_rules.specs.Link.{NothingFails, IsWorldOf}
+use Rattle.pb_link_names.specs.Sees.{files_of}
+use Rattle.pb_link_names.specs.Declarations.{Item, a_file, a_message, a_field, an_enum, Declaration, full_name, is_type, has_name}
+use Rattle.pb_link_names.specs.Lookup.{Found, found, not_found, not_visible, not_a_type, looked_up, type_found, type_named, decided_name, unless_found, every_file, is_no_type}
+use Rattle.pb_link_rules.specs.Rules.{World, item_of, is_entry, is_enum, is_field, place_found, is_key_code, is_no_entry, passes, is_message_type, is_two, is_group}
+use Rattle.pb_link_rules.specs.Link.{NothingFails, IsWorldOf}
 use Rattle.pb_link.specs.PoolOf.{message_type, enum_type, message_index, enum_index, kind_of_code, kind_by_item, message_of_head, parent_type, type_place, kind_by_place, kind_of_field, entry_of, entry_declared, entry_by_item, field_type, field_by_entry, list_shape, singular_shape, pool_of, kind_at, kind_declared, enum_kind, group_of, grouped}
-use Rattle.pb_names.proofs.BehindLemmas.{StandsBehind}
-use Rattle.pb_rules.proofs.ThereLemmas.{built, some_same, and_left, and_right, all_mapped, field_there}
+use Rattle.pb_link_names.proofs.BehindLemmas.{StandsBehind}
+use Rattle.pb_link_rules.proofs.ThereLemmas.{built, some_same, and_left, and_right, all_mapped, field_there}
 use Rattle.pb_link.proofs.TypeLemmas.{each_message}
 use Rattle.pb_link.proofs.SeenLemmas.{seen-reached}
 use Rattle.pb_schema.specs.Names.{in_scope}

@@ -4,17 +4,17 @@ use Rattle.std.specs.Prelude.{Result, Ok, Err, IfOk, IfErr, MatchResult}
 use Rattle.std.proofs.lemmas.List.{length-map}
 use Rattle.pb_schema.specs.Types.{Types}
 use Rattle.pb_declarations.specs.Decls.{DeclaredFile}
-use Rattle.pb_rules.specs.declared.error.LinkError.{LinkError}
-use Rattle.pb_rules.specs.declared.error.LinkError.TheVariants.{Memory}
-use Rattle.pb_names.specs.View.{declaration_view, type_names_view}
-use Rattle.pb_names.specs.declared.declaration.Declaration.{Declaration}
-use Rattle.pb_names.specs.declared.found.TypeNames.{TypeNames}
-use Rattle.pb_rules.specs.Faults.{IsUnlinked}
-use Rattle.pb_rules.specs.Judged.{IsJudged}
-use Rattle.pb_rules.specs.declared.judged.Judged.{Judged}
+use Rattle.pb_link_rules.specs.declared.error.LinkError.{LinkError}
+use Rattle.pb_link_rules.specs.declared.error.LinkError.TheVariants.{Memory}
+use Rattle.pb_link_names.specs.View.{declaration_view, type_names_view}
+use Rattle.pb_link_names.specs.declared.declaration.Declaration.{Declaration}
+use Rattle.pb_link_names.specs.declared.found.TypeNames.{TypeNames}
+use Rattle.pb_link_rules.specs.Faults.{IsUnlinked}
+use Rattle.pb_link_rules.specs.Judged.{IsJudged}
+use Rattle.pb_link_rules.specs.declared.judged.Judged.{Judged}
 use Rattle.pb_link.specs.Linking.{IsLinked, Links}
 use Rattle.pb_link.specs.PoolOf.{pool_of}
-use Rattle.pb_rules.proofs.ExactLemmas.{one_world}
+use Rattle.pb_link_rules.proofs.ExactLemmas.{one_world}
 
 pub links_same : (files : List DeclaredFile) (ts us : Types) → Links files ts → Links files us → ts ≡ us
 links_same files ts us one other = one.made ∙ ap (pool_of files) (one_world files one.world other.world one.is_world other.is_world) ∙ sym other.made

@@ -16,10 +16,10 @@ use Rattle.pb_schema.specs.Names.{in_scope, entry_name}
 use Rattle.pb_schema.specs.Types.{FieldView, MessageView, Types}
 use Rattle.pb_schema.specs.Rules.{IsPool, NamesType, TypeIsSeen, HasKeyKind, MayBeValue}
 use Rattle.pb_declarations.specs.Decls.{MessageHead, no_messages}
-use Rattle.pb_names.specs.Declarations.{a_message, a_field, Declaration}
-use Rattle.pb_names.specs.Lookup.{found, looked_up}
-use Rattle.pb_rules.specs.Rules.{World, lookups, is_entry, is_map_field, gives_name, is_used_rightly}
-use Rattle.pb_rules.specs.Link.{IsWorldOf}
+use Rattle.pb_link_names.specs.Declarations.{a_message, a_field, Declaration}
+use Rattle.pb_link_names.specs.Lookup.{found, looked_up}
+use Rattle.pb_link_rules.specs.Rules.{World, lookups, is_entry, is_map_field, gives_name, is_used_rightly}
+use Rattle.pb_link_rules.specs.Link.{IsWorldOf}
 use Rattle.pb_link.specs.ToDecls.{is_optional_view, is_repeated_shape, name_of_kind, name_of_type, declared_field, declared_fields, declared_head, decls_of}
 use Rattle.pb_link.proofs.FlatLemmas.{Stands}
 use Rattle.pb_link.proofs.WholeLemmas.{all_at}

@@ -11,13 +11,13 @@ use Rattle.pb_schema.specs.declared.types.Kind.TheVariants as kind
 use Rattle.pb_schema.specs.Names.{in_scope}
 use Rattle.pb_schema.specs.Rules.{FileNamesDiffer, NumbersDiffer, FieldNumbersDiffer, ImplicitAreScalars, MayBeImplicit}
 use Rattle.pb_declarations.specs.Decls.{DeclaredField, MessageHead, DeclaredMessages, DeclaredFile}
-use Rattle.pb_rules.specs.declared.cause.LinkCause.TheVariants as cause
-use Rattle.pb_names.specs.Declarations.{a_file, a_message, a_field, Declaration, files_declared, file_declared}
-use Rattle.pb_names.specs.Sees.{file_of, files_of}
-use Rattle.pb_rules.specs.Rules.{World, is_field_number, is_two}
-use Rattle.pb_rules.specs.Link.{NothingFails, IsWorldOf}
+use Rattle.pb_link_rules.specs.declared.cause.LinkCause.TheVariants as cause
+use Rattle.pb_link_names.specs.Declarations.{a_file, a_message, a_field, Declaration, files_declared, file_declared}
+use Rattle.pb_link_names.specs.Sees.{file_of, files_of}
+use Rattle.pb_link_rules.specs.Rules.{World, is_field_number, is_two}
+use Rattle.pb_link_rules.specs.Link.{NothingFails, IsWorldOf}
 use Rattle.pb_link.specs.PoolOf.{field_type, field_by_entry, entry_of, list_shape, singular_shape, number_of, pool_of, kind_of_field}
-use Rattle.pb_rules.proofs.ThereLemmas.{some_same, place_holds, differ_twice, none_before, field_there}
+use Rattle.pb_link_rules.proofs.ThereLemmas.{some_same, place_holds, differ_twice, none_before, field_there}
 use Rattle.pb_link.proofs.TypeLemmas.{each_message, each_field}
 
 -- NUMBERS

@@ -16,15 +16,15 @@ use Rattle.pb_schema.specs.Types.{MessageView, EnumView}
 use Rattle.pb_schema.specs.Names.{in_scope, entry_name, names_of_field, names_in_message, scope_of, declared_by_message, declared_by_enum, declared_names, packages_of}
 use Rattle.pb_schema.specs.Rules.{PackagesAreFree, IsFree, FullNamesDiffer}
 use Rattle.pb_declarations.specs.Decls.{DeclaredField, DeclaredEnum, MessageHead, DeclaredMessages, DeclaredFile}
-use Rattle.pb_rules.specs.declared.cause.LinkCause.TheVariants as cause
-use Rattle.pb_names.specs.Sees.{file_of, files_of}
-use Rattle.pb_names.specs.Declarations.{Item, a_file, a_message, a_field, a_oneof, an_enum, a_value, a_service, a_method, Declaration, full_name, has_name, is_named, is_synthetic}
-use Rattle.pb_names.specs.Lookup.{makes_package, is_package_name, every_file}
-use Rattle.pb_rules.specs.Rules.{World, is_message, is_enum, is_field, uses, has_one_use, is_one_map_field, is_two}
-use Rattle.pb_rules.specs.Link.{NothingFails, IsWorldOf}
+use Rattle.pb_link_rules.specs.declared.cause.LinkCause.TheVariants as cause
+use Rattle.pb_link_names.specs.Sees.{file_of, files_of}
+use Rattle.pb_link_names.specs.Declarations.{Item, a_file, a_message, a_field, a_oneof, an_enum, a_value, a_service, a_method, Declaration, full_name, has_name, is_named, is_synthetic}
+use Rattle.pb_link_names.specs.Lookup.{makes_package, is_package_name, every_file}
+use Rattle.pb_link_rules.specs.Rules.{World, is_message, is_enum, is_field, uses, has_one_use, is_one_map_field, is_two}
+use Rattle.pb_link_rules.specs.Link.{NothingFails, IsWorldOf}
 use Rattle.pb_link.specs.PoolOf.{message_type, message_by_item, enum_type, enum_by_item, message_of_head, message_index, parent_type, parent_by_item, field_type, field_by_entry, entry_of, kind_of_field, list_shape, singular_shape, number_of, real_oneofs, pool_of}
-use Rattle.pb_names.proofs.BehindLemmas.{StandsBehind, scope_in}
-use Rattle.pb_rules.proofs.ThereLemmas.{some_same, and_left, and_right, not_both, none_before, place_holds, all_mapped, field_there, oneof_there, value_there}
+use Rattle.pb_link_names.proofs.BehindLemmas.{StandsBehind, scope_in}
+use Rattle.pb_link_rules.proofs.ThereLemmas.{some_same, and_left, and_right, not_both, none_before, place_holds, all_mapped, field_there, oneof_there, value_there}
 use Rattle.pb_link.proofs.TypeLemmas.{unless_entry}
 use Rattle.pb_link.proofs.EntryLemmas.{UsesEntry, entry_used, right_entry}
 use Rattle.pb_link.proofs.KindLemmas.{stands_behind}

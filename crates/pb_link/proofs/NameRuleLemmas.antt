@@ -15,16 +15,16 @@ use Rattle.pb_schema.specs.declared.types.Shape.TheVariants as shape
 use Rattle.pb_schema.specs.Names.{begins_word, continues_word, is_word, is_package, in_scope, entry_name, with_front, fronts_from, packages_of, names_of_field, declared_names}
 use Rattle.pb_schema.specs.Types.{FieldView, MessageView, EnumView, FileView, Types}
 use Rattle.pb_schema.specs.Rules.{IsPool, IsFree, AreWords, MessageIsOfWords, EnumIsOfWords}
-use Rattle.pb_names.specs.Declarations.{Declaration, declarations, is_named, full_name, has_name}
-use Rattle.pb_names.specs.Lookup.{makes_package, is_package_name, every_file}
-use Rattle.pb_rules.specs.Rules.{World, key_name, value_name, name_is_right, name_is_free}
-use Rattle.pb_rules.specs.Link.{IsWorldOf}
+use Rattle.pb_link_names.specs.Declarations.{Declaration, declarations, is_named, full_name, has_name}
+use Rattle.pb_link_names.specs.Lookup.{makes_package, is_package_name, every_file}
+use Rattle.pb_link_rules.specs.Rules.{World, key_name, value_name, name_is_right, name_is_free}
+use Rattle.pb_link_rules.specs.Link.{IsWorldOf}
 use Rattle.pb_link.specs.ToDecls.{is_optional_view, synthetic_names, declared_head, decls_of}
 use Rattle.pb_link.proofs.DeclaredLemmas.{eq_false}
 use Rattle.pb_link.proofs.ForestLemmas.{In, in_all, in_left, in_right, all_append, all_flat}
 use Rattle.pb_link.proofs.FlatLemmas.{Stands}
 use Rattle.pb_link.proofs.WholeLemmas.{all_at}
-use Rattle.pb_names.proofs.NameSetsLemmas.{fronts_append}
+use Rattle.pb_link_names.proofs.NameSetsLemmas.{fronts_append}
 use Rattle.pb_link.proofs.ReorderLemmas.{reordered_all, reordered_back}
 use Rattle.pb_link.proofs.DeclaredNamesLemmas.{names_of}
 use Rattle.pb_link.proofs.NamesDifferLemmas.{parts_in, all_entries, all_others, names_split}

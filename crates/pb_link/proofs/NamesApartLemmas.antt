@@ -10,8 +10,8 @@ use Rattle.pb_schema.specs.Rules.{IsPool, AreWords, MessageIsOfWords, EnumIsOfWo
 use Rattle.pb_graphs.proofs.ContainsLemmas.{Contains-first, Contains-later}
 use Rattle.pb_schema.proofs.NameLemmas.{scope_of-names}
 use Rattle.pb_schema.proofs.NameTreeLemmas.{HasNoDot, same_scope, word_has_no_dot, in_scope-some}
-use Rattle.pb_names.specs.Declarations.{declarations}
-use Rattle.pb_rules.specs.Rules.{key_name, value_name}
+use Rattle.pb_link_names.specs.Declarations.{declarations}
+use Rattle.pb_link_rules.specs.Rules.{key_name, value_name}
 use Rattle.pb_link.specs.ToDecls.{decls_of}
 use Rattle.pb_link.proofs.ForestLemmas.{In, in_all, in_left, in_right, in_flat, all_append, all_each, all_flat}
 use Rattle.pb_link.proofs.FlatLemmas.{before}

@@ -7,8 +7,8 @@ use Rattle.pb_schema.specs.declared.types.Shape.TheVariants as shape
 use Rattle.pb_schema.specs.Names.{in_scope, entry_name, names_of_field, message_name, declared_by_message, declared_by_enum, declared_names}
 use Rattle.pb_schema.specs.Types.{FieldView, MessageView, EnumView, Types}
 use Rattle.pb_schema.specs.Rules.{IsPool}
-use Rattle.pb_names.specs.Declarations.{declarations}
-use Rattle.pb_rules.specs.Rules.{key_name, value_name}
+use Rattle.pb_link_names.specs.Declarations.{declarations}
+use Rattle.pb_link_rules.specs.Rules.{key_name, value_name}
 use Rattle.pb_link.specs.ToDecls.{numbered, decls_of}
 use Rattle.pb_link.proofs.EnumWholeLemmas.{numbered_enums}
 use Rattle.pb_link.proofs.ReorderLemmas.{IsReordered, onward, reordered_same, reordered_is, reordered_append, reordered_turn, reordered_parts}

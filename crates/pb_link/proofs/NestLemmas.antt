@@ -7,10 +7,10 @@ use Rattle.std.proofs.lemmas.Option.{none-some}
 use Rattle.std.proofs.lemmas.Grind.{common_steps}
 use Rattle.pb_schema.specs.Names.{in_scope}
 use Rattle.pb_declarations.specs.Decls.{DeclaredEnum, MessageHead, DeclaredMessage, message, DeclaredMessages, no_messages, more_messages, DeclaredService, DeclaredFile}
-use Rattle.pb_names.specs.Declarations.{Item, a_file, a_message, a_field, a_oneof, an_enum, a_value, a_service, a_method, Declaration, fields_of, oneofs_of, values_of, enum_declared, enums_declared, message_declared, messages_declared, service_declared, services_declared, file_declared, files_declared}
-use Rattle.pb_rules.specs.Rules.{World}
-use Rattle.pb_rules.specs.Link.{IsWorldOf}
-use Rattle.pb_names.proofs.BehindLemmas.{some_same, get_split, all_get, all_map}
+use Rattle.pb_link_names.specs.Declarations.{Item, a_file, a_message, a_field, a_oneof, an_enum, a_value, a_service, a_method, Declaration, fields_of, oneofs_of, values_of, enum_declared, enums_declared, message_declared, messages_declared, service_declared, services_declared, file_declared, files_declared}
+use Rattle.pb_link_rules.specs.Rules.{World}
+use Rattle.pb_link_rules.specs.Link.{IsWorldOf}
+use Rattle.pb_link_names.proofs.BehindLemmas.{some_same, get_split, all_get, all_map}
 use Rattle.pb_link.proofs.OrderLemmas.{of_file, at_least}
 
 abbrev pub is_file : Item → Bool

@@ -7,8 +7,8 @@ use Rattle.std.proofs.lemmas.Bool.Decides.{nat_tests}
 use Rattle.std.proofs.lemmas.Option.{none-some, slice_get_within}
 use Rattle.std.proofs.lemmas.Slice.Eq.{bytes_eq-Decides}
 use Rattle.pb_schema.specs.Names.{AllDiffer}
-use Rattle.pb_names.specs.Declarations.{Declaration, is_named, is_type, full_name, has_name}
-use Rattle.pb_names.specs.Lookup.{Seen, every_file, type_found, is_no_type, found, not_found, not_visible, not_a_type, unless_found, looked_up}
+use Rattle.pb_link_names.specs.Declarations.{Declaration, is_named, is_type, full_name, has_name}
+use Rattle.pb_link_names.specs.Lookup.{Seen, every_file, type_found, is_no_type, found, not_found, not_visible, not_a_type, unless_found, looked_up}
 use Rattle.pb_link.proofs.ForestLemmas.{In, in_all, in_left, in_right}
 use Rattle.pb_link.proofs.FlatLemmas.{and_left, and_right}
 use Rattle.pb_link.proofs.ReorderLemmas.{differ_right, differ_apart}

@@ -5,20 +5,20 @@ use Rattle.std.proofs.lemmas.List.{length-map}
 use Rattle.pb_schema.specs.Types.{Types}
 use Rattle.pb_declarations.specs.Decls.{DeclaredFile}
 use Rattle.pb_declarations.specs.One.{ExactlyOne}
-use Rattle.pb_rules.specs.declared.cause.LinkCause.{LinkCause}
-use Rattle.pb_names.specs.Declarations.{full_name}
-use Rattle.pb_names.specs.Sees.{file_of}
-use Rattle.pb_rules.specs.Rules.{World}
-use Rattle.pb_rules.specs.Link.{IsWorldOf, first_fault}
+use Rattle.pb_link_rules.specs.declared.cause.LinkCause.{LinkCause}
+use Rattle.pb_link_names.specs.Declarations.{full_name}
+use Rattle.pb_link_names.specs.Sees.{file_of}
+use Rattle.pb_link_rules.specs.Rules.{World}
+use Rattle.pb_link_rules.specs.Link.{IsWorldOf, first_fault}
 use Rattle.pb_link.specs.Linking.{Links}
-use Rattle.pb_rules.specs.Faults.{ToldFault, HasLinkFault}
+use Rattle.pb_link_rules.specs.Faults.{ToldFault, HasLinkFault}
 use Rattle.pb_link.specs.PoolOf.{pool_of}
-use Rattle.pb_rules.proofs.FirstLemmas.{first_fault-first, first_fault-none}
-use Rattle.pb_rules.proofs.ExactLemmas.{first_fault-silent, first-told}
-use Rattle.pb_rules.proofs.ThereLemmas.{has_file}
-use Rattle.pb_rules.proofs.FaultLemmas.{silent_fault, same_fault}
+use Rattle.pb_link_rules.proofs.FirstLemmas.{first_fault-first, first_fault-none}
+use Rattle.pb_link_rules.proofs.ExactLemmas.{first_fault-silent, first-told}
+use Rattle.pb_link_rules.proofs.ThereLemmas.{has_file}
+use Rattle.pb_link_rules.proofs.FaultLemmas.{silent_fault, same_fault}
 use Rattle.pb_link.proofs.LinkLemmas.{links_same}
-use Rattle.pb_rules.proofs.WorldLemmas.{a_world}
+use Rattle.pb_link_rules.proofs.WorldLemmas.{a_world}
 
 -- what stands at an index
 found : {A : Type 0} (xs : List A) (i : ℕ) → i < length xs → (x : A) × (slice_get xs i ≡ Some x)

@@ -12,13 +12,13 @@ use Rattle.pb_schema.specs.Names.{in_scope}
 use Rattle.pb_schema.specs.Types.{FieldView}
 use Rattle.pb_schema.specs.Rules.{MembersNameOneofs, NamesOneof, OneofsHaveMembers, HasMember, IsMemberOf, EachOneofHasMember}
 use Rattle.pb_declarations.specs.Decls.{DeclaredField, MessageHead, DeclaredMessages, DeclaredFile}
-use Rattle.pb_rules.specs.declared.cause.LinkCause.TheVariants as cause
-use Rattle.pb_names.specs.Declarations.{Item, a_file, a_message, a_field, a_oneof, is_member_of, is_synthetic}
-use Rattle.pb_rules.specs.Rules.{World, gives_name, is_two}
-use Rattle.pb_names.specs.MarkRules.{oneof_of_field_is_right, oneof_is_right, how_many, members_with, same_oneof}
-use Rattle.pb_rules.specs.Link.{NothingFails, IsWorldOf}
+use Rattle.pb_link_rules.specs.declared.cause.LinkCause.TheVariants as cause
+use Rattle.pb_link_names.specs.Declarations.{Item, a_file, a_message, a_field, a_oneof, is_member_of, is_synthetic}
+use Rattle.pb_link_rules.specs.Rules.{World, gives_name, is_two}
+use Rattle.pb_link_names.specs.MarkRules.{oneof_of_field_is_right, oneof_is_right, how_many, members_with, same_oneof}
+use Rattle.pb_link_rules.specs.Link.{NothingFails, IsWorldOf}
 use Rattle.pb_link.specs.PoolOf.{field_type, field_by_entry, entry_of, kind_of_field, list_shape, singular_shape, real_oneofs, pool_of}
-use Rattle.pb_rules.proofs.ThereLemmas.{some_same, and_left, and_right, place_holds, all_mapped, field_there, oneof_there}
+use Rattle.pb_link_rules.proofs.ThereLemmas.{some_same, and_left, and_right, place_holds, all_mapped, field_there, oneof_there}
 use Rattle.pb_link.proofs.TypeLemmas.{each_message}
 use Rattle.pb_link.proofs.EntryLemmas.{entry_used}
 

@@ -6,12 +6,12 @@ use Rattle.std.proofs.lemmas.Option.{none-some}
 use Rattle.pb_schema.specs.Types.{MessageView}
 use Rattle.pb_schema.specs.Rules.{InOrder, FilesRise}
 use Rattle.pb_declarations.specs.Decls.{DeclaredFile}
-use Rattle.pb_names.specs.Declarations.{Declaration, file_declared, files_declared}
-use Rattle.pb_rules.specs.Rules.{World}
-use Rattle.pb_rules.specs.Link.{IsWorldOf}
+use Rattle.pb_link_names.specs.Declarations.{Declaration, file_declared, files_declared}
+use Rattle.pb_link_rules.specs.Rules.{World}
+use Rattle.pb_link_rules.specs.Link.{IsWorldOf}
 use Rattle.pb_link.specs.PoolOf.{message_type, pool_of}
-use Rattle.pb_names.proofs.BehindLemmas.{AreBuilt, built_file, get_split}
-use Rattle.pb_rules.proofs.ThereLemmas.{all_types}
+use Rattle.pb_link_names.proofs.BehindLemmas.{AreBuilt, built_file, get_split}
+use Rattle.pb_link_rules.proofs.ThereLemmas.{all_types}
 use Rattle.pb_link.proofs.TypeLemmas.{of_message}
 
 -- each element stands so to all later ones

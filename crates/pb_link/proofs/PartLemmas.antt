@@ -9,11 +9,11 @@ use Rattle.pb_declarations.specs.Decls.{DeclaredFile, MessageHead}
 use Rattle.pb_declarations.specs.View.{field_view}
 use Rattle.pb_graphs.specs.Reach.{next_of}
 use Rattle.pb_declarations.specs.declared.decl.FieldDecl.{FieldDecl}
-use Rattle.pb_names.specs.Sees.{file_of}
-use Rattle.pb_rules.specs.Rules.{key_name}
-use Rattle.pb_names.specs.Declarations.{is_synthetic}
+use Rattle.pb_link_names.specs.Sees.{file_of}
+use Rattle.pb_link_rules.specs.Rules.{key_name}
+use Rattle.pb_link_names.specs.Declarations.{is_synthetic}
 use Rattle.pb_link.specs.Pools.{real_from, kind_of_number, kind_read, place_named, parts_read}
-use Rattle.pb_names.specs.declared.found.TypeNames.{TypeNames}
+use Rattle.pb_link_names.specs.declared.found.TypeNames.{TypeNames}
 use Rattle.pb_link.specs.declared.pools.tables.Tables.{Tables}
 
 -- the elements from an index on, as they are seen

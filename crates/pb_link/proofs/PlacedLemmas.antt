@@ -4,7 +4,7 @@ use Rattle.std.specs.Prelude.{slice_get, filter, filter_map, flat_map, cond}
 use Rattle.std.specs.List.{AllByRecursion, AllZip, cons_option, enumerate_from}
 use Rattle.std.proofs.lemmas.Option.{none-some}
 use Rattle.pb_schema.specs.Names.{AllDiffer}
-use Rattle.pb_names.proofs.BehindLemmas.{some_same, all_append}
+use Rattle.pb_link_names.proofs.BehindLemmas.{some_same, all_append}
 
 -- each name is that of a place of some kind, and no place stands twice
 pub record ArePlaced (N : ℕ → List ℕ → Type 0) (S : ℕ → Type 0) (names : List (List ℕ)) : Type 0 where

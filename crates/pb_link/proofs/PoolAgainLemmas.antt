@@ -5,9 +5,9 @@ use Rattle.std.specs.List.{cons_option}
 use Rattle.pb_schema.specs.Types.{MessageView, EnumView, Types}
 use Rattle.pb_schema.specs.Names.{in_scope}
 use Rattle.pb_schema.specs.Rules.{IsPool}
-use Rattle.pb_names.specs.Declarations.{Item, a_file, a_message, a_field, a_oneof, an_enum, a_value, a_service, a_method, Declaration}
-use Rattle.pb_rules.specs.Rules.{World, is_enum, is_message_type}
-use Rattle.pb_rules.specs.Link.{IsWorldOf}
+use Rattle.pb_link_names.specs.Declarations.{Item, a_file, a_message, a_field, a_oneof, an_enum, a_value, a_service, a_method, Declaration}
+use Rattle.pb_link_rules.specs.Rules.{World, is_enum, is_message_type}
+use Rattle.pb_link_rules.specs.Link.{IsWorldOf}
 use Rattle.pb_link.specs.PoolOf.{message_index, enum_index, message_of_head, message_by_item, message_type, enum_by_item, enum_type, field_type, pool_of}
 use Rattle.pb_link.specs.ToDecls.{declared_head, decls_of}
 use Rattle.pb_link.proofs.CutLemmas.{count}

@@ -2,9 +2,9 @@
 use Rattle.std.proofs.Common.{List}
 use Rattle.pb_schema.specs.Rules.{FileRules, FieldRules}
 use Rattle.pb_declarations.specs.Decls.{DeclaredFile}
-use Rattle.pb_names.specs.Sees.{files_of}
-use Rattle.pb_rules.specs.Rules.{World}
-use Rattle.pb_rules.specs.Link.{NothingFails, IsWorldOf}
+use Rattle.pb_link_names.specs.Sees.{files_of}
+use Rattle.pb_link_rules.specs.Rules.{World}
+use Rattle.pb_link_rules.specs.Link.{NothingFails, IsWorldOf}
 use Rattle.pb_link.specs.PoolOf.{pool_of}
 use Rattle.pb_link.specs.Law.{LinkedIsPool}
 use Rattle.pb_link.proofs.FileLemmas.{files_named, packages_named, imports_few, imports_there, no_cycle}

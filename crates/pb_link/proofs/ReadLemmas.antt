@@ -15,17 +15,17 @@ use Rattle.pb_schema.specs.declared.types.EnumType.{EnumType}
 use Rattle.pb_schema.specs.Names.{in_scope}
 use Rattle.pb_schema.specs.View.{file_view, message_view, enum_view, types_of}
 use Rattle.pb_declarations.specs.Decls.{DeclaredField, MessageHead, DeclaredMessages, DeclaredFile}
-use Rattle.pb_names.specs.Sees.{files_of}
-use Rattle.pb_names.specs.Declarations.{Item, a_file, a_message, a_field, a_oneof, an_enum, a_value, a_service, a_method, Declaration}
-use Rattle.pb_names.specs.Lookup.{Found, found, not_found, not_visible, not_a_type, looked_up}
-use Rattle.pb_rules.specs.Rules.{World, item_of, lookups, uses, is_found_at, is_enum, is_message, is_field, place_found, has_key_and_value, key_name, value_name, is_message_type, is_two, is_group}
-use Rattle.pb_rules.specs.Link.{NothingFails, IsWorldOf}
+use Rattle.pb_link_names.specs.Sees.{files_of}
+use Rattle.pb_link_names.specs.Declarations.{Item, a_file, a_message, a_field, a_oneof, an_enum, a_value, a_service, a_method, Declaration}
+use Rattle.pb_link_names.specs.Lookup.{Found, found, not_found, not_visible, not_a_type, looked_up}
+use Rattle.pb_link_rules.specs.Rules.{World, item_of, lookups, uses, is_found_at, is_enum, is_message, is_field, place_found, has_key_and_value, key_name, value_name, is_message_type, is_two, is_group}
+use Rattle.pb_link_rules.specs.Link.{NothingFails, IsWorldOf}
 use Rattle.pb_link.specs.PoolOf.{message_index, enum_index, kind_at, kind_by_item, kind_declared, enum_kind, parent_type, parent_by_item, type_place, kind_by_place, kind_of_field, part_named, entry_declared, entry_by_item, with_kind, field_by_entry, field_type, message_of_head, message_type, message_by_item, enum_type, enum_by_item, pool_of, grouped}
-use Rattle.pb_names.specs.View.{declaration_view, type_names_view}
+use Rattle.pb_link_names.specs.View.{declaration_view, type_names_view}
 use Rattle.pb_declarations.specs.View.{file_view as declared_file_view}
 use Rattle.pb_link.specs.Pools.{kind_here, kinds_from, one_if, first_place, place_named, kind_of_number, kind_read, fields_of_entry, entry_read, parts_read, map_field, field_by_fields, field_by_place, fields_read, message_of_kind, parent_read, message_part, enum_part, messages_read, enums_read, is_read_two}
 use Rattle.pb_link.specs.declared.pools.tables.Tables.{Tables}
-use Rattle.pb_rules.proofs.ThereLemmas.{some_same, and_left, field_there}
+use Rattle.pb_link_rules.proofs.ThereLemmas.{some_same, and_left, field_there}
 use Rattle.pb_link.proofs.EntryLemmas.{UsesEntry, entry_used, HasParts, IsRightEntry, right_entry, other_name}
 use Rattle.pb_link.proofs.KindLemmas.{same_file}
 

@@ -5,11 +5,11 @@ use Rattle.std.specs.List.{enumerate_from}
 use Rattle.std.proofs.lemmas.List.{map-append}
 use Rattle.pb_schema.specs.Names.{in_scope}
 use Rattle.pb_declarations.specs.Decls.{DeclaredField, DeclaredEnum, MessageHead, DeclaredMessage, message, DeclaredMessages, no_messages, more_messages, DeclaredMethod, DeclaredService, DeclaredFile}
-use Rattle.pb_names.specs.Declarations.{Declaration, a_field, a_oneof, a_value, fields_of, oneofs_of, enum_declared, enums_declared, head_row, message_declared, messages_declared, methods_of, service_declared, services_declared, file_declared, files_declared, declarations}
-use Rattle.pb_names.specs.Lookup.{Found}
-use Rattle.pb_rules.specs.Rules.{World, lookups, lookups_if}
-use Rattle.pb_rules.specs.Link.{IsWorldOf}
-use Rattle.pb_rules.proofs.ExactLemmas.{one_world}
+use Rattle.pb_link_names.specs.Declarations.{Declaration, a_field, a_oneof, a_value, fields_of, oneofs_of, enum_declared, enums_declared, head_row, message_declared, messages_declared, methods_of, service_declared, services_declared, file_declared, files_declared, declarations}
+use Rattle.pb_link_names.specs.Lookup.{Found}
+use Rattle.pb_link_rules.specs.Rules.{World, lookups, lookups_if}
+use Rattle.pb_link_rules.specs.Link.{IsWorldOf}
+use Rattle.pb_link_rules.proofs.ExactLemmas.{one_world}
 use Rattle.pb_link.specs.Resolved.{type_meant, field_of_type, resolved_field, resolved_head, resolved_message, resolved_messages, resolved_method, resolved_service, resolved_file, resolved_files, Resolves}
 use Rattle.pb_link.specs.Resolving.{first_type, each_behind, behind_one, behind_enum, behind_head, behind_message, behind_messages, behind_service, behind_types, behind_file, fields_read, head_read, message_read, messages_read, methods_read, services_read, file_read, files_read}
 

@@ -4,7 +4,7 @@ use Rattle.std.specs.List.{AllByRecursion, enumerate_from}
 use Rattle.pb_schema.specs.Names.{in_scope}
 use Rattle.pb_declarations.specs.Decls.{DeclaredMessage, message, DeclaredMessages, no_messages, more_messages, DeclaredFile}
 use Rattle.pb_declarations.specs.Nests.{nests, all_nest}
-use Rattle.pb_rules.specs.Rules.{World}
+use Rattle.pb_link_rules.specs.Rules.{World}
 use Rattle.pb_link.specs.Resolved.{resolved_message, resolved_messages, resolved_file, Resolves}
 
 mutual

@@ -2,11 +2,11 @@
 use Rattle.std.proofs.Common.{◌≡◌, ℕ, ◌+◌, ◌<◌, ◌≤◌, List, [], ◌∷◌, ◌++◌, length, map, drop, get_or, refl, sym, ap, ◌∙◌, append_assoc, append-nil}
 use Rattle.std.proofs.lemmas.List.{map-append, drop_all}
 use Rattle.pb_declarations.specs.Decls.{DeclaredEnum, DeclaredField, MessageHead, DeclaredMessage, message, more_messages, messages_of}
-use Rattle.pb_names.specs.Declarations.{Declaration, head_of}
-use Rattle.pb_names.specs.Lookup.{Found}
+use Rattle.pb_link_names.specs.Declarations.{Declaration, head_of}
+use Rattle.pb_link_names.specs.Lookup.{Found}
 use Rattle.pb_link.specs.Resolving.{each_read, each_behind, behind_one, behind_enum, behind_head, behind_message, behind_messages, head_read, message_read, messages_read}
 use Rattle.pb_link.proofs.PartLemmas.{rest_more}
-use Rattle.pb_names.proofs.RowLemmas.{inner_of}
+use Rattle.pb_link_names.proofs.RowLemmas.{inner_of}
 
 pub read_more : {A X V Y Z : Type 0} (read : List A → V → Z) (behind : V → List A → List A) (view : X → V) (see : Y → Z) (xs : List X) (i : ℕ) (x : X) (held now : List Y) (y : Y) (ns next : List A) (whole : List Z) → i < length xs → x ≡ get_or xs i x → now ≡ held ++ y ∷ [] → see y ≡ read ns (view x) → next ≡ behind (view x) ns → map see held ++ each_read read behind ns (map view (drop i xs)) ≡ whole → map see now ++ each_read read behind next (map view (drop (i + 1) xs)) ≡ whole
 read_more read behind view see xs i x held now y ns next whole h there pushed made went invariant =

@@ -4,8 +4,8 @@ use Rattle.std.specs.Prelude.{filter}
 use Rattle.std.specs.List.{enumerate_from}
 use Rattle.pb_schema.specs.Names.{in_scope}
 use Rattle.pb_declarations.specs.Decls.{DeclaredEnum, MessageHead, DeclaredMessage, message, DeclaredMessages, no_messages, more_messages}
-use Rattle.pb_names.specs.Declarations.{a_message, a_field, a_oneof, a_value, Declaration, fields_of, oneofs_of, values_of, enum_declared, enums_declared, head_row, message_declared, messages_declared}
-use Rattle.pb_rules.specs.Rules.{is_enum, is_message_type}
+use Rattle.pb_link_names.specs.Declarations.{a_message, a_field, a_oneof, a_value, Declaration, fields_of, oneofs_of, values_of, enum_declared, enums_declared, head_row, message_declared, messages_declared}
+use Rattle.pb_link_rules.specs.Rules.{is_enum, is_message_type}
 use Rattle.pb_link.specs.Heads.{unless_entry, heads_in, heads_among, enums_in, enums_among}
 use Rattle.pb_link.proofs.CutLemmas.{count, count_append, count_none}
 

@@ -3,14 +3,14 @@ use Rattle.std.proofs.Common.{◌≡◌, ℕ, ℤ, pos, List, [], ◌∷◌, Boo
 use Rattle.std.specs.Prelude.{codes, ◌==◌, ◌||◌, ◌+◌, ◌++◌}
 use Rattle.pb_declarations.specs.declared.decl.TypeCode.TheVariants as code
 use Rattle.pb_declarations.specs.Decls.{DeclaredField, message, messages_of, no_messages, DeclaredMethod, DeclaredFile}
-use Rattle.pb_rules.specs.declared.cause.LinkCause.TheVariants as cause
+use Rattle.pb_link_rules.specs.declared.cause.LinkCause.TheVariants as cause
 use Rattle.pb_schema.specs.declared.types.Kind.TheVariants as kind
 use Rattle.pb_schema.specs.declared.types.Shape.TheVariants as shape
 use Rattle.pb_schema.specs.Types.{Types}
 use Rattle.pb_schema.specs.Imports.{Reaches, directly, further}
-use Rattle.pb_names.specs.Declarations.{declarations}
-use Rattle.pb_names.specs.Sees.{files_of}
-use Rattle.pb_rules.specs.Link.{first_fault}
+use Rattle.pb_link_names.specs.Declarations.{declarations}
+use Rattle.pb_link_names.specs.Sees.{files_of}
+use Rattle.pb_link_rules.specs.Link.{first_fault}
 use Rattle.pb_link.specs.PoolOf.{pool_of}
 use Rattle.pb_link.specs.ToDecls.{decls_of}
 use Rattle.pb_link.proofs.Samples.{int32, typed, in_message, enum_of, a_set, alone, told, told_by}

@@ -7,13 +7,13 @@ use Rattle.pb_schema.specs.Types.{FileView, MessageView}
 use Rattle.pb_schema.specs.Nesting.{parent_of}
 use Rattle.pb_schema.specs.Names.{in_scope, package_of, name_in, file_at, scope_within}
 use Rattle.pb_declarations.specs.Decls.{MessageHead, DeclaredMessages, DeclaredFile}
-use Rattle.pb_names.specs.Sees.{file_of, files_of}
-use Rattle.pb_names.specs.Declarations.{Item, a_file, a_message, a_field, a_oneof, an_enum, a_value, a_service, a_method, Declaration}
-use Rattle.pb_rules.specs.Rules.{World, item_of, is_message, is_message_type}
-use Rattle.pb_rules.specs.Link.{NothingFails, IsWorldOf}
+use Rattle.pb_link_names.specs.Sees.{file_of, files_of}
+use Rattle.pb_link_names.specs.Declarations.{Item, a_file, a_message, a_field, a_oneof, an_enum, a_value, a_service, a_method, Declaration}
+use Rattle.pb_link_rules.specs.Rules.{World, item_of, is_message, is_message_type}
+use Rattle.pb_link_rules.specs.Link.{NothingFails, IsWorldOf}
 use Rattle.pb_link.specs.PoolOf.{message_type, message_of_head, message_index, parent_type, parent_by_item, pool_of}
-use Rattle.pb_names.proofs.BehindLemmas.{StandsBehind, MayStandIn, scope_in}
-use Rattle.pb_rules.proofs.ThereLemmas.{built, some_same}
+use Rattle.pb_link_names.proofs.BehindLemmas.{StandsBehind, MayStandIn, scope_in}
+use Rattle.pb_link_rules.proofs.ThereLemmas.{built, some_same}
 use Rattle.pb_link.proofs.KindLemmas.{stands_behind, index_there, is_a_message}
 use Rattle.pb_link.proofs.IndexLemmas.{MayHoldType, message_in, holds_types}
 

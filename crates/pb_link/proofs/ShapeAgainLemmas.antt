@@ -12,7 +12,7 @@ use Rattle.pb_schema.specs.Kinds.{is_packable}
 use Rattle.pb_schema.specs.Types.{MessageView, Types, is_proto2}
 use Rattle.pb_schema.specs.Rules.{IsPool, MayBePacked, MayBeImplicit, MayStandIn}
 use Rattle.pb_declarations.specs.Decls.{DeclaredField}
-use Rattle.pb_names.specs.Declarations.{is_synthetic}
+use Rattle.pb_link_names.specs.Declarations.{is_synthetic}
 use Rattle.pb_link.specs.PoolOf.{list_shape, singular_shape, real_oneofs}
 use Rattle.pb_link.specs.ToDecls.{packed_of_list, declared_field, declared_head, synthetic_names}
 use Rattle.pb_link.proofs.FlatLemmas.{Stands}

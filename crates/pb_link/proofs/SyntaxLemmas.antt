@@ -14,17 +14,17 @@ use Rattle.pb_schema.specs.Rules.{MayBeValue, ValuesMayStand, IsNotImplicit, May
 use Rattle.pb_declarations.specs.declared.decl.TypeCode.{TypeCode}
 use Rattle.pb_declarations.specs.declared.decl.TypeCode.TheVariants as code
 use Rattle.pb_declarations.specs.Decls.{DeclaredField, MessageHead, DeclaredFile}
-use Rattle.pb_rules.specs.declared.cause.LinkCause.TheVariants as cause
-use Rattle.pb_names.specs.Declarations.{Item, a_message, a_field, an_enum, Declaration, simple_name}
-use Rattle.pb_names.specs.Lookup.{Found, found, not_found, not_visible, not_a_type, looked_up}
-use Rattle.pb_rules.specs.Rules.{World, is_two, is_group, is_open, is_field, place_found, passes_declared, lookups, lookups_if, is_type_by, key_name}
+use Rattle.pb_link_rules.specs.declared.cause.LinkCause.TheVariants as cause
+use Rattle.pb_link_names.specs.Declarations.{Item, a_message, a_field, an_enum, Declaration, simple_name}
+use Rattle.pb_link_names.specs.Lookup.{Found, found, not_found, not_visible, not_a_type, looked_up}
+use Rattle.pb_link_rules.specs.Rules.{World, is_two, is_group, is_open, is_field, place_found, passes_declared, lookups, lookups_if, is_type_by, key_name}
 use Rattle.pb_schema.specs.Types.{FieldView, EnumView, is_proto2}
-use Rattle.pb_names.specs.Sees.{files_of}
+use Rattle.pb_link_names.specs.Sees.{files_of}
 use Rattle.pb_link.proofs.FieldLemmas.{same_syntax}
-use Rattle.pb_rules.specs.Link.{NothingFails, IsWorldOf}
+use Rattle.pb_link_rules.specs.Link.{NothingFails, IsWorldOf}
 use Rattle.pb_link.specs.PoolOf.{kind_of_code, kind_by_item, kind_declared, kind_at, kind_by_place, kind_of_field, enum_kind, enum_index, grouped, part_named, entry_of, field_by_entry, list_shape, singular_shape, pool_of, field_type, type_place, group_of}
-use Rattle.pb_rules.specs.Rules.{value_name}
-use Rattle.pb_rules.proofs.ThereLemmas.{and_left, place_holds, field_there, all_mapped}
+use Rattle.pb_link_rules.specs.Rules.{value_name}
+use Rattle.pb_link_rules.proofs.ThereLemmas.{and_left, place_holds, field_there, all_mapped}
 use Rattle.pb_link.proofs.TypeLemmas.{each_field, each_message}
 use Rattle.pb_link.proofs.EntryLemmas.{entry_used, right_entry}
 use Rattle.pb_link.proofs.KindLemmas.{same_file, enum_there}

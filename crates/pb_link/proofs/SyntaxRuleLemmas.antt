@@ -12,13 +12,13 @@ use Rattle.pb_schema.specs.Names.{in_scope, entry_name}
 use Rattle.pb_schema.specs.Types.{FieldView, MessageView, Types, is_proto2}
 use Rattle.pb_schema.specs.Rules.{IsPool, BeginsRight}
 use Rattle.pb_declarations.specs.Decls.{DeclaredField, MessageHead}
-use Rattle.pb_rules.specs.declared.cause.LinkCause.TheVariants as cause
-use Rattle.pb_names.specs.Declarations.{Declaration}
-use Rattle.pb_rules.specs.Rules.{World, is_two, is_marked_optional, begins_right, is_enum, is_open, is_enum_right, passes_declared, lookups, key_name, value_name}
-use Rattle.pb_names.specs.MarkRules.{is_oneof_right}
-use Rattle.pb_rules.specs.Link.{IsWorldOf, holds}
+use Rattle.pb_link_rules.specs.declared.cause.LinkCause.TheVariants as cause
+use Rattle.pb_link_names.specs.Declarations.{Declaration}
+use Rattle.pb_link_rules.specs.Rules.{World, is_two, is_marked_optional, begins_right, is_enum, is_open, is_enum_right, passes_declared, lookups, key_name, value_name}
+use Rattle.pb_link_names.specs.MarkRules.{is_oneof_right}
+use Rattle.pb_link_rules.specs.Link.{IsWorldOf, holds}
 use Rattle.pb_link.specs.ToDecls.{is_optional_field, code_of_kind, name_of_kind, name_of_type, declared_field, declared_enum, declared_head, entry_part, decls_of}
-use Rattle.pb_names.proofs.AnyLemmas.{or_second}
+use Rattle.pb_link_names.proofs.AnyLemmas.{or_second}
 use Rattle.pb_link.proofs.FlatLemmas.{Stands}
 use Rattle.pb_link.proofs.WholeLemmas.{all_at}
 use Rattle.pb_link.proofs.EachDeclaredLemmas.{Name}

@@ -13,11 +13,11 @@ use Rattle.pb_schema.specs.Rules.{IsPool, NamesType, TypeIsSeen, EnumIsRight}
 use Rattle.pb_declarations.specs.declared.decl.TypeCode.{TypeCode}
 use Rattle.pb_declarations.specs.declared.decl.TypeCode.TheVariants as code
 use Rattle.pb_declarations.specs.Decls.{DeclaredField, MessageHead}
-use Rattle.pb_rules.specs.declared.cause.LinkCause.TheVariants as cause
-use Rattle.pb_names.specs.Declarations.{Item, a_field, Declaration}
-use Rattle.pb_names.specs.Lookup.{found, not_found, not_visible, not_a_type, looked_up}
-use Rattle.pb_rules.specs.Rules.{World, is_two, item_of, passes, is_same_fault, is_message, is_message_type, is_enum, is_entry, is_open, is_key_code, is_type_by}
-use Rattle.pb_rules.specs.Link.{IsWorldOf, holds}
+use Rattle.pb_link_rules.specs.declared.cause.LinkCause.TheVariants as cause
+use Rattle.pb_link_names.specs.Declarations.{Item, a_field, Declaration}
+use Rattle.pb_link_names.specs.Lookup.{found, not_found, not_visible, not_a_type, looked_up}
+use Rattle.pb_link_rules.specs.Rules.{World, is_two, item_of, passes, is_same_fault, is_message, is_message_type, is_enum, is_entry, is_open, is_key_code, is_type_by}
+use Rattle.pb_link_rules.specs.Link.{IsWorldOf, holds}
 use Rattle.pb_link.specs.ToDecls.{code_of_kind, name_of_kind, decls_of}
 use Rattle.pb_link.proofs.WholeLemmas.{get_there}
 use Rattle.pb_link.proofs.DeclaredSightLemmas.{sees_right}

@@ -6,11 +6,11 @@ use Rattle.std.proofs.lemmas.Option.{none-some}
 use Rattle.pb_schema.specs.Names.{in_scope}
 use Rattle.pb_schema.specs.Types.{FieldView, MessageView, EnumView}
 use Rattle.pb_declarations.specs.Decls.{DeclaredField, DeclaredEnum, MessageHead, DeclaredMessages, DeclaredFile}
-use Rattle.pb_names.specs.Declarations.{Item, a_message, a_field, an_enum, Declaration}
-use Rattle.pb_rules.specs.Rules.{World}
-use Rattle.pb_rules.specs.Link.{IsWorldOf}
+use Rattle.pb_link_names.specs.Declarations.{Item, a_message, a_field, an_enum, Declaration}
+use Rattle.pb_link_rules.specs.Rules.{World}
+use Rattle.pb_link_rules.specs.Link.{IsWorldOf}
 use Rattle.pb_link.specs.PoolOf.{message_type, message_by_item, message_of_head, enum_type, enum_by_item, field_type}
-use Rattle.pb_rules.proofs.ThereLemmas.{some_same, all_types, all_mapped, field_there}
+use Rattle.pb_link_rules.proofs.ThereLemmas.{some_same, all_types, all_mapped, field_there}
 
 pub unless_entry : {M : Type 0} (b : Bool) (m y : M) → (if b then None else Some m) ≡ Some y → (m ≡ y) × (b ≡ false)
 unless_entry true m y h = absurd (none-some y h)

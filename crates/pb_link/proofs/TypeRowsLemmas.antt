@@ -11,7 +11,7 @@ use Rattle.pb_schema.specs.Names.{in_scope}
 use Rattle.pb_schema.specs.Types.{FieldView, MessageView, EnumView, Types}
 use Rattle.pb_schema.specs.Rules.{IsPool}
 use Rattle.pb_declarations.specs.Decls.{DeclaredField, DeclaredEnum, MessageHead, messages_of}
-use Rattle.pb_names.specs.Declarations.{Item, a_file, a_message, a_field, a_oneof, an_enum, a_value, a_service, a_method, Declaration, fields_of, oneofs_of, values_of, messages_declared, declarations}
+use Rattle.pb_link_names.specs.Declarations.{Item, a_file, a_message, a_field, a_oneof, an_enum, a_value, a_service, a_method, Declaration, fields_of, oneofs_of, values_of, messages_declared, declarations}
 use Rattle.pb_link.specs.ToDecls.{numbered, declared_head, declared_enum, decls_of, entry_of_field}
 use Rattle.pb_link.proofs.EnumWholeLemmas.{numbered_enums}
 use Rattle.pb_link.proofs.EachDeclaredLemmas.{Name, Scope, entries_of, named, tell}

@@ -6,9 +6,9 @@ use Rattle.pb_schema.specs.declared.types.Shape.TheVariants as shape
 use Rattle.pb_schema.specs.Names.{in_scope, entry_name}
 use Rattle.pb_schema.specs.Types.{FieldView, MessageView, Types}
 use Rattle.pb_schema.specs.Rules.{IsPool}
-use Rattle.pb_names.specs.Declarations.{Declaration}
-use Rattle.pb_rules.specs.Rules.{World, key_name, value_name, is_message}
-use Rattle.pb_rules.specs.Link.{IsWorldOf}
+use Rattle.pb_link_names.specs.Declarations.{Declaration}
+use Rattle.pb_link_rules.specs.Rules.{World, key_name, value_name, is_message}
+use Rattle.pb_link_rules.specs.Link.{IsWorldOf}
 use Rattle.pb_link.specs.ToDecls.{code_of_kind, code_of_field, name_of_type, declared_field, declared_head, entry_part, decls_of}
 use Rattle.pb_link.proofs.FlatLemmas.{Stands}
 use Rattle.pb_link.proofs.EachDeclaredLemmas.{Name}

@@ -6,14 +6,14 @@ use Rattle.std.proofs.lemmas.Bool.{false≢true}
 use Rattle.pb_schema.specs.Names.{in_scope}
 use Rattle.pb_declarations.specs.declared.decl.TypeCode.{TypeCode}
 use Rattle.pb_declarations.specs.Decls.{DeclaredField, MessageHead, DeclaredMessage, message, DeclaredMessages, no_messages, more_messages, DeclaredMethod, DeclaredService, DeclaredFile}
-use Rattle.pb_rules.specs.declared.cause.LinkCause.TheVariants as cause
-use Rattle.pb_names.specs.Declarations.{Item, a_file, a_message, a_field, a_oneof, an_enum, a_value, a_service, a_method, Declaration, is_type, fields_of, oneofs_of, enums_declared, head_row, message_declared, messages_declared, methods_of, service_declared, services_declared, file_declared, files_declared, declarations}
-use Rattle.pb_names.specs.Lookup.{Found, found, not_found, not_visible, not_a_type, looked_up}
-use Rattle.pb_rules.specs.Rules.{World, is_looked_up, is_same_fault, place_found}
-use Rattle.pb_rules.specs.Link.{holds, NothingFails}
+use Rattle.pb_link_rules.specs.declared.cause.LinkCause.TheVariants as cause
+use Rattle.pb_link_names.specs.Declarations.{Item, a_file, a_message, a_field, a_oneof, an_enum, a_value, a_service, a_method, Declaration, is_type, fields_of, oneofs_of, enums_declared, head_row, message_declared, messages_declared, methods_of, service_declared, services_declared, file_declared, files_declared, declarations}
+use Rattle.pb_link_names.specs.Lookup.{Found, found, not_found, not_visible, not_a_type, looked_up}
+use Rattle.pb_link_rules.specs.Rules.{World, is_looked_up, is_same_fault, place_found}
+use Rattle.pb_link_rules.specs.Link.{holds, NothingFails}
 use Rattle.pb_link.specs.Resolved.{type_at, type_meant, full_name_or, code_of_item, code_or, resolved_field, resolved_message, resolved_messages, resolved_method, resolved_service, resolved_file, Resolves, IsFullName, IsTyped, IsTypedMethod, AreTyped, AreAllTyped, IsTypedFile}
 use Rattle.pb_link.proofs.KindLemmas.{IsFound, found_type}
-use Rattle.pb_rules.proofs.ThereLemmas.{place_holds}
+use Rattle.pb_link_rules.proofs.ThereLemmas.{place_holds}
 
 -- the rules that speak of the types of a declaration hold
 pub record TypesHold (w : World) (d : Declaration) : Type 0 where

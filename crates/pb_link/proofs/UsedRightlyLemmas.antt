@@ -12,9 +12,9 @@ use Rattle.pb_schema.specs.Names.{in_scope, entry_name, message_name, AllDiffer}
 use Rattle.pb_schema.specs.Types.{FieldView, MessageView, Types}
 use Rattle.pb_schema.specs.Rules.{IsPool}
 use Rattle.pb_declarations.specs.Decls.{DeclaredField, MessageHead}
-use Rattle.pb_names.specs.Declarations.{Declaration}
-use Rattle.pb_names.specs.Lookup.{found}
-use Rattle.pb_rules.specs.Rules.{World, lookups, is_entry, is_found_at, is_map_field, is_used_rightly, uses}
+use Rattle.pb_link_names.specs.Declarations.{Declaration}
+use Rattle.pb_link_names.specs.Lookup.{found}
+use Rattle.pb_link_rules.specs.Rules.{World, lookups, is_entry, is_found_at, is_map_field, is_used_rightly, uses}
 use Rattle.pb_link.specs.ToDecls.{code_of_kind, name_of_kind}
 use Rattle.pb_link.proofs.ForestLemmas.{In, in_all, in_flat}
 use Rattle.pb_link.proofs.FlatLemmas.{Stands}

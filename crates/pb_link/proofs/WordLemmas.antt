@@ -10,12 +10,12 @@ use Rattle.pb_schema.specs.declared.types.Kind.TheVariants as kind
 use Rattle.pb_schema.specs.Names.{in_scope, is_word, entry_name, names_of_field}
 use Rattle.pb_schema.specs.Rules.{AreWords, MessageIsOfWords, MessageNamesAreWords, EnumIsOfWords, EnumNamesAreWords}
 use Rattle.pb_declarations.specs.Decls.{DeclaredField, MessageHead, DeclaredMessages, DeclaredFile}
-use Rattle.pb_rules.specs.declared.cause.LinkCause.TheVariants as cause
-use Rattle.pb_names.specs.Declarations.{Item, a_message, a_field, a_oneof, an_enum, a_value, is_synthetic}
-use Rattle.pb_rules.specs.Rules.{World, name_is_right, gives_name, is_two}
-use Rattle.pb_rules.specs.Link.{NothingFails, IsWorldOf}
+use Rattle.pb_link_rules.specs.declared.cause.LinkCause.TheVariants as cause
+use Rattle.pb_link_names.specs.Declarations.{Item, a_message, a_field, a_oneof, an_enum, a_value, is_synthetic}
+use Rattle.pb_link_rules.specs.Rules.{World, name_is_right, gives_name, is_two}
+use Rattle.pb_link_rules.specs.Link.{NothingFails, IsWorldOf}
 use Rattle.pb_link.specs.PoolOf.{field_type, field_by_entry, entry_of, kind_of_field, list_shape, singular_shape, number_of, real_oneofs, pool_of}
-use Rattle.pb_rules.proofs.ThereLemmas.{some_same, and_right, place_holds, all_mapped, field_there, oneof_there, value_there}
+use Rattle.pb_link_rules.proofs.ThereLemmas.{some_same, and_right, place_holds, all_mapped, field_there, oneof_there, value_there}
 use Rattle.pb_link.proofs.TypeLemmas.{each_message, each_enum}
 use Rattle.pb_link.proofs.EntryLemmas.{entry_used}
 use Rattle.pb_link.proofs.OneofLemmas.{enumerated_get}

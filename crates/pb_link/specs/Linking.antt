@@ -2,10 +2,10 @@
 use Rattle.std.specs.Prelude.{◌≡◌, List, map}
 use Rattle.pb_schema.specs.Types.{Types}
 use Rattle.pb_declarations.specs.Decls.{DeclaredFile}
-use Rattle.pb_names.specs.Declarations.{Declaration}
-use Rattle.pb_names.specs.Lookup.{Found}
-use Rattle.pb_rules.specs.Rules.{World, lookups}
-use Rattle.pb_rules.specs.Link.{IsWorldOf, NothingFails}
+use Rattle.pb_link_names.specs.Declarations.{Declaration}
+use Rattle.pb_link_names.specs.Lookup.{Found}
+use Rattle.pb_link_rules.specs.Rules.{World, lookups}
+use Rattle.pb_link_rules.specs.Link.{IsWorldOf, NothingFails}
 use Rattle.pb_link.specs.PoolOf.{pool_of}
 
 -- in the world of these files nothing fails; they declare this row, and this is what its type names came to

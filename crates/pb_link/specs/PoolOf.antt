@@ -14,10 +14,10 @@ use Rattle.pb_schema.specs.Types.{FieldView, MessageView, EnumView, Types}
 use Rattle.pb_declarations.specs.declared.decl.TypeCode.{TypeCode}
 use Rattle.pb_declarations.specs.declared.decl.TypeCode.TheVariants as code
 use Rattle.pb_declarations.specs.Decls.{DeclaredField, MessageHead, DeclaredFile}
-use Rattle.pb_names.specs.Sees.{files_of}
-use Rattle.pb_names.specs.Declarations.{Item, a_file, a_message, a_field, a_oneof, an_enum, a_value, a_service, a_method, Declaration, full_name, is_synthetic}
-use Rattle.pb_names.specs.Lookup.{looked_up}
-use Rattle.pb_rules.specs.Rules.{World, is_two, item_at, is_enum, is_message_type, is_group, place_found, value_name, key_name}
+use Rattle.pb_link_names.specs.Sees.{files_of}
+use Rattle.pb_link_names.specs.Declarations.{Item, a_file, a_message, a_field, a_oneof, an_enum, a_value, a_service, a_method, Declaration, full_name, is_synthetic}
+use Rattle.pb_link_names.specs.Lookup.{looked_up}
+use Rattle.pb_link_rules.specs.Rules.{World, is_two, item_at, is_enum, is_message_type, is_group, place_found, value_name, key_name}
 
 -- how many declarations before a place pass a test
 abbrev pub count_before : (Item → Bool) → World → ℕ → ℕ

@@ -9,13 +9,13 @@ use Rattle.pb_schema.specs.declared.types.Shape.TheVariants as shape
 use Rattle.pb_schema.specs.Types.{FieldView, MessageView, EnumView}
 use Rattle.pb_declarations.specs.declared.decl.TypeCode.{TypeCode}
 use Rattle.pb_declarations.specs.Decls.{DeclaredField, DeclaredEnum, MessageHead, DeclaredFile}
-use Rattle.pb_names.specs.Declarations.{Item, a_file, a_message, a_field, a_oneof, an_enum, a_value, a_service, a_method, Declaration, is_synthetic}
-use Rattle.pb_names.specs.Lookup.{Found}
-use Rattle.pb_rules.specs.Rules.{is_two, is_enum, is_message_type, is_group, place_found, key_name}
+use Rattle.pb_link_names.specs.Declarations.{Item, a_file, a_message, a_field, a_oneof, an_enum, a_value, a_service, a_method, Declaration, is_synthetic}
+use Rattle.pb_link_names.specs.Lookup.{Found}
+use Rattle.pb_link_rules.specs.Rules.{is_two, is_enum, is_message_type, is_group, place_found, key_name}
 use Rattle.pb_link.specs.PoolOf.{kind_of_code, enum_kind, grouped, with_kind, number_of, real_oneofs}
 use Rattle.pb_declarations.specs.View.{file_view}
-use Rattle.pb_names.specs.View.{declaration_view, type_names_view}
-use Rattle.pb_names.specs.declared.found.TypeNames.{TypeNames}
+use Rattle.pb_link_names.specs.View.{declaration_view, type_names_view}
+use Rattle.pb_link_names.specs.declared.found.TypeNames.{TypeNames}
 use Rattle.pb_link.specs.declared.pools.tables.Tables.{Tables}
 
 -- the kind of a declaration that follows this many message types and enums; `two`: its file is of proto2. Bool if it is not a type

@@ -7,10 +7,10 @@ use Rattle.pb_declarations.specs.declared.decl.TypeCode.{TypeCode}
 use Rattle.pb_declarations.specs.declared.decl.TypeCode.TheVariants as code
 use Rattle.pb_declarations.specs.Decls.{DeclaredField, MessageHead, DeclaredMessage, message, DeclaredMessages, no_messages}
 use Rattle.pb_declarations.specs.Decls.{more_messages, DeclaredMethod, DeclaredService, DeclaredFile}
-use Rattle.pb_names.specs.Declarations.{Item, a_file, a_message, a_field, a_oneof, an_enum, a_value, a_service, a_method, Declaration, full_name, is_type}
-use Rattle.pb_names.specs.Lookup.{Found, looked_up}
-use Rattle.pb_rules.specs.Rules.{World, place_found}
-use Rattle.pb_rules.specs.Link.{IsWorldOf, NothingFails}
+use Rattle.pb_link_names.specs.Declarations.{Item, a_file, a_message, a_field, a_oneof, an_enum, a_value, a_service, a_method, Declaration, full_name, is_type}
+use Rattle.pb_link_names.specs.Lookup.{Found, looked_up}
+use Rattle.pb_link_rules.specs.Rules.{World, place_found}
+use Rattle.pb_link_rules.specs.Link.{IsWorldOf, NothingFails}
 
 -- the type that was found
 abbrev pub type_at : List Declaration → Found → Option Declaration

@@ -3,10 +3,10 @@
 use Rattle.std.specs.Prelude.{List, [], ◌∷◌, length, drop, map, Option, None}
 use Rattle.pb_declarations.specs.Decls.{DeclaredField, DeclaredEnum, MessageHead, DeclaredMessage, message, DeclaredMessages}
 use Rattle.pb_declarations.specs.Decls.{no_messages, more_messages, DeclaredMethod, DeclaredService, DeclaredFile}
-use Rattle.pb_names.specs.Declarations.{Declaration}
-use Rattle.pb_names.specs.Lookup.{Found}
+use Rattle.pb_link_names.specs.Declarations.{Declaration}
+use Rattle.pb_link_names.specs.Lookup.{Found}
 use Rattle.pb_link.specs.Resolved.{type_at, field_of_type, method_of_types}
-use Rattle.pb_names.specs.View.{type_names_view}
+use Rattle.pb_link_names.specs.View.{type_names_view}
 use Rattle.pb_link.specs.declared.resolving.upcoming.Upcoming.{Upcoming}
 
 -- the types found for the names of the declarations that come next

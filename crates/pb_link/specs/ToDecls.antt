@@ -13,7 +13,7 @@ use Rattle.pb_schema.specs.Types.{FieldView, MessageView, EnumView, FileView, Ty
 use Rattle.pb_declarations.specs.declared.decl.TypeCode.{TypeCode}
 use Rattle.pb_declarations.specs.declared.decl.TypeCode.TheVariants as code
 use Rattle.pb_declarations.specs.Decls.{DeclaredField, DeclaredEnum, MessageHead, DeclaredMessage, message, no_messages, messages_of, DeclaredFile}
-use Rattle.pb_rules.specs.Rules.{key_name, value_name}
+use Rattle.pb_link_rules.specs.Rules.{key_name, value_name}
 
 -- KINDS
 

@@ -18,7 +18,7 @@ ghost use Rattle.pb_descr.specs.Causes.{set_causes};
 ghost use Rattle.pb_descr.specs.Sets.{IsSetOf, set_bytes};
 ghost use Rattle.pb_descr.specs.Writable.{IsWithinLimits};
 ghost use Rattle.pb_descr.specs.Writing.{set_body};
-ghost use Rattle.pb_rules.specs.declared.error.LinkError.TheVariants.{Memory};
+ghost use Rattle.pb_link_rules.specs.declared.error.LinkError.TheVariants.{Memory};
 ghost use Rattle.pb_link.specs.Linking.{Links};
 ghost use Rattle.pb_link.specs.ToDecls.{numbered, declared_file, decls_of};
 ghost use Rattle.pb_link.specs.Nested.{inside_view, inside_file};
@@ -26,7 +26,7 @@ ghost use Rattle.pb_link.specs.Nested.{inside_view, inside_file};
 use crate::declaring::nesting::{Inside, nested};
 use pb_declarations::FileDecl;
 use pb_descr::laws::{set_back, writable};
-use pb_rules::LinkError;
+use pb_link_rules::LinkError;
 use pb_schema::{FileInfo, Pool};
 use std::alloc::{AllocError, Global};
 

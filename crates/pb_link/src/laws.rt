@@ -6,9 +6,9 @@ ghost use Rattle.pb_schema.specs.Types.{Types};
 ghost use Rattle.pb_schema.specs.Rules.{IsPool};
 ghost use Rattle.pb_declarations.specs.Decls.{DeclaredFile};
 ghost use Rattle.pb_declarations.specs.One.{ExactlyOne};
-ghost use Rattle.pb_names.specs.Declarations.{declarations};
+ghost use Rattle.pb_link_names.specs.Declarations.{declarations};
 ghost use Rattle.pb_link.specs.Linking.{Links};
-ghost use Rattle.pb_rules.specs.Faults.{HasLinkFault};
+ghost use Rattle.pb_link_rules.specs.Faults.{HasLinkFault};
 ghost use Rattle.pb_link.specs.Resolved.{Resolves, IsTypedFile};
 
 pub use crate::declaring::order::{declared_order, declared_pool};

@@ -33,6 +33,6 @@ mod resolving;
 
 pub use declaring::to_decls;
 pub use linking::link;
-pub use pb_rules::{LinkCause, LinkError};
+pub use pb_link_rules::{LinkCause, LinkError};
 pub use resolving::enum_maps::without_enum_maps;
 pub use resolving::resolve;

@@ -3,16 +3,16 @@
 ghost use Rattle.std.specs.Prelude.{◌≡◌, ℕ, List, map, IfOk, IfErr, IsErrAnd, MatchResult};
 ghost use Rattle.pb_schema.specs.Types.{Types};
 ghost use Rattle.pb_declarations.specs.View.{file_view};
-ghost use Rattle.pb_rules.specs.declared.cause.LinkCause.{LinkCause as CauseValue};
-ghost use Rattle.pb_rules.specs.declared.error.LinkError.TheVariants.{Memory};
+ghost use Rattle.pb_link_rules.specs.declared.cause.LinkCause.{LinkCause as CauseValue};
+ghost use Rattle.pb_link_rules.specs.declared.error.LinkError.TheVariants.{Memory};
 ghost use Rattle.pb_link.specs.Linking.{Links};
-ghost use Rattle.pb_rules.specs.Faults.{LinkFault, IsUnlinked, TellsLinkFault};
-ghost use Rattle.pb_rules.specs.Judged.{IsJudged};
+ghost use Rattle.pb_link_rules.specs.Faults.{LinkFault, IsUnlinked, TellsLinkFault};
+ghost use Rattle.pb_link_rules.specs.Judged.{IsJudged};
 
 use crate::pools::pool_of_names;
 use pb_declarations::FileDecl;
-use pb_rules::LinkError;
-use pb_rules::judged::{Judged, judge_files};
+use pb_link_rules::LinkError;
+use pb_link_rules::judged::{Judged, judge_files};
 use pb_schema::Pool;
 use std::alloc::Global;
 

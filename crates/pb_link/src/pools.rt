@@ -8,11 +8,11 @@ pub(crate) mod types;
 ghost use Rattle.std.specs.Prelude.{◌≡◌, map, length, IfOk};
 ghost use Rattle.pb_declarations.specs.View.{file_view};
 ghost use Rattle.pb_graphs.specs.Flat.{lists_of};
-ghost use Rattle.pb_names.specs.Sees.{files_of};
-ghost use Rattle.pb_rules.specs.Rules.{World};
+ghost use Rattle.pb_link_names.specs.Sees.{files_of};
+ghost use Rattle.pb_link_rules.specs.Rules.{World};
 ghost use Rattle.pb_link.specs.PoolOf.{pool_of};
-ghost use Rattle.pb_names.specs.View.{declaration_view, type_names_view};
-ghost use Rattle.pb_rules.specs.Judged.{IsJudged};
+ghost use Rattle.pb_link_names.specs.View.{declaration_view, type_names_view};
+ghost use Rattle.pb_link_rules.specs.Judged.{IsJudged};
 ghost use Rattle.pb_link.specs.Linking.{IsLinked, Links};
 
 use crate::pools::files::files_of;
@@ -20,9 +20,9 @@ use crate::pools::tables::{Tables, kinds};
 use crate::pools::types::{enums_of, messages_of};
 use pb_declarations::FileDecl;
 use pb_graphs::flat::FlatGraph;
-use pb_names::declaration::Declaration;
-use pb_names::found::TypeNames;
-use pb_rules::judged::Judged;
+use pb_link_names::declaration::Declaration;
+use pb_link_names::found::TypeNames;
+use pb_link_rules::judged::Judged;
 use pb_schema::Pool;
 use std::alloc::{AllocError, Global};
 

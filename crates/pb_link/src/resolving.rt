@@ -12,15 +12,15 @@ mod upcoming;
 ghost use Rattle.std.specs.Prelude.{◌≡◌, ℕ, List, map, IfOk, IfErr, IsErrAnd, MatchResult};
 ghost use Rattle.pb_declarations.specs.Decls.{DeclaredFile};
 ghost use Rattle.pb_declarations.specs.View.{file_view};
-ghost use Rattle.pb_rules.specs.declared.cause.LinkCause.{LinkCause as CauseValue};
-ghost use Rattle.pb_rules.specs.declared.error.LinkError.TheVariants.{Memory};
-ghost use Rattle.pb_rules.specs.Faults.{LinkFault, IsUnlinked, TellsLinkFault};
+ghost use Rattle.pb_link_rules.specs.declared.cause.LinkCause.{LinkCause as CauseValue};
+ghost use Rattle.pb_link_rules.specs.declared.error.LinkError.TheVariants.{Memory};
+ghost use Rattle.pb_link_rules.specs.Faults.{LinkFault, IsUnlinked, TellsLinkFault};
 ghost use Rattle.pb_link.specs.Resolved.{Resolves};
 
 use crate::resolving::files::resolve_files;
 use pb_declarations::FileDecl;
-use pb_rules::LinkError;
-use pb_rules::judged::judge_files;
+use pb_link_rules::LinkError;
+use pb_link_rules::judged::judge_files;
 use std::alloc::Global;
 
 /// The same files with every type number set and every type name written in full after a leading dot, if every rule of linking

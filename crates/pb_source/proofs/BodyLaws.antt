@@ -5,20 +5,20 @@ use Rattle.std.specs.Str.{bytes_eq}
 use Rattle.std.proofs.lemmas.Bool.{false≢true, or_parts}
 use Rattle.std.proofs.lemmas.Slice.Eq.{bytes_eq-Decides}
 use Rattle.pb_declarations.specs.Decls.{DeclaredField, DeclaredMethod, DeclaredService}
-use Rattle.pb_tokens.specs.declared.grammar.Grammar.{Grammar}
-use Rattle.pb_tokens.specs.Symbols.{Symbol, word, number, text, sign}
-use Rattle.pb_tokens.specs.Language.{Language, ◌▸◌, one, Rules}
-use Rattle.pb_tokens.specs.Phrases.{keyword, mark, name, BeginsNot, option, setting, signed, value_end, enum_range, typename}
-use Rattle.pb_tokens.specs.Readers.Forms.{Outcome, Reader, mapped, preceded, on_kind, first_passes, by_kind, is_mark, choice, keyword_reader, mark_reader}
-use Rattle.pb_tokens.specs.Readers.Phrases.{option_reader, is_dot, enum_range_reader, name_reader, fullname_reader, typename_reader}
-use Rattle.pb_tokens.proofs.ReaderLaws.{Reads}
-use Rattle.pb_tokens.proofs.Compose.{never, Mapped, Both, Behind, Before, reads_mapped, reads_both, reads_behind, reads_before, reads_before_so, reads_some, reads_either, reads_equal, said_so}
-use Rattle.pb_tokens.proofs.Heads.{Headed, headed_one, headed_then, headed_separated, front_of, is_a_word}
-use Rattle.pb_tokens.proofs.SymbolTests.{is_the_sign, reads_mark, reads_keyword}
-use Rattle.pb_tokens.proofs.KindLemmas.{first_kind, ByKind, Offers, kinds_fail, kinds_filled, reads_kinds}
-use Rattle.pb_tokens.proofs.NameLaws.{reads_name, name_first, reads_typename}
-use Rattle.pb_tokens.proofs.OptionLaws.{reads_option, reads_setting, reads_signed, reads_value_end, end_stops, end_constant}
-use Rattle.pb_tokens.proofs.RangeLaws.{reads_enum_range, enum_range_first}
+use Rattle.pb_source_tokens.specs.declared.grammar.Grammar.{Grammar}
+use Rattle.pb_source_tokens.specs.Symbols.{Symbol, word, number, text, sign}
+use Rattle.pb_source_tokens.specs.Language.{Language, ◌▸◌, one, Rules}
+use Rattle.pb_source_tokens.specs.Phrases.{keyword, mark, name, BeginsNot, option, setting, signed, value_end, enum_range, typename}
+use Rattle.pb_source_tokens.specs.Readers.Forms.{Outcome, Reader, mapped, preceded, on_kind, first_passes, by_kind, is_mark, choice, keyword_reader, mark_reader}
+use Rattle.pb_source_tokens.specs.Readers.Phrases.{option_reader, is_dot, enum_range_reader, name_reader, fullname_reader, typename_reader}
+use Rattle.pb_source_tokens.proofs.ReaderLaws.{Reads}
+use Rattle.pb_source_tokens.proofs.Compose.{never, Mapped, Both, Behind, Before, reads_mapped, reads_both, reads_behind, reads_before, reads_before_so, reads_some, reads_either, reads_equal, said_so}
+use Rattle.pb_source_tokens.proofs.Heads.{Headed, headed_one, headed_then, headed_separated, front_of, is_a_word}
+use Rattle.pb_source_tokens.proofs.SymbolTests.{is_the_sign, reads_mark, reads_keyword}
+use Rattle.pb_source_tokens.proofs.KindLemmas.{first_kind, ByKind, Offers, kinds_fail, kinds_filled, reads_kinds}
+use Rattle.pb_source_tokens.proofs.NameLaws.{reads_name, name_first, reads_typename}
+use Rattle.pb_source_tokens.proofs.OptionLaws.{reads_option, reads_setting, reads_signed, reads_value_end, end_stops, end_constant}
+use Rattle.pb_source_tokens.proofs.RangeLaws.{reads_enum_range, enum_range_first}
 use Rattle.pb_source.specs.declared.kind.EnumKind.{EnumKind}
 use Rattle.pb_source.specs.declared.kind.EnumKind.TheVariants as in_enum
 use Rattle.pb_source.specs.declared.kind.ServiceKind.{ServiceKind}

@@ -1,13 +1,13 @@
 -- Readers that give the same where the code looks one symbol ahead.
 use Rattle.std.proofs.Common.{◌≡◌, ℕ, suc, List, [], ◌∷◌, ◌++◌, length, arith, Bool, true, false, codes, refl, ap, sym, ◌∙◌, subst, Ok, Err}
 use Rattle.std.specs.Prelude.{if◌then◌else◌}
-use Rattle.pb_tokens.specs.declared.grammar.Grammar.{Grammar}
-use Rattle.pb_tokens.specs.Symbols.{Symbol, word}
-use Rattle.pb_tokens.specs.Language.{Rules}
-use Rattle.pb_tokens.specs.Readers.Forms.{Outcome, on_outcome, answer, mapped, first_passes, is_mark, keyword_reader, mark_reader}
-use Rattle.pb_tokens.specs.Readers.Phrases.{is_dot, name_reader, fullname_reader, type_of, type_reader}
-use Rattle.pb_tokens.proofs.SymbolTests.{reads_keyword}
-use Rattle.pb_tokens.proofs.Compose.{never}
+use Rattle.pb_source_tokens.specs.declared.grammar.Grammar.{Grammar}
+use Rattle.pb_source_tokens.specs.Symbols.{Symbol, word}
+use Rattle.pb_source_tokens.specs.Language.{Rules}
+use Rattle.pb_source_tokens.specs.Readers.Forms.{Outcome, on_outcome, answer, mapped, first_passes, is_mark, keyword_reader, mark_reader}
+use Rattle.pb_source_tokens.specs.Readers.Phrases.{is_dot, name_reader, fullname_reader, type_of, type_reader}
+use Rattle.pb_source_tokens.proofs.SymbolTests.{reads_keyword}
+use Rattle.pb_source_tokens.proofs.Compose.{never}
 use Rattle.pb_source.specs.Syntaxes.{is_proto2}
 use Rattle.pb_source.specs.declared.kind.Label.TheVariants.{Unlabelled}
 use Rattle.pb_source.specs.Readers.Lines.{a_single, field_tail_reader, field_from, field_reader, dotted_reader, of_map_reader, map_reader}

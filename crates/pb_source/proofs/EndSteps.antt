@@ -1,13 +1,13 @@
 -- What a loop up to the end owes: a turn of it is a step of the reader that goes to the end.
 use Rattle.std.proofs.Common.{◌≡◌, ℕ, zero, suc, ◌<◌, ◌≤◌, List, [], ◌∷◌, ◌++◌, length, Bool, true, false, refl, ap, ◌∙◌, arith, Ok, Err}
 use Rattle.std.specs.Prelude.{if◌then◌else◌}
-use Rattle.pb_tokens.specs.declared.symbol.Placed.{Placed}
-use Rattle.pb_tokens.specs.declared.refusal.Refusal.{Refusal as CodeRefusal}
-use Rattle.pb_tokens.specs.Symbols.{Symbol}
-use Rattle.pb_tokens.specs.Language.{all_rules}
-use Rattle.pb_tokens.specs.Readers.Forms.{Reader, Refusal, to_end}
-use Rattle.pb_tokens.specs.Readers.Given.{symbols_from, Fails}
-use Rattle.pb_tokens.proofs.UntilSteps.{length_from, fails_on}
+use Rattle.pb_source_tokens.specs.declared.symbol.Placed.{Placed}
+use Rattle.pb_source_tokens.specs.declared.refusal.Refusal.{Refusal as CodeRefusal}
+use Rattle.pb_source_tokens.specs.Symbols.{Symbol}
+use Rattle.pb_source_tokens.specs.Language.{all_rules}
+use Rattle.pb_source_tokens.specs.Readers.Forms.{Reader, Refusal, to_end}
+use Rattle.pb_source_tokens.specs.Readers.Given.{symbols_from, Fails}
+use Rattle.pb_source_tokens.proofs.UntilSteps.{length_from, fails_on}
 
 -- some turns are left for what is left
 pub record TurnedOn {I : Type 0} (marks : I → Bool) (item : Bool → Reader I) (m : ℕ) (ts : List Symbol) (marked : Bool) (front : List I) (rest : List Symbol) : Type 0 where

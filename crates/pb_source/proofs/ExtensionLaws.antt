@@ -5,20 +5,20 @@ use Rattle.std.specs.Str.{bytes_eq}
 use Rattle.std.proofs.lemmas.Bool.{false≢true}
 use Rattle.std.proofs.lemmas.Slice.Eq.{bytes_eq-Decides}
 use Rattle.pb_declarations.specs.Decls.{DeclaredField, DeclaredMessage}
-use Rattle.pb_tokens.specs.declared.grammar.Grammar.{Grammar}
-use Rattle.pb_tokens.specs.Symbols.{Symbol, word, number, text, sign}
-use Rattle.pb_tokens.specs.Language.{Language, ◌▸◌, ◌or◌, Rules}
-use Rattle.pb_tokens.specs.Phrases.{keyword, mark, BeginsNot, Until, Listed, typename, message_range, assignment, value_end}
-use Rattle.pb_tokens.specs.Readers.Forms.{Reader, mapped, preceded, keyword_reader, first_passes}
-use Rattle.pb_tokens.specs.Readers.Phrases.{is_comma, message_range_reader}
-use Rattle.pb_tokens.proofs.ReaderLaws.{Reads, IsStop}
-use Rattle.pb_tokens.proofs.Compose.{never, Mapped, reads_mapped, reads_behind, reads_behind_so, reads_some, said_so}
-use Rattle.pb_tokens.proofs.Heads.{filled_front, stops_rest, front_of_one}
-use Rattle.pb_tokens.proofs.SymbolTests.{reads_mark, reads_keyword}
-use Rattle.pb_tokens.proofs.KindLemmas.{first_kind, ByKind, Offers, kinds_fail, kinds_filled, reads_kinds}
-use Rattle.pb_tokens.proofs.NameLaws.{reads_typename}
-use Rattle.pb_tokens.proofs.OptionLaws.{reads_listed, stops_listed, mark_stops, reads_value_end}
-use Rattle.pb_tokens.proofs.RangeLaws.{reads_message_range, message_range_first, begins_bound, is_to}
+use Rattle.pb_source_tokens.specs.declared.grammar.Grammar.{Grammar}
+use Rattle.pb_source_tokens.specs.Symbols.{Symbol, word, number, text, sign}
+use Rattle.pb_source_tokens.specs.Language.{Language, ◌▸◌, ◌or◌, Rules}
+use Rattle.pb_source_tokens.specs.Phrases.{keyword, mark, BeginsNot, Until, Listed, typename, message_range, assignment, value_end}
+use Rattle.pb_source_tokens.specs.Readers.Forms.{Reader, mapped, preceded, keyword_reader, first_passes}
+use Rattle.pb_source_tokens.specs.Readers.Phrases.{is_comma, message_range_reader}
+use Rattle.pb_source_tokens.proofs.ReaderLaws.{Reads, IsStop}
+use Rattle.pb_source_tokens.proofs.Compose.{never, Mapped, reads_mapped, reads_behind, reads_behind_so, reads_some, said_so}
+use Rattle.pb_source_tokens.proofs.Heads.{filled_front, stops_rest, front_of_one}
+use Rattle.pb_source_tokens.proofs.SymbolTests.{reads_mark, reads_keyword}
+use Rattle.pb_source_tokens.proofs.KindLemmas.{first_kind, ByKind, Offers, kinds_fail, kinds_filled, reads_kinds}
+use Rattle.pb_source_tokens.proofs.NameLaws.{reads_typename}
+use Rattle.pb_source_tokens.proofs.OptionLaws.{reads_listed, stops_listed, mark_stops, reads_value_end}
+use Rattle.pb_source_tokens.proofs.RangeLaws.{reads_message_range, message_range_first, begins_bound, is_to}
 use Rattle.pb_source.specs.declared.kind.Label.{Label}
 use Rattle.pb_source.specs.declared.kind.Label.TheVariants.{Unlabelled, Repeated}
 use Rattle.pb_source.specs.Meaning.{Member, MessageStatement, those_said}

@@ -3,14 +3,14 @@ use Rattle.std.proofs.Common.{◌≡◌, ◌≢◌, ℕ, suc, ◌+◌, ◌-◌, 
 use Rattle.std.proofs.lemmas.Bool.{cases_lt}
 use Rattle.std.proofs.lemmas.List.{append_cancel_right, take-append-le, take-append-drop, take-take}
 use Rattle.std.proofs.Math.Seq.{take-append_seam}
-use Rattle.pb_tokens.specs.Symbols.{Symbol}
-use Rattle.pb_tokens.specs.Language.{Language, Rules, all_rules, without, cause_of, reported, Begins}
-use Rattle.pb_tokens.specs.declared.rule.Rule.{Rule}
-use Rattle.pb_tokens.specs.declared.rule.Rule.TheVariants.{NumbersFit as numbers_fit, OptionsKnown as options_known, SyntaxFirst as syntax_first, NestsBounded as nests_bounded, TextsValid as texts_valid}
-use Rattle.pb_tokens.specs.Readers.Forms.{Reader}
-use Rattle.pb_tokens.specs.declared.fault.SourceCause.{SourceCause}
-use Rattle.pb_tokens.specs.declared.fault.SourceCause.TheVariants.{Unexpected}
-use Rattle.pb_tokens.proofs.ReaderLaws.{Reads, Refused, leaves}
+use Rattle.pb_source_tokens.specs.Symbols.{Symbol}
+use Rattle.pb_source_tokens.specs.Language.{Language, Rules, all_rules, without, cause_of, reported, Begins}
+use Rattle.pb_source_tokens.specs.declared.rule.Rule.{Rule}
+use Rattle.pb_source_tokens.specs.declared.rule.Rule.TheVariants.{NumbersFit as numbers_fit, OptionsKnown as options_known, SyntaxFirst as syntax_first, NestsBounded as nests_bounded, TextsValid as texts_valid}
+use Rattle.pb_source_tokens.specs.Readers.Forms.{Reader}
+use Rattle.pb_source_tokens.specs.declared.fault.SourceCause.{SourceCause}
+use Rattle.pb_source_tokens.specs.declared.fault.SourceCause.TheVariants.{Unexpected}
+use Rattle.pb_source_tokens.proofs.ReaderLaws.{Reads, Refused, leaves}
 use Rattle.pb_source.specs.SyntaxFault.{IsCause, Fault}
 
 leaves_itself : (r : Rule) → leaves (without r) (Some r) ≡ true

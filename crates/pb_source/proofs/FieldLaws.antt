@@ -4,20 +4,20 @@ use Rattle.std.specs.Str.{bytes_eq}
 use Rattle.std.proofs.lemmas.Bool.{false≢true}
 use Rattle.std.proofs.lemmas.Slice.Eq.{bytes_eq-Decides}
 use Rattle.pb_declarations.specs.Decls.{DeclaredField}
-use Rattle.pb_tokens.specs.declared.grammar.Grammar.{Grammar}
-use Rattle.pb_tokens.specs.Symbols.{Symbol, word, number, text, sign}
-use Rattle.pb_tokens.specs.Language.{Language, ◌▸◌, ◌or◌, Rules}
-use Rattle.pb_tokens.specs.Said.{TypeSaid, a_scalar, a_name}
-use Rattle.pb_tokens.specs.Phrases.{keyword, mark, name, fullname, counted, field_end, key_type, typed}
-use Rattle.pb_tokens.specs.Readers.Forms.{first_passes, is_keyword, is_mark}
-use Rattle.pb_tokens.specs.Readers.Phrases.{is_dot, type_of}
-use Rattle.pb_tokens.proofs.ReaderLaws.{Reads, IsStop}
-use Rattle.pb_tokens.proofs.Parts.{Answered, reads_answer, reads_less}
-use Rattle.pb_tokens.proofs.Compose.{never, Mapped, Both, Behind, reads_mapped, reads_both, reads_both_so, reads_behind, reads_either, said_so}
-use Rattle.pb_tokens.proofs.Heads.{Headed, headed_one, headed_then, headed_separated, fails_front, fails_rest, stops_front, is_a_word, word_or_sign, front_of_one}
-use Rattle.pb_tokens.proofs.SymbolTests.{reads_mark, reads_keyword}
-use Rattle.pb_tokens.proofs.NameLaws.{reads_name, name_first, reads_fullname, reads_type, reads_key, Undotted, Dotted, undotted_typed, typed_so}
-use Rattle.pb_tokens.proofs.OptionLaws.{reads_counted, reads_field_end, mark_stops}
+use Rattle.pb_source_tokens.specs.declared.grammar.Grammar.{Grammar}
+use Rattle.pb_source_tokens.specs.Symbols.{Symbol, word, number, text, sign}
+use Rattle.pb_source_tokens.specs.Language.{Language, ◌▸◌, ◌or◌, Rules}
+use Rattle.pb_source_tokens.specs.Said.{TypeSaid, a_scalar, a_name}
+use Rattle.pb_source_tokens.specs.Phrases.{keyword, mark, name, fullname, counted, field_end, key_type, typed}
+use Rattle.pb_source_tokens.specs.Readers.Forms.{first_passes, is_keyword, is_mark}
+use Rattle.pb_source_tokens.specs.Readers.Phrases.{is_dot, type_of}
+use Rattle.pb_source_tokens.proofs.ReaderLaws.{Reads, IsStop}
+use Rattle.pb_source_tokens.proofs.Parts.{Answered, reads_answer, reads_less}
+use Rattle.pb_source_tokens.proofs.Compose.{never, Mapped, Both, Behind, reads_mapped, reads_both, reads_both_so, reads_behind, reads_either, said_so}
+use Rattle.pb_source_tokens.proofs.Heads.{Headed, headed_one, headed_then, headed_separated, fails_front, fails_rest, stops_front, is_a_word, word_or_sign, front_of_one}
+use Rattle.pb_source_tokens.proofs.SymbolTests.{reads_mark, reads_keyword}
+use Rattle.pb_source_tokens.proofs.NameLaws.{reads_name, name_first, reads_fullname, reads_type, reads_key, Undotted, Dotted, undotted_typed, typed_so}
+use Rattle.pb_source_tokens.proofs.OptionLaws.{reads_counted, reads_field_end, mark_stops}
 use Rattle.pb_source.specs.Syntaxes.{is_proto2}
 use Rattle.pb_source.specs.declared.kind.Label.{Label}
 use Rattle.pb_source.specs.declared.kind.Label.TheVariants.{Unlabelled}

@@ -4,26 +4,26 @@ use Rattle.std.specs.Prelude.{if◌then◌else◌}
 use Rattle.std.specs.Str.{bytes_eq}
 use Rattle.std.proofs.lemmas.Bool.{false≢true, or_parts}
 use Rattle.std.proofs.lemmas.Slice.Eq.{bytes_eq-Decides}
-use Rattle.pb_tokens.specs.declared.grammar.Grammar.{Grammar}
-use Rattle.pb_tokens.specs.declared.grammar.Grammar.TheVariants.{Strict, Lenient}
-use Rattle.pb_tokens.specs.declared.grammar.Syntax.{Syntax}
-use Rattle.pb_tokens.specs.declared.grammar.Syntax.TheVariants.{Proto2, Proto3}
-use Rattle.pb_tokens.specs.declared.rule.Rule.TheVariants.{SyntaxFirst as syntax_first}
-use Rattle.pb_tokens.specs.Symbols.{Symbol, word, number, text, sign}
-use Rattle.pb_tokens.specs.Language.{Language, ◌▸◌, ◌or◌, one, nothing, Rules}
-use Rattle.pb_tokens.specs.Said.{joined}
-use Rattle.pb_tokens.specs.Phrases.{keyword, mark, fullname, Until, option, utf8_text}
-use Rattle.pb_tokens.specs.Readers.Forms.{first_passes, is_keyword, symbol, judged, mapped}
-use Rattle.pb_tokens.proofs.ReaderLaws.{Reads, IsStop, Chained, reads_chain}
-use Rattle.pb_tokens.proofs.Parts.{Answered, reads_answer, reads_stop}
-use Rattle.pb_tokens.proofs.Compose.{never, any_stop, Mapped, Both, Behind, Before, reads_mapped, reads_both_so, reads_behind, reads_before, reads_before_so, reads_either, said_so}
-use Rattle.pb_tokens.proofs.Heads.{headed_one, headed_then, fails_rest, stops_rest, front_of, front_of_one}
-use Rattle.pb_tokens.proofs.SymbolTests.{is_the_word, Keeps, reads_judged, reads_mark, reads_keyword}
-use Rattle.pb_tokens.proofs.KindLemmas.{ByKind, Offers, kinds_fail, kinds_filled, reads_kinds}
-use Rattle.pb_tokens.proofs.ToEnd.{always, Each, reads_to_end}
-use Rattle.pb_tokens.proofs.NameLaws.{reads_fullname}
-use Rattle.pb_tokens.proofs.OptionLaws.{end_stops}
-use Rattle.pb_tokens.proofs.RangeLaws.{reads_utf8}
+use Rattle.pb_source_tokens.specs.declared.grammar.Grammar.{Grammar}
+use Rattle.pb_source_tokens.specs.declared.grammar.Grammar.TheVariants.{Strict, Lenient}
+use Rattle.pb_source_tokens.specs.declared.grammar.Syntax.{Syntax}
+use Rattle.pb_source_tokens.specs.declared.grammar.Syntax.TheVariants.{Proto2, Proto3}
+use Rattle.pb_source_tokens.specs.declared.rule.Rule.TheVariants.{SyntaxFirst as syntax_first}
+use Rattle.pb_source_tokens.specs.Symbols.{Symbol, word, number, text, sign}
+use Rattle.pb_source_tokens.specs.Language.{Language, ◌▸◌, ◌or◌, one, nothing, Rules}
+use Rattle.pb_source_tokens.specs.Said.{joined}
+use Rattle.pb_source_tokens.specs.Phrases.{keyword, mark, fullname, Until, option, utf8_text}
+use Rattle.pb_source_tokens.specs.Readers.Forms.{first_passes, is_keyword, symbol, judged, mapped}
+use Rattle.pb_source_tokens.proofs.ReaderLaws.{Reads, IsStop, Chained, reads_chain}
+use Rattle.pb_source_tokens.proofs.Parts.{Answered, reads_answer, reads_stop}
+use Rattle.pb_source_tokens.proofs.Compose.{never, any_stop, Mapped, Both, Behind, Before, reads_mapped, reads_both_so, reads_behind, reads_before, reads_before_so, reads_either, said_so}
+use Rattle.pb_source_tokens.proofs.Heads.{headed_one, headed_then, fails_rest, stops_rest, front_of, front_of_one}
+use Rattle.pb_source_tokens.proofs.SymbolTests.{is_the_word, Keeps, reads_judged, reads_mark, reads_keyword}
+use Rattle.pb_source_tokens.proofs.KindLemmas.{ByKind, Offers, kinds_fail, kinds_filled, reads_kinds}
+use Rattle.pb_source_tokens.proofs.ToEnd.{always, Each, reads_to_end}
+use Rattle.pb_source_tokens.proofs.NameLaws.{reads_fullname}
+use Rattle.pb_source_tokens.proofs.OptionLaws.{end_stops}
+use Rattle.pb_source_tokens.proofs.RangeLaws.{reads_utf8}
 use Rattle.pb_source.specs.declared.reading.Reading.{Reading}
 use Rattle.pb_source.specs.declared.reading.Reading.TheVariants as reading
 use Rattle.pb_declarations.specs.Decls.{DeclaredMessage}

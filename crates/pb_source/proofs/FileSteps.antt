@@ -1,11 +1,11 @@
 -- What the statements of a file come to, one after another.
 use Rattle.std.proofs.Common.{◌≡◌, ◌≤◌, ℕ, List, [], ◌∷◌, ◌++◌, length, length-append, Bool, true, false, ◌||◌, refl, ap, ◌∙◌, arith, Ok}
 use Rattle.std.specs.Prelude.{if◌then◌else◌}
-use Rattle.pb_tokens.specs.declared.grammar.Grammar.{Grammar}
-use Rattle.pb_tokens.specs.declared.symbol.Placed.{Placed}
-use Rattle.pb_tokens.specs.Language.{all_rules}
-use Rattle.pb_tokens.specs.Readers.Given.{symbols_from}
-use Rattle.pb_tokens.proofs.UntilSteps.{length_from}
+use Rattle.pb_source_tokens.specs.declared.grammar.Grammar.{Grammar}
+use Rattle.pb_source_tokens.specs.declared.symbol.Placed.{Placed}
+use Rattle.pb_source_tokens.specs.Language.{all_rules}
+use Rattle.pb_source_tokens.specs.Readers.Given.{symbols_from}
+use Rattle.pb_source_tokens.proofs.UntilSteps.{length_from}
 use Rattle.pb_source.specs.Meaning.{FileStatement, all_said, packages_said}
 use Rattle.pb_source.specs.PartsView.{OnePackage}
 use Rattle.pb_source.specs.Readers.Lines.{is_package, file_statement_reader}

@@ -1,10 +1,10 @@
 -- Lines that only some of the grammars have.
 use Rattle.std.proofs.Common.{◌≡◌, List, [], ◌∷◌, Bool, true, false, None}
 use Rattle.pb_declarations.specs.Decls.{DeclaredField}
-use Rattle.pb_tokens.specs.declared.grammar.Grammar.{Grammar}
-use Rattle.pb_tokens.specs.Symbols.{Symbol}
-use Rattle.pb_tokens.specs.Language.{Language, Rules}
-use Rattle.pb_tokens.specs.Phrases.{BeginsNot}
+use Rattle.pb_source_tokens.specs.declared.grammar.Grammar.{Grammar}
+use Rattle.pb_source_tokens.specs.Symbols.{Symbol}
+use Rattle.pb_source_tokens.specs.Language.{Language, Rules}
+use Rattle.pb_source_tokens.specs.Phrases.{BeginsNot}
 use Rattle.pb_source.specs.declared.kind.Label.TheVariants.{Unlabelled}
 use Rattle.pb_source.specs.Meaning.{Member}
 use Rattle.pb_source.specs.Grammar.{field, lined}

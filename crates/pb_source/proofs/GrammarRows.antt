@@ -4,18 +4,18 @@ use Rattle.std.proofs.Common.{◌≡◌, ℕ, zero, suc, ◌≤◌, List, [], �
 use Rattle.pb_schema.specs.Names.{entry_name}
 use Rattle.pb_declarations.specs.Decls.{DeclaredField, DeclaredEnum, DeclaredMethod, DeclaredFile, DeclaredMessages, message as message_decl, no_messages, more_messages}
 use Rattle.pb_declarations.specs.declared.decl.TypeCode.TheVariants as code
-use Rattle.pb_tokens.specs.declared.fault.SourceCause.TheVariants.{Unexpected, NumberTooLarge, CustomOption, NotProto3, NestedTooDeep}
-use Rattle.pb_tokens.specs.declared.rule.Rule.{Rule}
-use Rattle.pb_tokens.specs.declared.rule.Rule.TheVariants.{NumbersFit as numbers_fit, OptionsKnown as options_known, SyntaxFirst as syntax_first, NestsBounded as nests_bounded}
-use Rattle.pb_tokens.specs.declared.grammar.Grammar.{Grammar}
-use Rattle.pb_tokens.specs.declared.grammar.Grammar.TheVariants.{Strict}
-use Rattle.pb_tokens.specs.Tokens.{Lexes}
-use Rattle.pb_tokens.specs.Symbols.{Symbol, word, number, text, sign, AreSymbols}
-use Rattle.pb_tokens.specs.Language.{all_rules}
-use Rattle.pb_tokens.specs.Said.{a_scalar, a_name}
-use Rattle.pb_tokens.specs.Readers.Forms.{Outcome}
-use Rattle.pb_tokens.specs.Readers.Phrases.{name_reader, fullname_reader, typename_reader, limited_reader, signed_reader, plus_or_minus_reader, signed_value_reader, unquoted_reader, constant_reader, part_reader, optname_reader, assignment_reader, option_reader, setting_reader, field_option_reader, options_reader, ended_reader, value_end_reader, type_reader, key_reader, range_reader, utf8_reader}
-use Rattle.pb_tokens.proofs.ToEnd.{always}
+use Rattle.pb_source_tokens.specs.declared.fault.SourceCause.TheVariants.{Unexpected, NumberTooLarge, CustomOption, NotProto3, NestedTooDeep}
+use Rattle.pb_source_tokens.specs.declared.rule.Rule.{Rule}
+use Rattle.pb_source_tokens.specs.declared.rule.Rule.TheVariants.{NumbersFit as numbers_fit, OptionsKnown as options_known, SyntaxFirst as syntax_first, NestsBounded as nests_bounded}
+use Rattle.pb_source_tokens.specs.declared.grammar.Grammar.{Grammar}
+use Rattle.pb_source_tokens.specs.declared.grammar.Grammar.TheVariants.{Strict}
+use Rattle.pb_source_tokens.specs.Tokens.{Lexes}
+use Rattle.pb_source_tokens.specs.Symbols.{Symbol, word, number, text, sign, AreSymbols}
+use Rattle.pb_source_tokens.specs.Language.{all_rules}
+use Rattle.pb_source_tokens.specs.Said.{a_scalar, a_name}
+use Rattle.pb_source_tokens.specs.Readers.Forms.{Outcome}
+use Rattle.pb_source_tokens.specs.Readers.Phrases.{name_reader, fullname_reader, typename_reader, limited_reader, signed_reader, plus_or_minus_reader, signed_value_reader, unquoted_reader, constant_reader, part_reader, optname_reader, assignment_reader, option_reader, setting_reader, field_option_reader, options_reader, ended_reader, value_end_reader, type_reader, key_reader, range_reader, utf8_reader}
+use Rattle.pb_source_tokens.proofs.ToEnd.{always}
 use Rattle.pb_source.specs.declared.kind.Label.TheVariants.{Unlabelled, Optional}
 use Rattle.pb_source.specs.declared.reading.Reading.TheVariants as reading
 use Rattle.pb_source.specs.Meaning.{FileStatement, MessageStatement, MapDecl, field_of, message_of}

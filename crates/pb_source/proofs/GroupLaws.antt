@@ -7,21 +7,21 @@ use Rattle.std.proofs.lemmas.Bool.{false≢true}
 use Rattle.std.proofs.Math.Bool.{or-false}
 use Rattle.pb_declarations.specs.Decls.{DeclaredField}
 use Rattle.pb_declarations.specs.declared.decl.TypeCode.TheVariants as code
-use Rattle.pb_tokens.specs.declared.grammar.Grammar.{Grammar}
-use Rattle.pb_tokens.specs.declared.rule.Rule.TheVariants.{NestsBounded as nests_bounded}
-use Rattle.pb_tokens.specs.Symbols.{Symbol, word, number, text, sign}
-use Rattle.pb_tokens.specs.Language.{Language, ◌▸◌, Rules, Begins}
-use Rattle.pb_tokens.specs.Said.{a_scalar}
-use Rattle.pb_tokens.specs.Phrases.{keyword, mark, name, counted, group_end, BeginsNot, Until}
-use Rattle.pb_tokens.specs.Readers.Forms.{Reader, mapped, first_passes, is_keyword, keyword_reader, symbol, plain}
-use Rattle.pb_tokens.specs.Readers.Phrases.{group_end_reader}
-use Rattle.pb_tokens.proofs.ReaderLaws.{Reads, IsStop}
-use Rattle.pb_tokens.proofs.Compose.{never, Mapped, Both, reads_mapped, reads_both, reads_behind, reads_either, said_so}
-use Rattle.pb_tokens.proofs.Guards.{reads_guarded}
-use Rattle.pb_tokens.proofs.Heads.{Headed, headed_one, headed_then}
-use Rattle.pb_tokens.proofs.SymbolTests.{is_the_word, reads_plain, reads_mark, reads_keyword}
-use Rattle.pb_tokens.proofs.KindLemmas.{ByKind, reads_kinds}
-use Rattle.pb_tokens.proofs.OptionLaws.{reads_counted, reads_group_end}
+use Rattle.pb_source_tokens.specs.declared.grammar.Grammar.{Grammar}
+use Rattle.pb_source_tokens.specs.declared.rule.Rule.TheVariants.{NestsBounded as nests_bounded}
+use Rattle.pb_source_tokens.specs.Symbols.{Symbol, word, number, text, sign}
+use Rattle.pb_source_tokens.specs.Language.{Language, ◌▸◌, Rules, Begins}
+use Rattle.pb_source_tokens.specs.Said.{a_scalar}
+use Rattle.pb_source_tokens.specs.Phrases.{keyword, mark, name, counted, group_end, BeginsNot, Until}
+use Rattle.pb_source_tokens.specs.Readers.Forms.{Reader, mapped, first_passes, is_keyword, keyword_reader, symbol, plain}
+use Rattle.pb_source_tokens.specs.Readers.Phrases.{group_end_reader}
+use Rattle.pb_source_tokens.proofs.ReaderLaws.{Reads, IsStop}
+use Rattle.pb_source_tokens.proofs.Compose.{never, Mapped, Both, reads_mapped, reads_both, reads_behind, reads_either, said_so}
+use Rattle.pb_source_tokens.proofs.Guards.{reads_guarded}
+use Rattle.pb_source_tokens.proofs.Heads.{Headed, headed_one, headed_then}
+use Rattle.pb_source_tokens.proofs.SymbolTests.{is_the_word, reads_plain, reads_mark, reads_keyword}
+use Rattle.pb_source_tokens.proofs.KindLemmas.{ByKind, reads_kinds}
+use Rattle.pb_source_tokens.proofs.OptionLaws.{reads_counted, reads_group_end}
 use Rattle.pb_source.specs.declared.kind.Label.{Label}
 use Rattle.pb_source.specs.Syntaxes.{is_proto2}
 use Rattle.pb_source.specs.Meaning.{Member, MessageStatement, field_of, group_field, message_of}

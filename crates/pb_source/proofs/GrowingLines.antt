@@ -1,14 +1,14 @@
 -- The readers of statements and of files that may go further.
 use Rattle.std.proofs.Common.{◌≡◌, ℕ, zero, suc, ◌+◌, ◌-◌, ◌≤◌, List, [], ◌∷◌, Bool, true, false, not, codes, ap, ◌∙◌, subst, Option, Some, None, Err, arith, ◌⊎◌, inl, inr, ℤ}
-use Rattle.pb_tokens.specs.declared.grammar.Grammar.{Grammar}
-use Rattle.pb_tokens.specs.declared.rule.Rule.{Rule}
-use Rattle.pb_tokens.proofs.Growing.{Grows, grows_chain, grows_same, grows_mapped, grows_both, grows_behind, grows_before, grows_choice, GrowsSome, grows_kinds, grows_guarded, grows_until, grows_to_end, grows_listed, grows_fullname, grows_typename, grows_option, grows_setting, grows_ended, grows_value_end, grows_type}
-use Rattle.pb_tokens.specs.declared.rule.Rule.TheVariants.{NestsBounded as nests_bounded}
-use Rattle.pb_tokens.specs.Symbols.{Symbol}
-use Rattle.pb_tokens.specs.Language.{Rules}
-use Rattle.pb_tokens.specs.Said.{joined}
-use Rattle.pb_tokens.specs.Readers.Forms.{Outcome, Reader, answer, mapped, symbol, is_mark, is_keyword, keyword_reader, mark_reader}
-use Rattle.pb_tokens.specs.Readers.Phrases.{name_reader, counted_reader, key_reader, signed_reader, utf8_reader, type_of, message_range_reader, enum_range_reader, is_dot, is_text}
+use Rattle.pb_source_tokens.specs.declared.grammar.Grammar.{Grammar}
+use Rattle.pb_source_tokens.specs.declared.rule.Rule.{Rule}
+use Rattle.pb_source_tokens.proofs.Growing.{Grows, grows_chain, grows_same, grows_mapped, grows_both, grows_behind, grows_before, grows_choice, GrowsSome, grows_kinds, grows_guarded, grows_until, grows_to_end, grows_listed, grows_fullname, grows_typename, grows_option, grows_setting, grows_ended, grows_value_end, grows_type}
+use Rattle.pb_source_tokens.specs.declared.rule.Rule.TheVariants.{NestsBounded as nests_bounded}
+use Rattle.pb_source_tokens.specs.Symbols.{Symbol}
+use Rattle.pb_source_tokens.specs.Language.{Rules}
+use Rattle.pb_source_tokens.specs.Said.{joined}
+use Rattle.pb_source_tokens.specs.Readers.Forms.{Outcome, Reader, answer, mapped, symbol, is_mark, is_keyword, keyword_reader, mark_reader}
+use Rattle.pb_source_tokens.specs.Readers.Phrases.{name_reader, counted_reader, key_reader, signed_reader, utf8_reader, type_of, message_range_reader, enum_range_reader, is_dot, is_text}
 use Rattle.pb_source.specs.declared.reading.Reading.{Reading}
 use Rattle.pb_source.specs.Syntaxes.{is_lenient, is_proto2, optional_label}
 use Rattle.pb_source.specs.declared.kind.Label.{Label}

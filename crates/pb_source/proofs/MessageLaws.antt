@@ -6,22 +6,22 @@ use Rattle.std.specs.Str.{bytes_eq}
 use Rattle.std.proofs.lemmas.Bool.{false≢true}
 use Rattle.std.proofs.lemmas.Slice.Eq.{bytes_eq-Decides}
 use Rattle.pb_declarations.specs.Decls.{DeclaredMessage, DeclaredField}
-use Rattle.pb_tokens.specs.declared.grammar.Grammar.{Grammar}
-use Rattle.pb_tokens.specs.declared.rule.Rule.TheVariants.{NestsBounded as nests_bounded}
-use Rattle.pb_tokens.specs.Symbols.{Symbol, word, number, text, sign}
-use Rattle.pb_tokens.specs.Language.{Language, ◌▸◌, Rules, Begins}
-use Rattle.pb_tokens.specs.Phrases.{keyword, mark, name, Until, BeginsNot, option, message_range}
-use Rattle.pb_tokens.specs.Readers.Forms.{Reader, mapped, mark_reader, first_passes, is_keyword}
-use Rattle.pb_tokens.specs.Readers.Phrases.{message_range_reader}
-use Rattle.pb_tokens.proofs.ReaderLaws.{Reads}
-use Rattle.pb_tokens.proofs.Compose.{never, Mapped, reads_mapped, reads_both, reads_behind, said_so}
-use Rattle.pb_tokens.proofs.Heads.{Headed, headed_one, headed_then}
-use Rattle.pb_tokens.proofs.SymbolTests.{is_the_word, reads_mark, reads_keyword}
-use Rattle.pb_tokens.proofs.Loops.{reads_until}
-use Rattle.pb_tokens.proofs.Guards.{reads_guarded}
-use Rattle.pb_tokens.proofs.KindLemmas.{first_kind, ByKind, Offers, kinds_fail, kinds_filled, reads_kinds}
-use Rattle.pb_tokens.proofs.NameLaws.{reads_name}
-use Rattle.pb_tokens.proofs.RangeLaws.{reads_message_range, message_range_first}
+use Rattle.pb_source_tokens.specs.declared.grammar.Grammar.{Grammar}
+use Rattle.pb_source_tokens.specs.declared.rule.Rule.TheVariants.{NestsBounded as nests_bounded}
+use Rattle.pb_source_tokens.specs.Symbols.{Symbol, word, number, text, sign}
+use Rattle.pb_source_tokens.specs.Language.{Language, ◌▸◌, Rules, Begins}
+use Rattle.pb_source_tokens.specs.Phrases.{keyword, mark, name, Until, BeginsNot, option, message_range}
+use Rattle.pb_source_tokens.specs.Readers.Forms.{Reader, mapped, mark_reader, first_passes, is_keyword}
+use Rattle.pb_source_tokens.specs.Readers.Phrases.{message_range_reader}
+use Rattle.pb_source_tokens.proofs.ReaderLaws.{Reads}
+use Rattle.pb_source_tokens.proofs.Compose.{never, Mapped, reads_mapped, reads_both, reads_behind, said_so}
+use Rattle.pb_source_tokens.proofs.Heads.{Headed, headed_one, headed_then}
+use Rattle.pb_source_tokens.proofs.SymbolTests.{is_the_word, reads_mark, reads_keyword}
+use Rattle.pb_source_tokens.proofs.Loops.{reads_until}
+use Rattle.pb_source_tokens.proofs.Guards.{reads_guarded}
+use Rattle.pb_source_tokens.proofs.KindLemmas.{first_kind, ByKind, Offers, kinds_fail, kinds_filled, reads_kinds}
+use Rattle.pb_source_tokens.proofs.NameLaws.{reads_name}
+use Rattle.pb_source_tokens.proofs.RangeLaws.{reads_message_range, message_range_first}
 use Rattle.pb_source.specs.declared.kind.Label.{Label}
 use Rattle.pb_source.specs.declared.kind.Label.TheVariants.{Unlabelled, Repeated}
 use Rattle.pb_source.specs.Syntaxes.{is_lenient, is_proto2, optional_label}

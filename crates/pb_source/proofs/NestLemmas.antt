@@ -3,12 +3,12 @@ use Rattle.std.proofs.Common.{◌≡◌, ℕ, zero, suc, ◌≤◌, max, List, [
 use Rattle.pb_schema.specs.Names.{in_scope}
 use Rattle.pb_declarations.specs.Decls.{DeclaredMessage, message as message_decl, DeclaredMessages, no_messages, more_messages, messages_of, DeclaredFile}
 use Rattle.pb_declarations.specs.Nests.{nests, all_nest}
-use Rattle.pb_tokens.specs.declared.grammar.Grammar.{Grammar}
+use Rattle.pb_source_tokens.specs.declared.grammar.Grammar.{Grammar}
 use Rattle.pb_source.specs.declared.reading.Reading.{Reading}
 use Rattle.pb_source.specs.declared.reading.Reading.TheVariants as reading
-use Rattle.pb_tokens.specs.Symbols.{Symbol}
-use Rattle.pb_tokens.specs.Language.{Rules, all_rules, Language, ◌▸◌, nothing}
-use Rattle.pb_tokens.specs.Phrases.{Until, keyword, mark}
+use Rattle.pb_source_tokens.specs.Symbols.{Symbol}
+use Rattle.pb_source_tokens.specs.Language.{Rules, all_rules, Language, ◌▸◌, nothing}
+use Rattle.pb_source_tokens.specs.Phrases.{Until, keyword, mark}
 use Rattle.pb_source.specs.declared.kind.Label.{Label}
 use Rattle.pb_source.specs.declared.kind.Label.TheVariants.{Unlabelled, Repeated}
 use Rattle.pb_source.specs.Syntaxes.{is_lenient, is_proto2, optional_label}

@@ -1,7 +1,7 @@
 -- What the readers of statements say of no symbols: they are refused, since a statement was expected.
 use Rattle.std.proofs.Common.{◌≡◌, ℕ, [], refl, None, Err}
-use Rattle.pb_tokens.specs.declared.grammar.Grammar.{Grammar}
-use Rattle.pb_tokens.specs.Language.{all_rules}
+use Rattle.pb_source_tokens.specs.declared.grammar.Grammar.{Grammar}
+use Rattle.pb_source_tokens.specs.Language.{all_rules}
 use Rattle.pb_source.specs.Readers.Lines.{Nested, extension_reader, oneof_statement_reader, enum_statement_reader, method_statement_reader, service_statement_reader}
 
 pub no_oneof_statement : (grammar : Grammar) → (n : ℕ) (nested : Nested) → oneof_statement_reader grammar n nested all_rules [] ≡ Err ([], None)

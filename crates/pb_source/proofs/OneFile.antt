@@ -3,16 +3,16 @@ use Rattle.std.proofs.Common.{◌≡◌, ℕ, zero, suc, ◌-◌, ◌≤◌, Lis
 use Rattle.std.specs.Prelude.{if◌then◌else◌}
 use Rattle.std.proofs.lemmas.List.{take-append-drop}
 use Rattle.pb_source.specs.declared.reading.Reading.{Reading}
-use Rattle.pb_tokens.specs.Symbols.{Symbol}
-use Rattle.pb_tokens.specs.Language.{Rules, all_rules, reported, Begins}
-use Rattle.pb_tokens.specs.declared.rule.Rule.{Rule}
-use Rattle.pb_tokens.specs.declared.fault.SourceCause.{SourceCause}
-use Rattle.pb_tokens.specs.declared.fault.SourceCause.TheVariants.{Unexpected, NotProto3}
-use Rattle.pb_tokens.specs.Readers.Forms.{Outcome, Reader, answer, to_end}
-use Rattle.pb_tokens.proofs.ReaderLaws.{bind_ok}
-use Rattle.pb_tokens.proofs.Parts.{ok_parts}
-use Rattle.pb_tokens.proofs.ToEnd.{always}
-use Rattle.pb_tokens.specs.declared.grammar.Grammar.{Grammar}
+use Rattle.pb_source_tokens.specs.Symbols.{Symbol}
+use Rattle.pb_source_tokens.specs.Language.{Rules, all_rules, reported, Begins}
+use Rattle.pb_source_tokens.specs.declared.rule.Rule.{Rule}
+use Rattle.pb_source_tokens.specs.declared.fault.SourceCause.{SourceCause}
+use Rattle.pb_source_tokens.specs.declared.fault.SourceCause.TheVariants.{Unexpected, NotProto3}
+use Rattle.pb_source_tokens.specs.Readers.Forms.{Outcome, Reader, answer, to_end}
+use Rattle.pb_source_tokens.proofs.ReaderLaws.{bind_ok}
+use Rattle.pb_source_tokens.proofs.Parts.{ok_parts}
+use Rattle.pb_source_tokens.proofs.ToEnd.{always}
+use Rattle.pb_source_tokens.specs.declared.grammar.Grammar.{Grammar}
 use Rattle.pb_source.specs.Meaning.{FileStatement}
 use Rattle.pb_source.specs.Grammar.{file}
 use Rattle.pb_source.specs.SyntaxFault.{Fault, SyntaxFaultIn}

@@ -8,20 +8,20 @@ use Rattle.pb_declarations.specs.Decls.{DeclaredFile}
 use Rattle.pb_declarations.specs.One.{ExactlyOne}
 use Rattle.pb_source.specs.declared.reading.Reading.{Reading}
 use Rattle.pb_source.specs.declared.reading.Reading.TheVariants as reading
-use Rattle.pb_tokens.specs.declared.fault.SourceCause.{SourceCause}
-use Rattle.pb_tokens.specs.declared.fault.SourceCause.TheVariants.{SourceTooLarge, BadUtf8}
-use Rattle.pb_tokens.specs.declared.fault.SourceFault.{SourceFault}
-use Rattle.pb_tokens.specs.Fault.{fault}
-use Rattle.pb_tokens.specs.Tokens.{PlacedToken, AreTokens, LexFault}
-use Rattle.pb_tokens.specs.Symbols.{PlacedSymbol, AreSymbols}
-use Rattle.pb_tokens.specs.SymbolView.{HasSymbols}
-use Rattle.pb_tokens.proofs.OneOrFault.{same_told}
-use Rattle.pb_tokens.specs.Language.{all_rules}
-use Rattle.pb_tokens.proofs.OneLexing.{one_fault, not_both}
-use Rattle.pb_tokens.proofs.OneReading.{one_source}
-use Rattle.pb_tokens.proofs.SomeLexing.{tokens_or_fault}
-use Rattle.pb_tokens.proofs.SomeReading.{some_symbols}
-use Rattle.pb_tokens.proofs.SymbolLemmas.{tokens_meant}
+use Rattle.pb_source_tokens.specs.declared.fault.SourceCause.{SourceCause}
+use Rattle.pb_source_tokens.specs.declared.fault.SourceCause.TheVariants.{SourceTooLarge, BadUtf8}
+use Rattle.pb_source_tokens.specs.declared.fault.SourceFault.{SourceFault}
+use Rattle.pb_source_tokens.specs.Fault.{fault}
+use Rattle.pb_source_tokens.specs.Tokens.{PlacedToken, AreTokens, LexFault}
+use Rattle.pb_source_tokens.specs.Symbols.{PlacedSymbol, AreSymbols}
+use Rattle.pb_source_tokens.specs.SymbolView.{HasSymbols}
+use Rattle.pb_source_tokens.proofs.OneOrFault.{same_told}
+use Rattle.pb_source_tokens.specs.Language.{all_rules}
+use Rattle.pb_source_tokens.proofs.OneLexing.{one_fault, not_both}
+use Rattle.pb_source_tokens.proofs.OneReading.{one_source}
+use Rattle.pb_source_tokens.proofs.SomeLexing.{tokens_or_fault}
+use Rattle.pb_source_tokens.proofs.SomeReading.{some_symbols}
+use Rattle.pb_source_tokens.proofs.SymbolLemmas.{tokens_meant}
 use Rattle.pb_source.specs.Meaning.{FileStatement, file_of}
 use Rattle.pb_source.specs.Grammar.{file}
 use Rattle.pb_source.specs.SyntaxFault.{SyntaxFaultIn}

@@ -3,16 +3,16 @@ use Rattle.std.proofs.Common.{◌≡◌, ℕ, List, [], ◌∷◌, Bool, true, f
 use Rattle.std.specs.Str.{bytes_eq}
 use Rattle.std.proofs.lemmas.Bool.{false≢true}
 use Rattle.std.proofs.lemmas.Slice.Eq.{bytes_eq-Decides}
-use Rattle.pb_tokens.specs.declared.grammar.Grammar.{Grammar}
-use Rattle.pb_tokens.specs.Symbols.{Symbol, word, number, text, sign}
-use Rattle.pb_tokens.specs.Language.{Language, Rules}
-use Rattle.pb_tokens.specs.Phrases.{keyword, mark, BeginsNot, option}
-use Rattle.pb_tokens.specs.Readers.Forms.{first_passes}
-use Rattle.pb_tokens.proofs.ReaderLaws.{Reads}
-use Rattle.pb_tokens.proofs.Compose.{never, Mapped, reads_mapped, reads_both, reads_behind, said_so}
-use Rattle.pb_tokens.proofs.SymbolTests.{reads_keyword}
-use Rattle.pb_tokens.proofs.KindLemmas.{first_kind, ByKind, Offers, kinds_fail, kinds_filled, reads_kinds}
-use Rattle.pb_tokens.proofs.NameLaws.{reads_name}
+use Rattle.pb_source_tokens.specs.declared.grammar.Grammar.{Grammar}
+use Rattle.pb_source_tokens.specs.Symbols.{Symbol, word, number, text, sign}
+use Rattle.pb_source_tokens.specs.Language.{Language, Rules}
+use Rattle.pb_source_tokens.specs.Phrases.{keyword, mark, BeginsNot, option}
+use Rattle.pb_source_tokens.specs.Readers.Forms.{first_passes}
+use Rattle.pb_source_tokens.proofs.ReaderLaws.{Reads}
+use Rattle.pb_source_tokens.proofs.Compose.{never, Mapped, reads_mapped, reads_both, reads_behind, said_so}
+use Rattle.pb_source_tokens.proofs.SymbolTests.{reads_keyword}
+use Rattle.pb_source_tokens.proofs.KindLemmas.{first_kind, ByKind, Offers, kinds_fail, kinds_filled, reads_kinds}
+use Rattle.pb_source_tokens.proofs.NameLaws.{reads_name}
 use Rattle.pb_source.specs.declared.kind.Label.TheVariants.{Unlabelled}
 use Rattle.pb_source.specs.declared.kind.OneofKind.{OneofKind}
 use Rattle.pb_source.specs.declared.kind.OneofKind.TheVariants as kind

@@ -2,16 +2,16 @@
 use Rattle.std.proofs.Common.{◌≡◌, ℕ, zero, suc, ◌^◌, ◌-◌, ◌<◌, ◌≤◌, List, [], ◌∷◌, length, get_or, refl, ap, sym, ◌∙◌, subst, arith, ◌⊎◌, inl, inr, IsUtf8}
 use Rattle.pb_declarations.specs.Decls.{DeclaredFile}
 use Rattle.pb_source.specs.declared.reading.Reading.{Reading}
-use Rattle.pb_tokens.specs.declared.fault.SourceCause.{SourceCause}
-use Rattle.pb_tokens.specs.declared.fault.SourceFault.{SourceFault}
-use Rattle.pb_tokens.specs.declared.refusal.Refusal.{Refusal}
-use Rattle.pb_tokens.specs.declared.refusal.Refusal.TheVariants as refusal
-use Rattle.pb_tokens.specs.declared.symbol.Placed.{Placed}
-use Rattle.pb_tokens.specs.Fault.{fault, out_of_memory}
-use Rattle.pb_tokens.specs.Tokens.{LexFault}
-use Rattle.pb_tokens.specs.SymbolView.{symbols_of, HasSymbols}
-use Rattle.pb_tokens.specs.Language.{all_rules}
-use Rattle.pb_tokens.specs.Readers.Given.{symbols_from, Fails}
+use Rattle.pb_source_tokens.specs.declared.fault.SourceCause.{SourceCause}
+use Rattle.pb_source_tokens.specs.declared.fault.SourceFault.{SourceFault}
+use Rattle.pb_source_tokens.specs.declared.refusal.Refusal.{Refusal}
+use Rattle.pb_source_tokens.specs.declared.refusal.Refusal.TheVariants as refusal
+use Rattle.pb_source_tokens.specs.declared.symbol.Placed.{Placed}
+use Rattle.pb_source_tokens.specs.Fault.{fault, out_of_memory}
+use Rattle.pb_source_tokens.specs.Tokens.{LexFault}
+use Rattle.pb_source_tokens.specs.SymbolView.{symbols_of, HasSymbols}
+use Rattle.pb_source_tokens.specs.Language.{all_rules}
+use Rattle.pb_source_tokens.specs.Readers.Given.{symbols_from, Fails}
 use Rattle.pb_source.specs.Meaning.{file_of}
 use Rattle.pb_source.specs.Source.{place_in, IsSourceIn, HasFaultIn}
 use Rattle.pb_source.specs.Readers.Lines.{file_reader}

@@ -1,17 +1,17 @@
 -- The readers of the line of `reserved` read it.
 use Rattle.std.proofs.Common.{◌≡◌, ℕ, ℤ, List, true, false, codes, refl, ◌⊎◌, inl, inr}
 use Rattle.std.proofs.lemmas.Bool.{false≢true}
-use Rattle.pb_tokens.specs.Symbols.{Symbol, word, number, text, sign}
-use Rattle.pb_tokens.specs.Language.{Language, ◌or◌, Rules}
-use Rattle.pb_tokens.specs.Phrases.{keyword, mark, range, utf8_text}
-use Rattle.pb_tokens.proofs.RangeLaws.{reads_utf8, utf8_first, begins_bound, is_to}
-use Rattle.pb_tokens.specs.Readers.Forms.{Reader, first_passes, is_keyword}
-use Rattle.pb_tokens.specs.Readers.Phrases.{is_text}
-use Rattle.pb_tokens.proofs.ReaderLaws.{Reads}
-use Rattle.pb_tokens.proofs.Compose.{never, reads_mapped, reads_behind, reads_before_so, reads_either, said_so}
-use Rattle.pb_tokens.proofs.Heads.{headed_one, headed_then, headed_separated, Apart, fails_front, filled_front}
-use Rattle.pb_tokens.proofs.SymbolTests.{reads_mark, reads_keyword}
-use Rattle.pb_tokens.proofs.OptionLaws.{reads_listed, stops_listed}
+use Rattle.pb_source_tokens.specs.Symbols.{Symbol, word, number, text, sign}
+use Rattle.pb_source_tokens.specs.Language.{Language, ◌or◌, Rules}
+use Rattle.pb_source_tokens.specs.Phrases.{keyword, mark, range, utf8_text}
+use Rattle.pb_source_tokens.proofs.RangeLaws.{reads_utf8, utf8_first, begins_bound, is_to}
+use Rattle.pb_source_tokens.specs.Readers.Forms.{Reader, first_passes, is_keyword}
+use Rattle.pb_source_tokens.specs.Readers.Phrases.{is_text}
+use Rattle.pb_source_tokens.proofs.ReaderLaws.{Reads}
+use Rattle.pb_source_tokens.proofs.Compose.{never, reads_mapped, reads_behind, reads_before_so, reads_either, said_so}
+use Rattle.pb_source_tokens.proofs.Heads.{headed_one, headed_then, headed_separated, Apart, fails_front, filled_front}
+use Rattle.pb_source_tokens.proofs.SymbolTests.{reads_mark, reads_keyword}
+use Rattle.pb_source_tokens.proofs.OptionLaws.{reads_listed, stops_listed}
 use Rattle.pb_source.specs.Grammar.{ranges_line, names_line}
 use Rattle.pb_source.specs.Readers.Lines.{reserved_reader}
 

@@ -3,13 +3,13 @@ use Rattle.std.proofs.Common.{◌≡◌, ◌<◌, ◌-◌, ℕ, zero, suc, List,
 use Rattle.std.specs.Prelude.{if◌then◌else◌}
 use Rattle.std.specs.Str.{bytes_eq}
 use Rattle.std.proofs.lemmas.Bool.{false≢true}
-use Rattle.pb_tokens.specs.declared.grammar.Grammar.{Grammar}
-use Rattle.pb_tokens.specs.declared.rule.Rule.TheVariants.{NestsBounded as nests_bounded}
-use Rattle.pb_tokens.specs.Symbols.{Symbol, word, number, text, sign}
-use Rattle.pb_tokens.specs.Language.{all_rules}
-use Rattle.pb_tokens.specs.Readers.Forms.{Reader, first_passes, if_some, on_kind, mapped, is_keyword}
-use Rattle.pb_tokens.specs.Readers.Phrases.{type_reader, fullname_reader, name_reader}
-use Rattle.pb_tokens.proofs.SymbolTests.{is_the_word}
+use Rattle.pb_source_tokens.specs.declared.grammar.Grammar.{Grammar}
+use Rattle.pb_source_tokens.specs.declared.rule.Rule.TheVariants.{NestsBounded as nests_bounded}
+use Rattle.pb_source_tokens.specs.Symbols.{Symbol, word, number, text, sign}
+use Rattle.pb_source_tokens.specs.Language.{all_rules}
+use Rattle.pb_source_tokens.specs.Readers.Forms.{Reader, first_passes, if_some, on_kind, mapped, is_keyword}
+use Rattle.pb_source_tokens.specs.Readers.Phrases.{type_reader, fullname_reader, name_reader}
+use Rattle.pb_source_tokens.proofs.SymbolTests.{is_the_word}
 use Rattle.pb_source.specs.declared.kind.MessageKind.{MessageKind}
 use Rattle.pb_source.specs.declared.kind.MessageKind.TheVariants as kind
 use Rattle.pb_source.specs.Meaning.{MessageStatement}

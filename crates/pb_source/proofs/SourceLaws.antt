@@ -5,19 +5,19 @@ use Rattle.std.proofs.lemmas.List.{length-map, take-append-drop}
 use Rattle.std.specs.Str.Lossy.{utf8_valid_len}
 use Rattle.pb_declarations.specs.Decls.{DeclaredFile}
 use Rattle.pb_source.specs.declared.reading.Reading.{Reading}
-use Rattle.pb_tokens.specs.declared.fault.SourceCause.{SourceCause}
-use Rattle.pb_tokens.specs.declared.fault.SourceCause.TheVariants.{SourceTooLarge, BadUtf8, NotProto3}
-use Rattle.pb_tokens.specs.declared.rule.Rule.{Rule}
-use Rattle.pb_tokens.specs.declared.symbol.Placed.{Placed}
-use Rattle.pb_tokens.specs.Tokens.{LexFault}
-use Rattle.pb_tokens.specs.Symbols.{Symbol, PlacedSymbol}
-use Rattle.pb_tokens.specs.SymbolView.{symbol_of, placed_of, symbols_of, HasSymbols}
-use Rattle.pb_tokens.specs.Language.{all_rules, Begins}
-use Rattle.pb_tokens.specs.Readers.Forms.{Outcome}
-use Rattle.pb_tokens.specs.Readers.Given.{symbols_from}
-use Rattle.pb_tokens.proofs.ToEnd.{always}
-use Rattle.pb_tokens.proofs.OneLexing.{one_fault, not_both}
-use Rattle.pb_tokens.proofs.OneReading.{one_source, no_symbols}
+use Rattle.pb_source_tokens.specs.declared.fault.SourceCause.{SourceCause}
+use Rattle.pb_source_tokens.specs.declared.fault.SourceCause.TheVariants.{SourceTooLarge, BadUtf8, NotProto3}
+use Rattle.pb_source_tokens.specs.declared.rule.Rule.{Rule}
+use Rattle.pb_source_tokens.specs.declared.symbol.Placed.{Placed}
+use Rattle.pb_source_tokens.specs.Tokens.{LexFault}
+use Rattle.pb_source_tokens.specs.Symbols.{Symbol, PlacedSymbol}
+use Rattle.pb_source_tokens.specs.SymbolView.{symbol_of, placed_of, symbols_of, HasSymbols}
+use Rattle.pb_source_tokens.specs.Language.{all_rules, Begins}
+use Rattle.pb_source_tokens.specs.Readers.Forms.{Outcome}
+use Rattle.pb_source_tokens.specs.Readers.Given.{symbols_from}
+use Rattle.pb_source_tokens.proofs.ToEnd.{always}
+use Rattle.pb_source_tokens.proofs.OneLexing.{one_fault, not_both}
+use Rattle.pb_source_tokens.proofs.OneReading.{one_source, no_symbols}
 use Rattle.pb_source.specs.Meaning.{file_of}
 use Rattle.pb_source.specs.Grammar.{file}
 use Rattle.pb_source.specs.SyntaxFault.{Fault, SyntaxFaultIn}

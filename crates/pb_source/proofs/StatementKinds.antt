@@ -3,16 +3,16 @@ use Rattle.std.proofs.Common.{◌≡◌, ℕ, ◌≤◌, List, [], ◌∷◌, �
 use Rattle.std.specs.Prelude.{if◌then◌else◌}
 use Rattle.std.specs.Str.{bytes_eq}
 use Rattle.std.proofs.lemmas.Bool.{false≢true, or_parts}
-use Rattle.pb_tokens.specs.Symbols.{Symbol, sign}
-use Rattle.pb_tokens.specs.Language.{Language, ◌▸◌, one, Rules}
-use Rattle.pb_tokens.specs.Phrases.{mark, Until}
-use Rattle.pb_tokens.specs.Readers.Forms.{Reader, first_passes, mark_reader}
-use Rattle.pb_tokens.proofs.ReaderLaws.{Reads}
-use Rattle.pb_tokens.proofs.Compose.{never, reads_behind}
-use Rattle.pb_tokens.proofs.Heads.{headed_one}
-use Rattle.pb_tokens.proofs.SymbolTests.{reads_mark}
-use Rattle.pb_tokens.proofs.Loops.{reads_until}
-use Rattle.pb_tokens.proofs.KindLemmas.{first_kind}
+use Rattle.pb_source_tokens.specs.Symbols.{Symbol, sign}
+use Rattle.pb_source_tokens.specs.Language.{Language, ◌▸◌, one, Rules}
+use Rattle.pb_source_tokens.specs.Phrases.{mark, Until}
+use Rattle.pb_source_tokens.specs.Readers.Forms.{Reader, first_passes, mark_reader}
+use Rattle.pb_source_tokens.proofs.ReaderLaws.{Reads}
+use Rattle.pb_source_tokens.proofs.Compose.{never, reads_behind}
+use Rattle.pb_source_tokens.proofs.Heads.{headed_one}
+use Rattle.pb_source_tokens.proofs.SymbolTests.{reads_mark}
+use Rattle.pb_source_tokens.proofs.Loops.{reads_until}
+use Rattle.pb_source_tokens.proofs.KindLemmas.{first_kind}
 use Rattle.pb_source.specs.Readers.Lines.{is_closing, braced, kind_in}
 
 abbrev pub in_table : {K : Type 0} → List (List ℕ × Option K) → List ℕ → Bool

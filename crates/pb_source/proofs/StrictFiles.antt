@@ -1,15 +1,15 @@
 -- A source of the strict grammar is one of all of proto3, with the same declarations.
 use Rattle.std.proofs.Common.{◌≡◌, ◌∙◌, refl, ℕ, zero, suc, List, [], ◌∷◌, codes, Option, Some, None, inl, inr}
 use Rattle.pb_declarations.specs.Decls.{DeclaredField, DeclaredEnum, DeclaredMessage, DeclaredMethod, DeclaredService, DeclaredFile}
-use Rattle.pb_tokens.specs.declared.grammar.Grammar.{Grammar}
-use Rattle.pb_tokens.specs.declared.grammar.Grammar.TheVariants.{Strict, Lenient}
-use Rattle.pb_tokens.specs.declared.grammar.Syntax.TheVariants.{Proto3}
+use Rattle.pb_source_tokens.specs.declared.grammar.Grammar.{Grammar}
+use Rattle.pb_source_tokens.specs.declared.grammar.Grammar.TheVariants.{Strict, Lenient}
+use Rattle.pb_source_tokens.specs.declared.grammar.Syntax.TheVariants.{Proto3}
 use Rattle.pb_source.specs.declared.reading.Reading.{Reading}
 use Rattle.pb_source.specs.declared.reading.Reading.TheVariants as reading
-use Rattle.pb_tokens.specs.Symbols.{Symbol}
-use Rattle.pb_tokens.specs.Language.{Language, all_rules, nothing}
-use Rattle.pb_tokens.specs.Phrases.{mark}
-use Rattle.pb_tokens.proofs.StrictLines.{Widens, until_wider, option_wider, setting_wider, field_end_wider, value_end_wider}
+use Rattle.pb_source_tokens.specs.Symbols.{Symbol}
+use Rattle.pb_source_tokens.specs.Language.{Language, all_rules, nothing}
+use Rattle.pb_source_tokens.specs.Phrases.{mark}
+use Rattle.pb_source_tokens.proofs.StrictLines.{Widens, until_wider, option_wider, setting_wider, field_end_wider, value_end_wider}
 use Rattle.pb_source.specs.declared.kind.Label.{Label}
 use Rattle.pb_source.specs.declared.kind.Label.TheVariants.{Unlabelled, Repeated, Optional}
 use Rattle.pb_source.specs.Meaning.{MapDecl, MessageStatement, EnumStatement, FileStatement, file_of}

@@ -1,21 +1,21 @@
 -- The grammars of sources, line by line as the language specifications have them, and what each line means (Protocol Buffers Language
--- Specification (Proto3), and (Proto2) for what proto2 alone has). Lines that statements are made of are in `Phrases` of `pb_tokens`.
+-- Specification (Proto3), and (Proto2) for what proto2 alone has). Lines that statements are made of are in `Phrases` of `pb_source_tokens`.
 use Prim.Native.String.{String}
 use Rattle.std.specs.Prelude.{◌≡◌, ℕ, zero, suc, ◌≤◌, ℤ, List, [], ◌∷◌, length, codes}
 use Rattle.std.specs.Prelude.{Bool, true, false, not, if◌then◌else◌, Option, Some, None, ◌⊎◌}
 use Rattle.std.specs.Str.{bytes_eq}
 use Rattle.std.specs.Char.{is_ascii_uppercase}
 use Rattle.pb_declarations.specs.Decls.{DeclaredField, DeclaredEnum, DeclaredMessage, DeclaredMethod, DeclaredService, DeclaredFile}
-use Rattle.pb_tokens.specs.Phrases.{keyword, mark, name, Until, Listed, BeginsNot, fullname, counted, signed, option, setting, field_end, group_end, value_end}
-use Rattle.pb_tokens.specs.Phrases.{key_type, typename, typed, message_range, enum_range, utf8_text}
-use Rattle.pb_tokens.specs.declared.rule.Rule.TheVariants.{SyntaxFirst as syntax_first, NestsBounded as nests_bounded}
-use Rattle.pb_tokens.specs.declared.grammar.Grammar.{Grammar}
-use Rattle.pb_tokens.specs.declared.grammar.Grammar.TheVariants.{Strict, Lenient}
-use Rattle.pb_tokens.specs.declared.grammar.Syntax.{Syntax}
-use Rattle.pb_tokens.specs.declared.grammar.Syntax.TheVariants.{Proto2, Proto3}
-use Rattle.pb_tokens.specs.Symbols.{Symbol, word, text}
-use Rattle.pb_tokens.specs.Language.{Language, ◌▸◌, ◌or◌, one, nothing, Rules, all_rules}
-use Rattle.pb_tokens.specs.Said.{TypeSaid, joined}
+use Rattle.pb_source_tokens.specs.Phrases.{keyword, mark, name, Until, Listed, BeginsNot, fullname, counted, signed, option, setting, field_end, group_end, value_end}
+use Rattle.pb_source_tokens.specs.Phrases.{key_type, typename, typed, message_range, enum_range, utf8_text}
+use Rattle.pb_source_tokens.specs.declared.rule.Rule.TheVariants.{SyntaxFirst as syntax_first, NestsBounded as nests_bounded}
+use Rattle.pb_source_tokens.specs.declared.grammar.Grammar.{Grammar}
+use Rattle.pb_source_tokens.specs.declared.grammar.Grammar.TheVariants.{Strict, Lenient}
+use Rattle.pb_source_tokens.specs.declared.grammar.Syntax.{Syntax}
+use Rattle.pb_source_tokens.specs.declared.grammar.Syntax.TheVariants.{Proto2, Proto3}
+use Rattle.pb_source_tokens.specs.Symbols.{Symbol, word, text}
+use Rattle.pb_source_tokens.specs.Language.{Language, ◌▸◌, ◌or◌, one, nothing, Rules, all_rules}
+use Rattle.pb_source_tokens.specs.Said.{TypeSaid, joined}
 use Rattle.pb_source.specs.declared.reading.Reading.{Reading}
 use Rattle.pb_source.specs.declared.reading.Reading.TheVariants as reading
 use Rattle.pb_source.specs.Syntaxes.{is_lenient, is_proto2, optional_label, grouping}

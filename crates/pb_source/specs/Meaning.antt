@@ -6,8 +6,8 @@ use Rattle.pb_declarations.specs.Decls.{DeclaredField, DeclaredEnum, DeclaredMes
 use Rattle.pb_declarations.specs.Decls.{no_messages, more_messages, messages_of, DeclaredService, DeclaredFile}
 use Rattle.pb_declarations.specs.declared.decl.TypeCode.{TypeCode}
 use Rattle.pb_declarations.specs.declared.decl.TypeCode.TheVariants.{Message as message_code, Group as group_code}
-use Rattle.pb_tokens.specs.Said.{TypeSaid, code_said, name_said, a_scalar}
-use Rattle.pb_tokens.specs.declared.grammar.Grammar.{Grammar}
+use Rattle.pb_source_tokens.specs.Said.{TypeSaid, code_said, name_said, a_scalar}
+use Rattle.pb_source_tokens.specs.declared.grammar.Grammar.{Grammar}
 use Rattle.pb_source.specs.Syntaxes.{is_proto2}
 use Rattle.pb_source.specs.declared.kind.Label.{Label}
 use Rattle.pb_source.specs.declared.kind.Label.TheVariants.{Unlabelled, Repeated, Optional}

@@ -2,12 +2,12 @@
 use Rattle.std.specs.Prelude.{ℕ, zero, suc, ◌^◌, ◌-◌, ◌<◌, ◌≤◌, List, [], ◌∷◌, length, map, IsUtf8}
 use Rattle.std.specs.Str.Lossy.{utf8_valid_len}
 use Rattle.pb_declarations.specs.Decls.{DeclaredFile}
-use Rattle.pb_tokens.specs.Tokens.{PlacedToken, AreTokens, LexFault}
+use Rattle.pb_source_tokens.specs.Tokens.{PlacedToken, AreTokens, LexFault}
 use Rattle.pb_source.specs.declared.reading.Reading.{Reading}
 use Rattle.pb_source.specs.declared.reading.Reading.TheVariants as reading
-use Rattle.pb_tokens.specs.Symbols.{Symbol, PlacedSymbol, AreSymbols}
-use Rattle.pb_tokens.specs.declared.fault.SourceCause.{SourceCause}
-use Rattle.pb_tokens.specs.declared.fault.SourceCause.TheVariants.{SourceTooLarge, BadUtf8}
+use Rattle.pb_source_tokens.specs.Symbols.{Symbol, PlacedSymbol, AreSymbols}
+use Rattle.pb_source_tokens.specs.declared.fault.SourceCause.{SourceCause}
+use Rattle.pb_source_tokens.specs.declared.fault.SourceCause.TheVariants.{SourceTooLarge, BadUtf8}
 use Rattle.pb_source.specs.Grammar.{FileSyntaxIn}
 use Rattle.pb_source.specs.SyntaxFault.{SyntaxFaultIn}
 

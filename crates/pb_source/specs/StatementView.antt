@@ -1,7 +1,7 @@
 -- Statements and their parts as the code has them.
 use Rattle.std.specs.Prelude.{map, option_map, string_bytes}
 use Rattle.pb_declarations.specs.View.{field_view, message_view, enum_view, service_view}
-use Rattle.pb_tokens.specs.PhraseView.{type_view}
+use Rattle.pb_source_tokens.specs.PhraseView.{type_view}
 use Rattle.pb_source.specs.Meaning.{MapDecl, Member, MessageStatement, EnumStatement, FileStatement}
 use Rattle.pb_source.specs.declared.parsing.statement.MapSaid.{MapSaid}
 use Rattle.pb_source.specs.declared.parsing.statement.MemberSaid.{MemberSaid}

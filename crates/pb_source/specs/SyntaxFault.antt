@@ -2,11 +2,11 @@
 use Rattle.std.specs.Prelude.{◌≡◌, ◌≢◌, ℕ, suc, ◌<◌, List, [], length, take}
 use Rattle.pb_source.specs.declared.reading.Reading.{Reading}
 use Rattle.pb_source.specs.declared.reading.Reading.TheVariants as reading
-use Rattle.pb_tokens.specs.Symbols.{Symbol}
-use Rattle.pb_tokens.specs.Language.{Language, Rules, all_rules, without, cause_of, Begins}
-use Rattle.pb_tokens.specs.declared.rule.Rule.{Rule}
-use Rattle.pb_tokens.specs.declared.fault.SourceCause.{SourceCause}
-use Rattle.pb_tokens.specs.declared.fault.SourceCause.TheVariants.{Unexpected, NotProto3}
+use Rattle.pb_source_tokens.specs.Symbols.{Symbol}
+use Rattle.pb_source_tokens.specs.Language.{Language, Rules, all_rules, without, cause_of, Begins}
+use Rattle.pb_source_tokens.specs.declared.rule.Rule.{Rule}
+use Rattle.pb_source_tokens.specs.declared.fault.SourceCause.{SourceCause}
+use Rattle.pb_source_tokens.specs.declared.fault.SourceCause.TheVariants.{Unexpected, NotProto3}
 use Rattle.pb_source.specs.Grammar.{file}
 
 -- The symbols so far begin no file. The cause is the rule without which they would, and where there is none, the last symbol was not expected.

@@ -3,10 +3,10 @@
 ghost use Rattle.std.specs.Prelude.{ℕ, List};
 ghost use Rattle.pb_declarations.specs.Decls.{DeclaredFile};
 ghost use Rattle.pb_declarations.specs.One.{ExactlyOne};
-ghost use Rattle.pb_tokens.specs.declared.fault.SourceFault.{SourceFault as FaultValue};
+ghost use Rattle.pb_source_tokens.specs.declared.fault.SourceFault.{SourceFault as FaultValue};
 ghost use Rattle.pb_source.specs.Source.{IsSource, HasFault, IsLenientSource, HasLenientFault};
 
-pub use pb_tokens::laws::one_lexing;
+pub use pb_source_tokens::laws::one_lexing;
 
 /// Bytes under a name are a source of one file, or have one fault, with its byte and its cause: never both, never two, always one.
 pub fn one_source()

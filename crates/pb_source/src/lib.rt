@@ -1,5 +1,5 @@
 //! Sources of proto2 and proto3: which file a source declares, read strictly (`parse`, proto3 alone) or leniently (`parse_lenient`). Its tokens and the
-//! readers of single lines are in `pb_tokens`.
+//! readers of single lines are in `pb_source_tokens`.
 //!
 //! ```rust
 //! use pb_source::parse;
@@ -35,5 +35,5 @@ mod parsing;
 pub mod reading;
 mod source;
 
-pub use pb_tokens::{SourceCause, SourceFault, Token, TokenKind, lex};
+pub use pb_source_tokens::{SourceCause, SourceFault, Token, TokenKind, lex};
 pub use source::{parse, parse_lenient};

@@ -3,10 +3,10 @@
 ghost use Rattle.std.specs.Prelude.{◌≡◌, ◌^◌, ◌-◌, ◌≤◌, ◌⊎◌, ℕ, List, length, IfOk, IfErr, MatchResult, IsUtf8};
 ghost use Rattle.pb_declarations.specs.Decls.{DeclaredFile};
 ghost use Rattle.pb_declarations.specs.View.{file_view};
-ghost use Rattle.pb_tokens.specs.declared.fault.SourceCause.{SourceCause};
-ghost use Rattle.pb_tokens.specs.Fault.{fault, out_of_memory};
-ghost use Rattle.pb_tokens.specs.Language.{reported};
-ghost use Rattle.pb_tokens.specs.SymbolView.{symbols_of};
+ghost use Rattle.pb_source_tokens.specs.declared.fault.SourceCause.{SourceCause};
+ghost use Rattle.pb_source_tokens.specs.Fault.{fault, out_of_memory};
+ghost use Rattle.pb_source_tokens.specs.Language.{reported};
+ghost use Rattle.pb_source_tokens.specs.SymbolView.{symbols_of};
 ghost use Rattle.pb_source.specs.declared.reading.Reading.{Reading};
 ghost use Rattle.pb_source.specs.Source.{place_in, IsSourceIn, HasFaultIn, IsSource, HasFault, IsLenientSource, HasLenientFault};
 ghost use Rattle.pb_source.specs.Readers.Reported.{fault_at};
@@ -14,11 +14,11 @@ ghost use Rattle.pb_source.specs.Readers.Reported.{fault_at};
 use crate::parsing::file;
 use crate::reading::Reading;
 use pb_declarations::FileDecl;
-use pb_tokens::refusal::Refusal;
-use pb_tokens::rule::Rule;
-use pb_tokens::symbol::Placed;
-use pb_tokens::symbols::source_symbols;
-use pb_tokens::{SourceCause, SourceFault};
+use pb_source_tokens::refusal::Refusal;
+use pb_source_tokens::rule::Rule;
+use pb_source_tokens::symbol::Placed;
+use pb_source_tokens::symbols::source_symbols;
+use pb_source_tokens::{SourceCause, SourceFault};
 use std::alloc::Global;
 
 /// The greatest number of bytes that a source may have.

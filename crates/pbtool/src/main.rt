@@ -1,8 +1,8 @@
 //! The program: does the command that its words name, over the files and outputs of its process.
 #![tactic(auto)]
 
-use pb_cli::{Cleanup, HostFiles, Refusal, run_then};
 use pb_wire::{Output, WriteOutput, write_all};
+use pbtool_cli::{Cleanup, HostFiles, Refusal, run_then};
 use std::io::ErrorKind;
 use std::process::ExitCode;
 use std::{env, io};

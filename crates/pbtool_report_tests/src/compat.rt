@@ -22,9 +22,9 @@ message Node { Node next = 1; map<string, Item> items = 2; oneof o { int32 x = 3
 
 /// Words, and after bars the status and each line that is printed, or after a mark reported.
 const ROWS: &str = r#"
-compat old new|1|shop.Gone breaks missing|shop.Order.price 4 breaks double was int64|shop.Order.note 5 loses string|shop.Order.count 6 converts int64 was int32|shop.Item.name 2 renames title was name|shop.Node.x 3 breaks oneof o int32 was oneof o int32|shop.Node.y 4 breaks oneof o int32 was oneof o int32|shop.Node.size 5 converts repeated int32 was shop.Size|shop.Node.z 6 breaks oneof o int32 was int32|shop.Item.n 1 breaks string was int32
-compat old new shop.Order|1|shop.Order.price 4 breaks double was int64|shop.Order.note 5 loses string|shop.Order.count 6 converts int64 was int32|shop.Item.name 2 renames title was name|shop.Item.n 1 breaks string was int32
-compat old new shop.Basket|1|shop.Order.price 4 breaks double was int64|shop.Order.note 5 loses string|shop.Order.count 6 converts int64 was int32|shop.Item.name 2 renames title was name|shop.Item.n 1 breaks string was int32
+compat old new|1|shop.Gone breaks missing|shop.Order.price 4 breaks double was int64|shop.Order.note 5 loses string|shop.Order.count 6 converts int64 was int32|shop.Item.name 2 renames title was name|shop.Node.x 3 breaks oneof o int32 was oneof o int32|shop.Node.y 4 breaks oneof o int32 was oneof o int32|shop.Node.size 5 converts repeated int32 was shop.Size|shop.Node.z 6 breaks oneof o int32 was int32|shop.Item.n 1 breaks string was int32 (shop.Order.same: shop.Item -> shop.Thing)
+compat old new shop.Order|1|shop.Order.price 4 breaks double was int64|shop.Order.note 5 loses string|shop.Order.count 6 converts int64 was int32|shop.Item.name 2 renames title was name|shop.Item.n 1 breaks string was int32 (shop.Order.same: shop.Item -> shop.Thing)
+compat old new shop.Basket|1|shop.Order.price 4 breaks double was int64|shop.Order.note 5 loses string|shop.Order.count 6 converts int64 was int32|shop.Item.name 2 renames title was name|shop.Item.n 1 breaks string was int32 (shop.Order.same: shop.Item -> shop.Thing)
 compat old new shop.Item|0|shop.Item.name 2 renames title was name
 compat old old|0|ok
 compat new new|0|ok
@@ -33,7 +33,7 @@ compat empty new|0|ok
 compat empty empty|0|ok
 compat old empty shop.Item|1|!type shop.Item unknown
 compat --both old new shop.Item|0|backward shop.Item.name 2 renames title was name|forward shop.Item.title 2 renames name was title
-compat old new --both shop.Order|1|backward shop.Order.price 4 breaks double was int64|backward shop.Order.note 5 loses string|backward shop.Order.count 6 converts int64 was int32|backward shop.Item.name 2 renames title was name|backward shop.Item.n 1 breaks string was int32|forward shop.Order.price 4 breaks int64 was double|forward shop.Order.count 6 breaks int32 was int64|forward shop.Item.title 2 renames name was title|forward shop.Thing.n 1 breaks int32 was string
+compat old new --both shop.Order|1|backward shop.Order.price 4 breaks double was int64|backward shop.Order.note 5 loses string|backward shop.Order.count 6 converts int64 was int32|backward shop.Item.name 2 renames title was name|backward shop.Item.n 1 breaks string was int32 (shop.Order.same: shop.Item -> shop.Thing)|forward shop.Order.price 4 breaks int64 was double|forward shop.Order.count 6 breaks int32 was int64|forward shop.Item.title 2 renames name was title|forward shop.Thing.n 1 breaks int32 was string (shop.Order.same: shop.Thing -> shop.Item)
 compat --both old old|0|backward ok|forward ok
 compat --both empty new|1|backward ok|forward shop.Added breaks missing|forward shop.Item breaks missing|forward shop.Order breaks missing|forward shop.Basket breaks missing|forward shop.Thing breaks missing|forward shop.Node breaks missing
 compat --both --lenient old old shop.Order|0|backward ok|forward ok

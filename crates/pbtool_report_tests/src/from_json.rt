@@ -1,6 +1,6 @@
 //! Messages that are read from JSON. Canonical bytes are those of the encoding guide's rules.
 
-use pb_cli::MemFiles;
+use pbtool_cli::MemFiles;
 use pbtool_runs::{NONE, files_of, run_words};
 use std::alloc::Global;
 use std::test::Fail;

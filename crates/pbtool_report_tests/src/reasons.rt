@@ -1,7 +1,7 @@
 //! The reasons of the system for files that are refused, as the C library words them.
 
-use pb_cli::{Files, HostFiles, run};
 use pb_wire::{FailurePlan, MemOutput};
+use pbtool_cli::{Files, HostFiles, run};
 use std::alloc::Global;
 use std::io;
 use std::test::Fail;

@@ -1,7 +1,7 @@
 //! The command over files in memory, with devices that fail.
 
-use pb_cli::{MemFiles, run};
 use pb_wire::{FailurePlan, MemOutput};
+use pbtool_cli::{MemFiles, run};
 use std::alloc::Global;
 use std::test::Fail;
 

@@ -2,10 +2,6 @@
 //! rows of the command for the same bytes.
 
 use crate::raw::FLAT;
-use pb_cli::{
-    Cleanup, Command, FloatForm, FrameForm, Layout, Reading, Source, execute, execute_then,
-    run_then,
-};
 use pb_decode::decode;
 use pb_descr::{FileDecl, read_set};
 use pb_link::link;
@@ -14,6 +10,10 @@ use pb_listing::{
 };
 use pb_schema::Pool;
 use pb_wire::{FailurePlan, Limits, MemOutput};
+use pbtool_cli::{
+    Cleanup, Command, FloatForm, FrameForm, Layout, Reading, Source, execute, execute_then,
+    run_then,
+};
 use pbtool_runs::{NONE, SET_OF_M, files_of};
 use std::alloc::Global;
 use std::test::Fail;

@@ -1,7 +1,7 @@
 //! `compile` over sources in memory. What is written and reported is worked out by the rules of sources, of linking and of
 //! sets.
 
-use pb_cli::MemFiles;
+use pbtool_cli::MemFiles;
 use pbtool_runs::{Failures, NONE, Run, after, files_of, run_words};
 use std::alloc::Global;
 use std::test::Fail;

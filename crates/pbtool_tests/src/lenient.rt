@@ -1,7 +1,7 @@
 //! Sets of proto2 that are read leniently, and what a set declares. The set is what protoc writes of b.proto and a.proto, the message what protoc
 //! encodes by them; what is printed is worked out by the rules of messages, of lenient reading and of listings.
 
-use pb_cli::MemFiles;
+use pbtool_cli::MemFiles;
 use pbtool_runs::{Failures, NONE, Run, after, has_lines, run_separate};
 use std::alloc::Global;
 use std::test::Fail;

@@ -1,8 +1,8 @@
 //! The command over files in memory: worked rows, usage, and devices that fail. Expected values are those of the
 //! encoding guide's rules, worked out by hand.
 
-use pb_cli::{Files, HostFiles, MemFiles};
 use pb_wire::{FailurePlan, ReadFault, read_up_to};
+use pbtool_cli::{Files, HostFiles, MemFiles};
 use pbtool_runs::{Failures, NONE, after, run_over};
 use std::alloc::Global;
 use std::test::Fail;

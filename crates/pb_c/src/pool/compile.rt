@@ -4,7 +4,7 @@ ghost use Rattle.std.specs.Prelude.{◌≡◌, ◌≢◌, ◌↔◌, ◌⊎◌, 
 ghost use Rattle.std.specs.Bool.{Decides};
 ghost use Rattle.pb_declarations.specs.View.{file_view};
 ghost use Rattle.pb_schema.specs.Types.{Types};
-ghost use Rattle.pb_tokens.specs.Fault.{out_of_memory};
+ghost use Rattle.pb_source_tokens.specs.Fault.{out_of_memory};
 ghost use Rattle.pb_source.specs.Source.{HasFaultIn, IsSourceIn};
 ghost use Rattle.pb_source.specs.declared.reading.Reading.TheVariants.{Lenient, Strict};
 ghost use Rattle.pb_c.specs.Held.{HoldsNames, types_held};

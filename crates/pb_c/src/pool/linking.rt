@@ -3,8 +3,8 @@
 ghost use Rattle.std.specs.Prelude.{◌≡◌, ◌≢◌, ◌⊎◌, List, ℕ, map, IfOk};
 ghost use Rattle.pb_declarations.specs.View.{file_view};
 ghost use Rattle.pb_link.specs.Linking.{Links};
-ghost use Rattle.pb_rules.specs.Faults.{LinkFault};
-ghost use Rattle.pb_rules.specs.declared.cause.LinkCause.{LinkCause as CauseValue};
+ghost use Rattle.pb_link_rules.specs.Faults.{LinkFault};
+ghost use Rattle.pb_link_rules.specs.declared.cause.LinkCause.{LinkCause as CauseValue};
 ghost use Rattle.pb_schema.specs.Types.{Types};
 ghost use Rattle.pb_c.specs.Held.{AreNamesBy, HoldsNames, types_held};
 ghost use Rattle.pb_c.specs.PoolFault.{PoolFault, TellsRefusal};

@@ -1,9 +1,9 @@
 -- What ends where a reader is.
 use Rattle.std.specs.Prelude.{◌≡◌, ◌≢◌, ◌⊎◌, ℕ, List, [], drop, Option, Some, None, ◌<◌, Result, OnOk, vec_len}
-use Rattle.pb_building.specs.declared.tokens.step.Step.{Step}
-use Rattle.pb_building.specs.declared.tokens.step.Step.TheVariants as step
-use Rattle.pb_building.specs.Open.Parents.{Parent}
-use Rattle.pb_building.specs.Open.Openings.{innermost_group}
+use Rattle.pb_decode_parts.specs.declared.tokens.step.Step.{Step}
+use Rattle.pb_decode_parts.specs.declared.tokens.step.Step.TheVariants as step
+use Rattle.pb_decode_parts.specs.Open.Parents.{Parent}
+use Rattle.pb_decode_parts.specs.Open.Openings.{innermost_group}
 use Rattle.pb_decode.specs.Reader.{State, left_of, parents_view, state_view, here, Reads}
 use Rattle.pb_wire.specs.Record.{Record}
 use Rattle.pb_wire.specs.Fault.{Place, HasTag}
@@ -12,7 +12,7 @@ use Rattle.pb_schema.specs.declared.types.Kind.{Kind}
 use Rattle.pb_schema.specs.Types.{Types}
 use Rattle.pb_schema.specs.Rules.{IsPool}
 use Rattle.pb_decode.specs.declared.reader.state.State.{State as StateKept}
-use Rattle.pb_building.specs.declared.tokens.step.Step.TheVariants.{Elements}
+use Rattle.pb_decode_parts.specs.declared.tokens.step.Step.TheVariants.{Elements}
 
 -- with these parents of the part, and this many bytes before the known end, nothing ends before what comes next: at a tag no part below the top, and
 -- inside a packed list not the list

@@ -4,12 +4,12 @@ use Rattle.pb_wire.specs.Record.{Record}
 use Rattle.pb_wire.specs.Fault.{Place, HasLength}
 use Rattle.pb_schema.specs.Types.{Types}
 use Rattle.pb_schema.specs.Rules.{IsPool}
-use Rattle.pb_building.specs.declared.open.target.Target.{Target}
+use Rattle.pb_decode_parts.specs.declared.open.target.Target.{Target}
 use Rattle.pb_decode.specs.declared.reader.state.State.{State as StateKept}
-use Rattle.pb_building.specs.declared.tokens.step.Step.TheVariants as step
-use Rattle.pb_building.specs.Open.Parents.{CanHold}
-use Rattle.pb_building.specs.Open.PartView.{part_view, scope_view}
-use Rattle.pb_building.specs.Tokens.After.{After}
+use Rattle.pb_decode_parts.specs.declared.tokens.step.Step.TheVariants as step
+use Rattle.pb_decode_parts.specs.Open.Parents.{CanHold}
+use Rattle.pb_decode_parts.specs.Open.PartView.{part_view, scope_view}
+use Rattle.pb_decode_parts.specs.Tokens.After.{After}
 use Rattle.pb_decode.specs.Reader.{parents_view, state_view, Reads}
 
 -- after a length of this size, where its payload begins, the reader goes on by what its record is for

@@ -12,7 +12,7 @@ use Rattle.pb_schema.specs.Types.{Types}
 use Rattle.pb_schema.specs.Context.{a_message, schema_of}
 use Rattle.pb_value.specs.Data.{Message}
 use Rattle.pb_value.specs.Value.{value}
-use Rattle.pb_building.specs.declared.tokens.step.Step.TheVariants as step
+use Rattle.pb_decode_parts.specs.declared.tokens.step.Step.TheVariants as step
 use Rattle.pb_decode.specs.Reader.{State, here, Reads, Stops, Reported}
 
 -- where a reader began: a message of a type with this many levels, onto what the base gives, at a place

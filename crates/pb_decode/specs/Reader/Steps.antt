@@ -8,11 +8,11 @@ use Rattle.pb_schema.specs.Types.{Types}
 use Rattle.pb_schema.specs.Rules.{IsPool}
 use Rattle.pb_decode.specs.declared.error.DecodeError.{DecodeError}
 use Rattle.pb_decode.specs.declared.reader.state.State.{State as StateKept}
-use Rattle.pb_building.specs.declared.open.target.Target.{Target}
-use Rattle.pb_building.specs.declared.tokens.record_tag.RecordTag.{RecordTag}
-use Rattle.pb_building.specs.declared.tokens.step.Step.TheVariants.{Tag}
-use Rattle.pb_building.specs.Open.PartView.{part_view}
-use Rattle.pb_building.specs.Open.Targets.{Means, part_context}
+use Rattle.pb_decode_parts.specs.declared.open.target.Target.{Target}
+use Rattle.pb_decode_parts.specs.declared.tokens.record_tag.RecordTag.{RecordTag}
+use Rattle.pb_decode_parts.specs.declared.tokens.step.Step.TheVariants.{Tag}
+use Rattle.pb_decode_parts.specs.Open.PartView.{part_view}
+use Rattle.pb_decode_parts.specs.Open.Targets.{Means, part_context}
 use Rattle.pb_decode.specs.Reader.{State, state_view, here, IsReading, Reads, Stops, Taken, IfFault, Reported}
 
 -- these bytes begin with a tag of this many bytes

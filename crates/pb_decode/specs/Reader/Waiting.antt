@@ -3,10 +3,10 @@ use Rattle.std.specs.Prelude.{◌≡◌, ◌⊎◌, ℕ, ◌<◌, List, [], leng
 use Rattle.pb_wire.specs.Fault.{Place}
 use Rattle.pb_wire.specs.Exact.{IsOver}
 use Rattle.pb_schema.specs.Kinds.{wire_type_of}
-use Rattle.pb_building.specs.declared.tokens.step.Step.{Step}
-use Rattle.pb_building.specs.declared.tokens.step.Step.TheVariants as step
-use Rattle.pb_building.specs.Open.Parents.{Parent}
-use Rattle.pb_building.specs.Tokens.Numbers.{IsCutVarint, IsCutNumber}
+use Rattle.pb_decode_parts.specs.declared.tokens.step.Step.{Step}
+use Rattle.pb_decode_parts.specs.declared.tokens.step.Step.TheVariants as step
+use Rattle.pb_decode_parts.specs.Open.Parents.{Parent}
+use Rattle.pb_decode_parts.specs.Tokens.Numbers.{IsCutVarint, IsCutNumber}
 use Rattle.pb_decode.specs.Reader.{State, here}
 
 -- With these parents of the part, what comes next at this place is not whole in the bytes that are given. Where a tag may come, the message may

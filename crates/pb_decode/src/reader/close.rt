@@ -1,16 +1,16 @@
 //! What ends where a reader is: a packed list, and the parts that end with it or at a tag.
 
 ghost use Rattle.std.specs.Prelude.{◌≡◌, ◌↔◌, ◌+◌, ◌-◌, ◌<◌, ◌≤◌, ◌^◌, ℕ, List, Some, IsTrue, MatchBool, vec_len, OnOk};
-ghost use Rattle.pb_building.specs.declared.tokens.step.Step.TheVariants.{Tag};
-ghost use Rattle.pb_building.specs.Open.Occurrences.{counts_view};
+ghost use Rattle.pb_decode_parts.specs.declared.tokens.step.Step.TheVariants.{Tag};
+ghost use Rattle.pb_decode_parts.specs.Open.Occurrences.{counts_view};
 ghost use Rattle.pb_decode.specs.Reader.{state_view, left_of, CanRead, weight};
 ghost use Rattle.pb_decode.specs.Reader.Ended.{NothingEnds, PartEnds, PartGoesOn, EndsList, EndsPart};
 ghost use Rattle.pb_decode.specs.Reader.Steps.{TellsFaultAnyway, KeepsReading};
 
 use crate::error::DecodeError;
 use crate::reader::state::State;
-use pb_building::{NoMemory, Parent, Step, close_part, count_one};
-use pb_whole::reader::Reader;
+use pb_decode_parts::{NoMemory, Parent, Step, close_part, count_one};
+use pb_decode_whole::reader::Reader;
 use pb_wire::Cause;
 use std::mem;
 

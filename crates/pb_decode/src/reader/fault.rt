@@ -4,13 +4,13 @@ ghost use Rattle.std.specs.Prelude.{◌≡◌, ◌∷◌, List, [], map, IfOk, I
 ghost use Rattle.pb_wire.specs.Fault.{fault as fault_of};
 ghost use Rattle.pb_wire.specs.declared.fault.Cause.TheVariants.{InputTooLarge};
 ghost use Rattle.pb_wire.specs.declared.fault.PathStep.{PathStep as PathStepView};
-ghost use Rattle.pb_building.specs.Open.Parents.{next_step, Scope as ScopeView};
-ghost use Rattle.pb_building.specs.Open.PartView.{scope_view};
+ghost use Rattle.pb_decode_parts.specs.Open.Parents.{next_step, Scope as ScopeView};
+ghost use Rattle.pb_decode_parts.specs.Open.PartView.{scope_view};
 ghost use Rattle.pb_decode.specs.Reader.{state_view, own_step, path_here, IfFault, path_inside};
 
 use crate::error::DecodeError;
 use crate::reader::state::State;
-use pb_building::{NoMemory, Parent, Scope, Step};
+use pb_decode_parts::{NoMemory, Parent, Scope, Step};
 use pb_wire::{Cause, PathStep};
 use std::alloc::Global;
 

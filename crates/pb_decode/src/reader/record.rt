@@ -1,26 +1,26 @@
 //! What is complete in the bytes is taken at once: records, elements of packed lists, and the tags and lengths that open or end
-//! messages, entries, lists and groups. A message or a map entry is read by `pb_whole` and goes into its slot without being opened.
+//! messages, entries, lists and groups. A message or a map entry is read by `pb_decode_whole` and goes into its slot without being opened.
 
 ghost use Rattle.std.specs.Prelude.{◌≡◌, true, ◌+◌, ◌*◌, ◌≤◌, ℕ, Option, length, OnOk, IfOk, IfNone};
-ghost use Rattle.pb_building.specs.declared.open.target.Target.TheVariants as targets;
-ghost use Rattle.pb_building.specs.declared.tokens.step.Step.TheVariants.{Tag, Elements};
-ghost use Rattle.pb_building.specs.Values.PayloadValue.{IsBytesTarget};
-ghost use Rattle.pb_building.specs.Tokens.Number.{IsNumberType};
+ghost use Rattle.pb_decode_parts.specs.declared.open.target.Target.TheVariants as targets;
+ghost use Rattle.pb_decode_parts.specs.declared.tokens.step.Step.TheVariants.{Tag, Elements};
+ghost use Rattle.pb_decode_parts.specs.Values.PayloadValue.{IsBytesTarget};
+ghost use Rattle.pb_decode_parts.specs.Tokens.Number.{IsNumberType};
 ghost use Rattle.pb_decode.specs.Reader.{state_view, weight, CanRead};
 ghost use Rattle.pb_decode.specs.Reader.Ended.{NothingEnds};
 ghost use Rattle.pb_decode.specs.Reader.Steps.{IsAtTag, IsAtLengthTag, TellsFault, PassesWhole, TakesWhole, TakesMany};
 
 use crate::error::DecodeError;
 use crate::reader::state::State;
-use pb_building::{
+use pb_decode_parts::{
     Entry, NoMemory, Part, PayloadError, RecordTag, Slot, Step, Target, close_part, count_one,
     depth_left_in, has_level, is_free, number_at, put_number, put_payload, put_run, read_run,
     record_tag, target_of,
 };
+use pb_decode_whole::reader::{Left, Reader};
+use pb_decode_whole::tokens::{length_after, payload_after};
 use pb_schema::{Kind, MessageId};
 use pb_value::bodies::empty_body;
-use pb_whole::reader::{Left, Reader};
-use pb_whole::tokens::{length_after, payload_after};
 use pb_wire::{Scanned, group_end, left_after};
 
 /// How many bytes are taken at once. There are none where the bytes end too early, and where only the reader of tokens goes on.

@@ -1,14 +1,14 @@
 //! What a decoder has read so far: a stack of open parts, and what comes next.
 
 ghost use Rattle.std.specs.Prelude.{◌≡◌, ◌∷◌, ◌+◌, ◌≤◌, ◌<◌, ◌^◌, vec_len, OnOk, IfSome};
-ghost use Rattle.pb_building.specs.declared.tokens.step.Step.TheVariants.{Tag};
-ghost use Rattle.pb_building.specs.Open.Openings.{innermost_group};
-ghost use Rattle.pb_building.specs.Open.PartView.{parent_view};
+ghost use Rattle.pb_decode_parts.specs.declared.tokens.step.Step.TheVariants.{Tag};
+ghost use Rattle.pb_decode_parts.specs.Open.Openings.{innermost_group};
+ghost use Rattle.pb_decode_parts.specs.Open.PartView.{parent_view};
 ghost use Rattle.pb_decode.specs.Reader.{state_view, parents_view, left_of, weight};
 ghost use Rattle.pb_decode.specs.Reader.Lengths.{PassesLength};
 
 use crate::error::DecodeError;
-use pb_building::{
+use pb_decode_parts::{
     NoMemory, Parent, Part, Scope, Step, Target, begin_list, begin_payload, open_entry,
     open_message,
 };

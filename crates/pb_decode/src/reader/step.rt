@@ -1,9 +1,9 @@
 //! What comes next, token by token, and the faults that no other reader reports.
 
 ghost use Rattle.std.specs.Prelude.{◌≡◌, ◌≢◌, ◌⊎◌, ◌+◌, ◌≤◌, ◌<◌, ℕ, List, [], Option, Some, drop, length, MatchBool, OnOk, IfOk, IfNone};
-ghost use Rattle.pb_building.specs.declared.tokens.step.Step.TheVariants as steps;
-ghost use Rattle.pb_building.specs.Tokens.After.{tag as tag_of, awaited};
-ghost use Rattle.pb_building.specs.Tokens.Number.{IsNumberType};
+ghost use Rattle.pb_decode_parts.specs.declared.tokens.step.Step.TheVariants as steps;
+ghost use Rattle.pb_decode_parts.specs.Tokens.After.{tag as tag_of, awaited};
+ghost use Rattle.pb_decode_parts.specs.Tokens.Number.{IsNumberType};
 ghost use Rattle.pb_decode.specs.Reader.{state_view, left_of, IsReading, CanRead, Passes};
 ghost use Rattle.pb_decode.specs.Reader.Waiting.{Waits};
 ghost use Rattle.pb_decode.specs.Reader.Ended.{NothingEnds};
@@ -12,12 +12,12 @@ ghost use Rattle.pb_schema.specs.Rules.{IsPool};
 
 use crate::error::DecodeError;
 use crate::reader::state::{State, Taken};
-use pb_building::{
+use pb_decode_parts::{
     NoMemory, PayloadError, RecordTag, Step, Target, count_one, group_refusal, number_at,
     open_group, put_element, put_number, put_payload, tag_step, target_of,
 };
+use pb_decode_whole::reader::Reader;
 use pb_schema::Kind;
-use pb_whole::reader::Reader;
 use pb_wire::{Cause, Scanned, group_end, scan_length, scan_tag};
 
 /// Whether no byte is left, in the input or before the known end.

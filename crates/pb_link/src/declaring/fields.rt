@@ -10,7 +10,7 @@ ghost use Rattle.pb_declarations.specs.View.{field_view, message_view};
 ghost use Rattle.pb_link.specs.ToDecls.{code_of_kind, name_of_kind, is_repeated_shape, is_optional_field};
 ghost use Rattle.pb_link.specs.ToDecls.{code_of_field, name_of_type, packed_of_list, packed_of_field};
 ghost use Rattle.pb_link.specs.ToDecls.{oneof_of_field, declared_field, declared_fields, synthetic_names, entry_part, entry_message, entry_of_field};
-ghost use Rattle.pb_rules.specs.Rules.{key_name, value_name};
+ghost use Rattle.pb_link_rules.specs.Rules.{key_name, value_name};
 ghost use Rattle.pb_link.specs.Declarable.{IsDeclarable, AreDeclarable};
 
 use crate::declaring::text::{dotted, dotted_entry, synthetic_name};

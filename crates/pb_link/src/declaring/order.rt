@@ -3,9 +3,9 @@
 ghost use Rattle.std.specs.Prelude.{◌≡◌, map};
 ghost use Rattle.pb_schema.specs.Types.{Types};
 ghost use Rattle.pb_schema.specs.Rules.{IsPool};
-ghost use Rattle.pb_names.specs.Sees.{files_of};
-ghost use Rattle.pb_rules.specs.Rules.{World};
-ghost use Rattle.pb_rules.specs.Link.{IsWorldOf, NothingFails, LinkOk};
+ghost use Rattle.pb_link_names.specs.Sees.{files_of};
+ghost use Rattle.pb_link_rules.specs.Rules.{World};
+ghost use Rattle.pb_link_rules.specs.Link.{IsWorldOf, NothingFails, LinkOk};
 ghost use Rattle.pb_link.specs.PoolOf.{pool_of};
 ghost use Rattle.pb_link.specs.ToDecls.{numbered, declared_head, declared_enum, decls_of};
 ghost use Rattle.pb_link.specs.Heads.{declared_heads, declared_enums};

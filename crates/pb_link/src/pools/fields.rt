@@ -4,17 +4,17 @@ ghost use Rattle.std.specs.Prelude.{◌≡◌, map, length, option_map, IfOk, if
 ghost use Rattle.std.specs.Str.{bytes_eq};
 ghost use Rattle.pb_schema.specs.View.{field_view};
 ghost use Rattle.pb_declarations.specs.View.{field_view as declared_view, message_view};
-ghost use Rattle.pb_names.specs.Declarations.{head_of};
-ghost use Rattle.pb_rules.specs.Rules.{key_name};
-ghost use Rattle.pb_names.specs.View.{declaration_view};
+ghost use Rattle.pb_link_names.specs.Declarations.{head_of};
+ghost use Rattle.pb_link_rules.specs.Rules.{key_name};
+ghost use Rattle.pb_link_names.specs.View.{declaration_view};
 ghost use Rattle.pb_link.specs.PoolOf.{list_shape, singular_shape, number_of};
 ghost use Rattle.pb_link.specs.Pools.{fields_of_entry, entry_read, parts_read, field_by_place, fields_read};
 
 use crate::pools::tables::{Tables, kind_of_number, place_named};
 use pb_declarations::{FieldDecl, MessageDecl};
-use pb_names::declaration::Declaration;
-use pb_names::found::TypeNames;
-use pb_names::item::Item;
+use pb_link_names::declaration::Declaration;
+use pb_link_names::found::TypeNames;
+use pb_link_names::item::Item;
 use pb_schema::{Field, Kind, Shape};
 use std::alloc::{AllocError, Global};
 

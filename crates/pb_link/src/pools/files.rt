@@ -4,7 +4,7 @@ ghost use Rattle.std.specs.Prelude.{◌≡◌, map, IfOk};
 ghost use Rattle.pb_schema.specs.View.{file_view};
 ghost use Rattle.pb_declarations.specs.View.{file_view as declared_view};
 ghost use Rattle.pb_graphs.specs.Flat.{lists_of};
-ghost use Rattle.pb_names.specs.Sees.{files_of};
+ghost use Rattle.pb_link_names.specs.Sees.{files_of};
 
 use pb_declarations::FileDecl;
 use pb_graphs::flat::FlatGraph;

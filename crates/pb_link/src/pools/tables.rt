@@ -4,17 +4,17 @@ ghost use Rattle.std.specs.Prelude.{◌≡◌, ◌+◌, ◌<◌, ◌^◌, map, o
 ghost use Rattle.std.specs.Option.{option_map_or};
 ghost use Rattle.pb_schema.specs.declared.types.Kind.TheVariants as kind;
 ghost use Rattle.pb_declarations.specs.View.{file_view};
-ghost use Rattle.pb_rules.specs.Rules.{is_enum, is_group, is_message_type, is_two};
+ghost use Rattle.pb_link_rules.specs.Rules.{is_enum, is_group, is_message_type, is_two};
 ghost use Rattle.pb_link.specs.PoolOf.{kind_of_code, enum_kind, grouped};
-ghost use Rattle.pb_names.specs.View.{declaration_view};
+ghost use Rattle.pb_link_names.specs.View.{declaration_view};
 ghost use Rattle.pb_link.specs.Pools.{kind_of_number, kind_here, kinds_from, one_if, place_named, kind_read, is_read_two, parent_read};
 
 use pb_declarations::{FileDecl, TypeCode};
-use pb_names::declaration::Declaration;
-use pb_names::found::{Found, TypeNames};
-use pb_names::item::Item;
-use pb_rules::rules::kinds::is_two;
-use pb_rules::rules::maps::is_group;
+use pb_link_names::declaration::Declaration;
+use pb_link_names::found::{Found, TypeNames};
+use pb_link_names::item::Item;
+use pb_link_rules::rules::kinds::is_two;
+use pb_link_rules::rules::maps::is_group;
 use pb_schema::{EnumId, Kind, MessageId};
 use std::alloc::{AllocError, Global};
 

@@ -5,17 +5,17 @@ ghost use Rattle.std.specs.List.{cons_option, slice_index_or};
 ghost use Rattle.pb_schema.specs.View.{message_view, enum_view};
 ghost use Rattle.pb_declarations.specs.View.{message_view as declared_view, enum_view as declared_enum, numbered_view};
 ghost use Rattle.pb_declarations.specs.Decls.{MessageHead};
-ghost use Rattle.pb_names.specs.Declarations.{head_of, is_synthetic};
+ghost use Rattle.pb_link_names.specs.Declarations.{head_of, is_synthetic};
 ghost use Rattle.pb_link.specs.PoolOf.{real_oneofs};
-ghost use Rattle.pb_names.specs.View.{declaration_view};
+ghost use Rattle.pb_link_names.specs.View.{declaration_view};
 ghost use Rattle.pb_link.specs.Pools.{real_from, message_read, message_part, enum_read, enum_part, messages_read, enums_read};
 
 use crate::pools::fields::fields_of;
 use crate::pools::tables::Tables;
 use pb_declarations::{EnumDecl, MessageDecl};
-use pb_names::declaration::Declaration;
-use pb_names::item::Item;
-use pb_names::marks::oneofs::counted;
+use pb_link_names::declaration::Declaration;
+use pb_link_names::item::Item;
+use pb_link_names::marks::oneofs::counted;
 use pb_schema::{EnumType, MessageType};
 use std::alloc::{AllocError, Global};
 

@@ -4,15 +4,15 @@ ghost use Rattle.std.specs.Prelude.{◌≡◌, List, map, IfOk};
 ghost use Rattle.std.specs.List.{list_any};
 ghost use Rattle.pb_declarations.specs.Decls.{DeclaredFile};
 ghost use Rattle.pb_declarations.specs.View.{field_view, message_view, file_view};
-ghost use Rattle.pb_names.specs.Declarations.{head_of};
-ghost use Rattle.pb_rules.specs.Rules.{World};
-ghost use Rattle.pb_rules.specs.Link.{IsWorldOf};
+ghost use Rattle.pb_link_names.specs.Declarations.{head_of};
+ghost use Rattle.pb_link_rules.specs.Rules.{World};
+ghost use Rattle.pb_link_rules.specs.Link.{IsWorldOf};
 ghost use Rattle.pb_link.specs.Resolved.{resolved_files};
 ghost use Rattle.pb_link.specs.EnumMaps.{is_enum_value, is_map, message_without_maps, file_without_maps, ListsEnumMaps};
 
 use crate::resolving::files::resolve_files;
 use pb_declarations::{FieldDecl, FileDecl, MessageDecl, TypeCode};
-use pb_rules::named::named_files;
+use pb_link_rules::named::named_files;
 use std::alloc::{AllocError, Global};
 
 /// The field number of the value in the entry of a map.

@@ -4,13 +4,13 @@ ghost use Rattle.std.specs.Prelude.{◌≡◌, map, option_map, string_bytes, If
 ghost use Rattle.pb_declarations.specs.View.{field_view};
 ghost use Rattle.pb_link.specs.Resolved.{full_name_or, field_of_type};
 ghost use Rattle.pb_link.specs.Resolving.{coming, first_type, fields_read, each_behind, behind_one};
-ghost use Rattle.pb_names.specs.View.{declaration_view, type_names_view};
+ghost use Rattle.pb_link_names.specs.View.{declaration_view, type_names_view};
 
 use crate::resolving::types::{code_or, first_type, full_name_or};
 use crate::resolving::upcoming::Upcoming;
 use pb_declarations::FieldDecl;
-use pb_names::declaration::Declaration;
-use pb_names::found::TypeNames;
+use pb_link_names::declaration::Declaration;
+use pb_link_names::found::TypeNames;
 use std::alloc::{AllocError, Global};
 
 /// The full name of the type, where a field names one.

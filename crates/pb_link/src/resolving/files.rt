@@ -3,7 +3,7 @@
 ghost use Rattle.std.specs.Prelude.{◌≡◌, map, IfOk, OnOk};
 ghost use Rattle.pb_declarations.specs.View.{file_view};
 ghost use Rattle.pb_link.specs.Resolving.{coming, file_read, files_read, behind_file};
-ghost use Rattle.pb_names.specs.View.{declaration_view, type_names_view};
+ghost use Rattle.pb_link_names.specs.View.{declaration_view, type_names_view};
 
 use crate::declaring::text::copied;
 use crate::resolving::enums::{copied_enums, skip_enums};
@@ -11,8 +11,8 @@ use crate::resolving::messages::resolve_messages;
 use crate::resolving::services::resolve_services;
 use crate::resolving::upcoming::Upcoming;
 use pb_declarations::FileDecl;
-use pb_names::declaration::Declaration;
-use pb_names::found::TypeNames;
+use pb_link_names::declaration::Declaration;
+use pb_link_names::found::TypeNames;
 use std::alloc::{AllocError, Global};
 
 fn resolve_file(

@@ -3,14 +3,14 @@
 ghost use Rattle.std.specs.Prelude.{◌≡◌, map, IfOk, OnOk};
 ghost use Rattle.pb_declarations.specs.View.{message_view};
 ghost use Rattle.pb_link.specs.Resolving.{coming, message_read, each_read, each_behind, behind_message};
-ghost use Rattle.pb_names.specs.View.{declaration_view};
+ghost use Rattle.pb_link_names.specs.View.{declaration_view};
 
 use crate::declaring::text::copied;
 use crate::resolving::enums::{copied_enums, skip_enums};
 use crate::resolving::fields::resolve_fields;
 use crate::resolving::upcoming::Upcoming;
 use pb_declarations::MessageDecl;
-use pb_names::declaration::Declaration;
+use pb_link_names::declaration::Declaration;
 use std::alloc::{AllocError, Global};
 
 #[cycle(resolve_message)]

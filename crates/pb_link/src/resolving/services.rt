@@ -4,13 +4,13 @@ ghost use Rattle.std.specs.Prelude.{◌≡◌, map, IfOk, OnOk};
 ghost use Rattle.pb_declarations.specs.View.{method_view, service_view};
 ghost use Rattle.pb_link.specs.Resolved.{method_of_types};
 ghost use Rattle.pb_link.specs.Resolving.{coming, first_type, second_type, methods_read, service_read, services_read, each_behind, behind_one, behind_service};
-ghost use Rattle.pb_names.specs.View.{declaration_view, type_names_view};
+ghost use Rattle.pb_link_names.specs.View.{declaration_view, type_names_view};
 
 use crate::resolving::types::{first_type, full_name_or, second_type};
 use crate::resolving::upcoming::Upcoming;
 use pb_declarations::{MethodDecl, ServiceDecl};
-use pb_names::declaration::Declaration;
-use pb_names::found::TypeNames;
+use pb_link_names::declaration::Declaration;
+use pb_link_names::found::TypeNames;
 use std::alloc::{AllocError, Global};
 
 /// A method whose type names came to this.

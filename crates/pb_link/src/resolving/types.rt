@@ -1,15 +1,15 @@
 //! The types that type names mean.
 
 ghost use Rattle.std.specs.Prelude.{◌≡◌, ◌∷◌, map, option_map, string_bytes, IfOk};
-ghost use Rattle.pb_names.specs.ItemView.{item_view};
+ghost use Rattle.pb_link_names.specs.ItemView.{item_view};
 ghost use Rattle.pb_link.specs.Resolved.{type_at, full_name_or, code_of_item, code_or};
 ghost use Rattle.pb_link.specs.Resolving.{first_type, second_type};
-ghost use Rattle.pb_names.specs.View.{declaration_view, found_view, type_names_view};
+ghost use Rattle.pb_link_names.specs.View.{declaration_view, found_view, type_names_view};
 
 use pb_declarations::TypeCode;
-use pb_names::declaration::Declaration;
-use pb_names::found::{Found, TypeNames};
-use pb_names::item::Item;
+use pb_link_names::declaration::Declaration;
+use pb_link_names::found::{Found, TypeNames};
+use pb_link_names::item::Item;
 use std::alloc::{AllocError, Global};
 
 /// The type that was found.

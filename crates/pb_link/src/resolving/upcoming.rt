@@ -1,10 +1,10 @@
 //! The results of looking up type names, one declaration after another.
 
 ghost use Rattle.std.specs.Prelude.{◌≡◌, drop};
-ghost use Rattle.pb_names.specs.View.{type_names_view};
+ghost use Rattle.pb_link_names.specs.View.{type_names_view};
 ghost use Rattle.pb_link.specs.Resolving.{coming, names_here};
 
-use pb_names::found::TypeNames;
+use pb_link_names::found::TypeNames;
 
 /// The types found for the names of the declarations that come next, in declaration order.
 #[derive(Drop)]

@@ -3,18 +3,18 @@ use Rattle.std.specs.Prelude.{ℕ, zero, suc, ℤ, List, [], ◌∷◌, codes, B
 use Rattle.std.specs.Str.{bytes_eq}
 use Rattle.pb_declarations.specs.Decls.{DeclaredField, DeclaredEnum, DeclaredMessage, DeclaredMethod, DeclaredService}
 use Rattle.pb_declarations.specs.declared.decl.TypeCode.{TypeCode}
-use Rattle.pb_tokens.specs.Readers.Phrases.{is_dot, listed, name_reader, fullname_reader, typename_reader, counted_reader, signed_reader}
-use Rattle.pb_tokens.specs.Readers.Phrases.{is_text, utf8_reader, option_reader, setting_reader, field_end_reader, group_end_reader, value_end_reader}
-use Rattle.pb_tokens.specs.Readers.Phrases.{type_of, type_reader, key_reader, message_range_reader, enum_range_reader}
-use Rattle.pb_tokens.specs.declared.rule.Rule.TheVariants.{SyntaxFirst as syntax_first, NestsBounded as nests_bounded}
-use Rattle.pb_tokens.specs.declared.grammar.Grammar.{Grammar}
-use Rattle.pb_tokens.specs.declared.grammar.Grammar.TheVariants.{Strict, Lenient}
-use Rattle.pb_tokens.specs.declared.grammar.Syntax.{Syntax}
-use Rattle.pb_tokens.specs.declared.grammar.Syntax.TheVariants.{Proto2, Proto3}
-use Rattle.pb_tokens.specs.Symbols.{Symbol, word, number, text, sign}
-use Rattle.pb_tokens.specs.Said.{TypeSaid, joined}
-use Rattle.pb_tokens.specs.Readers.Forms.{Reader, answer, chain, mapped, both, preceded, before, choice, by_kind, guarded, symbol, plain}
-use Rattle.pb_tokens.specs.Readers.Forms.{judged, is_keyword, is_mark, keyword_reader, mark_reader, until, to_end}
+use Rattle.pb_source_tokens.specs.Readers.Phrases.{is_dot, listed, name_reader, fullname_reader, typename_reader, counted_reader, signed_reader}
+use Rattle.pb_source_tokens.specs.Readers.Phrases.{is_text, utf8_reader, option_reader, setting_reader, field_end_reader, group_end_reader, value_end_reader}
+use Rattle.pb_source_tokens.specs.Readers.Phrases.{type_of, type_reader, key_reader, message_range_reader, enum_range_reader}
+use Rattle.pb_source_tokens.specs.declared.rule.Rule.TheVariants.{SyntaxFirst as syntax_first, NestsBounded as nests_bounded}
+use Rattle.pb_source_tokens.specs.declared.grammar.Grammar.{Grammar}
+use Rattle.pb_source_tokens.specs.declared.grammar.Grammar.TheVariants.{Strict, Lenient}
+use Rattle.pb_source_tokens.specs.declared.grammar.Syntax.{Syntax}
+use Rattle.pb_source_tokens.specs.declared.grammar.Syntax.TheVariants.{Proto2, Proto3}
+use Rattle.pb_source_tokens.specs.Symbols.{Symbol, word, number, text, sign}
+use Rattle.pb_source_tokens.specs.Said.{TypeSaid, joined}
+use Rattle.pb_source_tokens.specs.Readers.Forms.{Reader, answer, chain, mapped, both, preceded, before, choice, by_kind, guarded, symbol, plain}
+use Rattle.pb_source_tokens.specs.Readers.Forms.{judged, is_keyword, is_mark, keyword_reader, mark_reader, until, to_end}
 use Rattle.pb_source.specs.declared.reading.Reading.{Reading}
 use Rattle.pb_source.specs.declared.reading.Reading.TheVariants as reading
 use Rattle.pb_source.specs.Syntaxes.{is_lenient, is_proto2, optional_label}

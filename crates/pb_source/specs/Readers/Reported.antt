@@ -1,15 +1,15 @@
 -- What is reported of symbols that the code refuses.
 use Rattle.std.specs.Prelude.{ℕ, List, [], ◌∷◌, Option}
-use Rattle.pb_tokens.specs.declared.fault.SourceCause.{SourceCause}
-use Rattle.pb_tokens.specs.declared.fault.SourceCause.TheVariants.{NotProto3}
-use Rattle.pb_tokens.specs.declared.rule.Rule.{Rule}
-use Rattle.pb_tokens.specs.declared.symbol.Placed.{Placed}
-use Rattle.pb_tokens.specs.declared.refusal.Refusal.{Refusal}
-use Rattle.pb_tokens.specs.declared.refusal.Refusal.TheVariants as refusal
-use Rattle.pb_tokens.specs.SymbolView.{symbols_of}
-use Rattle.pb_tokens.specs.Fault.{fault, out_of_memory}
-use Rattle.pb_tokens.specs.declared.fault.SourceFault.{SourceFault}
-use Rattle.pb_tokens.specs.Language.{reported}
+use Rattle.pb_source_tokens.specs.declared.fault.SourceCause.{SourceCause}
+use Rattle.pb_source_tokens.specs.declared.fault.SourceCause.TheVariants.{NotProto3}
+use Rattle.pb_source_tokens.specs.declared.rule.Rule.{Rule}
+use Rattle.pb_source_tokens.specs.declared.symbol.Placed.{Placed}
+use Rattle.pb_source_tokens.specs.declared.refusal.Refusal.{Refusal}
+use Rattle.pb_source_tokens.specs.declared.refusal.Refusal.TheVariants as refusal
+use Rattle.pb_source_tokens.specs.SymbolView.{symbols_of}
+use Rattle.pb_source_tokens.specs.Fault.{fault, out_of_memory}
+use Rattle.pb_source_tokens.specs.declared.fault.SourceFault.{SourceFault}
+use Rattle.pb_source_tokens.specs.Language.{reported}
 use Rattle.pb_source.specs.Source.{place_in}
 
 -- the cause of symbols that are refused so: a file without symbols does not begin with its syntax

@@ -5,8 +5,8 @@ ghost use Rattle.std.specs.Prelude.{codes, map, length, string_bytes, option_map
 ghost use Rattle.pb_schema.specs.Names.{entry_name};
 ghost use Rattle.pb_declarations.specs.View.{field_view, message_view};
 ghost use Rattle.pb_declarations.specs.declared.decl.TypeCode.{TypeCode};
-ghost use Rattle.pb_tokens.specs.Said.{a_scalar};
-ghost use Rattle.pb_tokens.specs.PhraseView.{type_view};
+ghost use Rattle.pb_source_tokens.specs.Said.{a_scalar};
+ghost use Rattle.pb_source_tokens.specs.PhraseView.{type_view};
 ghost use Rattle.pb_source.specs.Meaning.{MessageStatement, FileStatement, entry_field, entry_of, map_field};
 ghost use Rattle.pb_source.specs.Meaning.{fields_in, groups_in, in_oneof, with_own_oneofs, own_oneofs, message_of, public_from};
 ghost use Rattle.pb_source.specs.StatementView.{map_view, member_view, message_statement_view, file_statement_view};
@@ -17,7 +17,7 @@ use crate::parsing::fields::field_of;
 use crate::parsing::statement::{FileSaid, MapSaid, MemberSaid, MessageSaid};
 use pb_declarations::{EnumDecl, FieldDecl, MessageDecl, ServiceDecl, TypeCode};
 use pb_schema::entry_name;
-use pb_tokens::parsing::types::TypeSaid;
+use pb_source_tokens::parsing::types::TypeSaid;
 use std::alloc::{AllocError, Global};
 
 /// What a message holds, whose statements are being read.

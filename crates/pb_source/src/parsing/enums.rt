@@ -2,9 +2,9 @@
 
 ghost use Rattle.std.specs.Prelude.{◌≡◌, ◌≤◌, ◌<◌, ◌++◌, ◌∷◌, ℕ, List, [], length, codes, IfOk, OnOk};
 ghost use Rattle.pb_declarations.specs.View.{enum_view};
-ghost use Rattle.pb_tokens.specs.Readers.Forms.{mapped, until, mark_reader};
-ghost use Rattle.pb_tokens.specs.Readers.Phrases.{enum_range_reader};
-ghost use Rattle.pb_tokens.specs.Readers.Given.{ReadsInSteps};
+ghost use Rattle.pb_source_tokens.specs.Readers.Forms.{mapped, until, mark_reader};
+ghost use Rattle.pb_source_tokens.specs.Readers.Phrases.{enum_range_reader};
+ghost use Rattle.pb_source_tokens.specs.Readers.Given.{ReadsInSteps};
 ghost use Rattle.pb_source.specs.Meaning.{EnumStatement, enum_of};
 ghost use Rattle.pb_source.specs.Readers.Lines.{is_closing, said_of_alias, reserved_reader, value_reader, enum_statement_reader, enum_reader};
 ghost use Rattle.pb_source.specs.StatementView.{enum_statement_view};
@@ -13,15 +13,15 @@ use crate::kind::EnumKind;
 use crate::parsing::kinds::enum_kind;
 use crate::parsing::statement::EnumSaid;
 use pb_declarations::EnumDecl;
-use pb_tokens::grammar::Grammar;
-use pb_tokens::parsing::numbers::signed;
-use pb_tokens::parsing::options::{setting, value_end};
-use pb_tokens::parsing::ranges::{Within, names_line, ranges_line};
-use pb_tokens::parsing::single::{
+use pb_source_tokens::grammar::Grammar;
+use pb_source_tokens::parsing::numbers::signed;
+use pb_source_tokens::parsing::options::{setting, value_end};
+use pb_source_tokens::parsing::ranges::{Within, names_line, ranges_line};
+use pb_source_tokens::parsing::single::{
     begins_with_mark, begins_with_text, keyword, mark, name, symbol_at,
 };
-use pb_tokens::refusal::Refusal;
-use pb_tokens::symbol::Placed;
+use pb_source_tokens::refusal::Refusal;
+use pb_source_tokens::symbol::Placed;
 use std::alloc::{AllocError, Global};
 
 /// Reads a value.

@@ -1,15 +1,15 @@
 //! Ranges of `extensions`, of which nothing is kept (Protocol Buffers Language Specification (Proto2), "Extensions").
 
 ghost use Rattle.std.specs.Prelude.{◌≤◌, ◌<◌, length, IfOk};
-ghost use Rattle.pb_tokens.specs.Readers.Given.{ReadsInSteps};
+ghost use Rattle.pb_source_tokens.specs.Readers.Given.{ReadsInSteps};
 ghost use Rattle.pb_source.specs.Readers.Lines.{extensions_reader};
 
-use pb_tokens::grammar::Grammar;
-use pb_tokens::parsing::options::value_end;
-use pb_tokens::parsing::ranges::{Within, ranges};
-use pb_tokens::parsing::single::keyword;
-use pb_tokens::refusal::Refusal;
-use pb_tokens::symbol::Placed;
+use pb_source_tokens::grammar::Grammar;
+use pb_source_tokens::parsing::options::value_end;
+use pb_source_tokens::parsing::ranges::{Within, ranges};
+use pb_source_tokens::parsing::single::keyword;
+use pb_source_tokens::refusal::Refusal;
+use pb_source_tokens::symbol::Placed;
 use std::alloc::Global;
 
 /// Reads ranges of extensions, with their options.

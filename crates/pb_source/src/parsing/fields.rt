@@ -2,8 +2,8 @@
 
 ghost use Rattle.std.specs.Prelude.{◌≡◌, ◌≤◌, ◌<◌, length, string_bytes, IfOk};
 ghost use Rattle.pb_declarations.specs.View.{field_view};
-ghost use Rattle.pb_tokens.specs.PhraseView.{type_view};
-ghost use Rattle.pb_tokens.specs.Readers.Given.{ReadsInSteps};
+ghost use Rattle.pb_source_tokens.specs.PhraseView.{type_view};
+ghost use Rattle.pb_source_tokens.specs.Readers.Given.{ReadsInSteps};
 ghost use Rattle.pb_source.specs.Meaning.{is_repeated_label, is_optional_label, field_of};
 ghost use Rattle.pb_source.specs.Readers.Lines.{field_tail_reader, field_reader, map_tail_reader, map_reader};
 ghost use Rattle.pb_source.specs.StatementView.{map_view, message_statement_view};
@@ -13,13 +13,13 @@ use crate::kind::Label;
 use crate::parsing::statement::{MapSaid, MemberSaid, MessageSaid};
 use crate::parsing::syntaxes::is_proto2;
 use pb_declarations::FieldDecl;
-use pb_tokens::grammar::Grammar;
-use pb_tokens::parsing::numbers::counted;
-use pb_tokens::parsing::options::field_end;
-use pb_tokens::parsing::single::{begins_with_mark, keyword, mark, name};
-use pb_tokens::parsing::types::{TypeSaid, code_of, key_type, name_of, typed};
-use pb_tokens::refusal::Refusal;
-use pb_tokens::symbol::Placed;
+use pb_source_tokens::grammar::Grammar;
+use pb_source_tokens::parsing::numbers::counted;
+use pb_source_tokens::parsing::options::field_end;
+use pb_source_tokens::parsing::single::{begins_with_mark, keyword, mark, name};
+use pb_source_tokens::parsing::types::{TypeSaid, code_of, key_type, name_of, typed};
+use pb_source_tokens::refusal::Refusal;
+use pb_source_tokens::symbol::Placed;
 use std::alloc::Global;
 
 /// What follows a field's type, or the word `group`.

@@ -3,11 +3,11 @@
 ghost use Rattle.std.specs.Prelude.{◌≡◌, ◌≤◌, ◌<◌, ℕ, [], false, if◌then◌else◌, Some, None, length, codes, string_bytes, IfOk, IfErr, Ok, List};
 ghost use Rattle.std.specs.Str.{bytes_eq};
 ghost use Rattle.pb_declarations.specs.View.{file_view};
-ghost use Rattle.pb_tokens.specs.Language.{all_rules};
-ghost use Rattle.pb_tokens.specs.declared.rule.Rule.TheVariants.{SyntaxFirst};
-ghost use Rattle.pb_tokens.specs.declared.grammar.Grammar.{Grammar};
-ghost use Rattle.pb_tokens.specs.Readers.Forms.{symbol, judged, if_some, mapped, to_end};
-ghost use Rattle.pb_tokens.specs.Readers.Given.{symbols_from, Fails, Reads, ReadsInSteps};
+ghost use Rattle.pb_source_tokens.specs.Language.{all_rules};
+ghost use Rattle.pb_source_tokens.specs.declared.rule.Rule.TheVariants.{SyntaxFirst};
+ghost use Rattle.pb_source_tokens.specs.declared.grammar.Grammar.{Grammar};
+ghost use Rattle.pb_source_tokens.specs.Readers.Forms.{symbol, judged, if_some, mapped, to_end};
+ghost use Rattle.pb_source_tokens.specs.Readers.Given.{symbols_from, Fails, Reads, ReadsInSteps};
 ghost use Rattle.pb_source.specs.Meaning.{FileStatement, file_of};
 ghost use Rattle.pb_source.specs.Readers.Lines.{taken, nested_in, extend_reader, access_reader, import_reader};
 ghost use Rattle.pb_source.specs.Readers.Lines.{package_reader, file_statement_reader, file_reader};
@@ -27,13 +27,13 @@ use crate::parsing::statement::FileSaid;
 use crate::parsing::syntaxes::is_lenient;
 use crate::reading::Reading;
 use pb_declarations::FileDecl;
-use pb_tokens::grammar::{Grammar, Syntax};
-use pb_tokens::parsing::names::{joined, words};
-use pb_tokens::parsing::options::option;
-use pb_tokens::parsing::single::{begins_with, keyword, mark, symbol_at, utf8_text};
-use pb_tokens::refusal::Refusal;
-use pb_tokens::rule::Rule;
-use pb_tokens::symbol::{Placed, Symbol, is_keyword};
+use pb_source_tokens::grammar::{Grammar, Syntax};
+use pb_source_tokens::parsing::names::{joined, words};
+use pb_source_tokens::parsing::options::option;
+use pb_source_tokens::parsing::single::{begins_with, keyword, mark, symbol_at, utf8_text};
+use pb_source_tokens::refusal::Refusal;
+use pb_source_tokens::rule::Rule;
+use pb_source_tokens::symbol::{Placed, Symbol, is_keyword};
 use std::alloc::Global;
 
 /// How many messages of a file may nest, each in the one before.

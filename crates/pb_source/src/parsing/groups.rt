@@ -2,7 +2,7 @@
 
 ghost use Rattle.std.specs.Prelude.{◌≡◌, ◌≤◌, ◌<◌, length, IfOk};
 ghost use Rattle.pb_declarations.specs.View.{field_view};
-ghost use Rattle.pb_tokens.specs.Readers.Given.{Reads, ReadsInSteps};
+ghost use Rattle.pb_source_tokens.specs.Readers.Given.{Reads, ReadsInSteps};
 ghost use Rattle.pb_source.specs.Meaning.{group_field};
 ghost use Rattle.pb_source.specs.Grammar.{begins_capital};
 ghost use Rattle.pb_source.specs.Readers.Lines.{group_name_reader, group_head_reader};
@@ -10,12 +10,12 @@ ghost use Rattle.pb_source.specs.Readers.Lines.{group_name_reader, group_head_re
 use crate::kind::Label;
 use crate::parsing::fields::{FieldTail, is_optional, is_repeated};
 use pb_declarations::{FieldDecl, TypeCode};
-use pb_tokens::grammar::Grammar;
-use pb_tokens::parsing::numbers::counted;
-use pb_tokens::parsing::options::group_end;
-use pb_tokens::parsing::single::{keyword, mark, symbol_at};
-use pb_tokens::refusal::Refusal;
-use pb_tokens::symbol::{Placed, Symbol};
+use pb_source_tokens::grammar::Grammar;
+use pb_source_tokens::parsing::numbers::counted;
+use pb_source_tokens::parsing::options::group_end;
+use pb_source_tokens::parsing::single::{keyword, mark, symbol_at};
+use pb_source_tokens::refusal::Refusal;
+use pb_source_tokens::symbol::{Placed, Symbol};
 use std::alloc::{AllocError, Global};
 
 /// Whether a word begins with a capital letter.

@@ -1,14 +1,14 @@
 //! What begins with a symbol.
 
 ghost use Rattle.std.specs.Prelude.{◌≡◌};
-ghost use Rattle.pb_tokens.specs.Symbols.{word as a_word};
-ghost use Rattle.pb_tokens.specs.SymbolView.{symbol_of};
+ghost use Rattle.pb_source_tokens.specs.Symbols.{word as a_word};
+ghost use Rattle.pb_source_tokens.specs.SymbolView.{symbol_of};
 ghost use Rattle.pb_source.specs.Readers.Lines.{file_kind, message_kind, extend_kind, enum_kind, oneof_kind, service_kind, method_kind};
 
 use crate::kind::{
     EnumKind, ExtendKind, FileKind, MessageKind, MethodKind, OneofKind, ServiceKind,
 };
-use pb_tokens::symbol::{Symbol, is_mark};
+use pb_source_tokens::symbol::{Symbol, is_mark};
 
 /// The kind of a statement of a file.
 pub(crate) fn file_kind(symbol: &Symbol) -> Option<FileKind>

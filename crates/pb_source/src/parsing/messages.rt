@@ -4,8 +4,8 @@
 
 ghost use Rattle.std.specs.Prelude.{◌≡◌, ◌≤◌, ◌<◌, ◌++◌, [], length, map, codes, string_bytes, option_map, option_to_list, IfOk, OnOk, true};
 ghost use Rattle.pb_declarations.specs.View.{message_view};
-ghost use Rattle.pb_tokens.specs.Readers.Forms.{if_some, mapped, until, mark_reader};
-ghost use Rattle.pb_tokens.specs.Readers.Given.{ReadsInSteps};
+ghost use Rattle.pb_source_tokens.specs.Readers.Forms.{if_some, mapped, until, mark_reader};
+ghost use Rattle.pb_source_tokens.specs.Readers.Given.{ReadsInSteps};
 ghost use Rattle.pb_source.specs.Meaning.{message_of, those_said};
 ghost use Rattle.pb_source.specs.Readers.Lines.{is_closing, nested_in, member_reader, labelled_reader, oneof_statement_reader, oneof_reader};
 ghost use Rattle.pb_source.specs.Readers.Lines.{extension_reader, extend_reader, message_statement_line, room_statement_reader, message_reader};
@@ -21,13 +21,15 @@ use crate::parsing::plain::plain_statement;
 use crate::parsing::statement::{MemberSaid, MessageSaid};
 use crate::parsing::syntaxes::{is_lenient, is_proto2, optional_label};
 use pb_declarations::MessageDecl;
-use pb_tokens::grammar::Grammar;
-use pb_tokens::parsing::names::typename;
-use pb_tokens::parsing::options::option;
-use pb_tokens::parsing::single::{begins_with, begins_with_mark, keyword, mark, name, symbol_at};
-use pb_tokens::refusal::Refusal;
-use pb_tokens::rule::Rule;
-use pb_tokens::symbol::Placed;
+use pb_source_tokens::grammar::Grammar;
+use pb_source_tokens::parsing::names::typename;
+use pb_source_tokens::parsing::options::option;
+use pb_source_tokens::parsing::single::{
+    begins_with, begins_with_mark, keyword, mark, name, symbol_at,
+};
+use pb_source_tokens::refusal::Refusal;
+use pb_source_tokens::rule::Rule;
+use pb_source_tokens::symbol::Placed;
 use std::alloc::{AllocError, Global};
 
 // ---- fields and groups

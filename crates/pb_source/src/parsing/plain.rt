@@ -1,9 +1,9 @@
 //! Statements of a message that no message nests in.
 
 ghost use Rattle.std.specs.Prelude.{◌≡◌, ◌≤◌, ◌<◌, length, IfOk, true};
-ghost use Rattle.pb_tokens.specs.Readers.Forms.{if_some};
-ghost use Rattle.pb_tokens.specs.Readers.Phrases.{message_range_reader};
-ghost use Rattle.pb_tokens.specs.Readers.Given.{ReadsInSteps};
+ghost use Rattle.pb_source_tokens.specs.Readers.Forms.{if_some};
+ghost use Rattle.pb_source_tokens.specs.Readers.Phrases.{message_range_reader};
+ghost use Rattle.pb_source_tokens.specs.Readers.Given.{ReadsInSteps};
 ghost use Rattle.pb_source.specs.Meaning.{MessageStatement};
 ghost use Rattle.pb_source.specs.Readers.Lines.{Nested, reserved_reader, dropped, extensions_reader, message_statement_line};
 ghost use Rattle.pb_source.specs.StatementView.{message_statement_view};
@@ -15,12 +15,12 @@ use crate::parsing::extensions::extensions;
 use crate::parsing::fields::{field, map_or_field};
 use crate::parsing::statement::{MemberSaid, MessageSaid};
 use crate::parsing::syntaxes::is_proto2;
-use pb_tokens::grammar::Grammar;
-use pb_tokens::parsing::options::option;
-use pb_tokens::parsing::ranges::{Within, names_line, ranges_line};
-use pb_tokens::parsing::single::{begins_with_text, keyword, mark};
-use pb_tokens::refusal::Refusal;
-use pb_tokens::symbol::Placed;
+use pb_source_tokens::grammar::Grammar;
+use pb_source_tokens::parsing::options::option;
+use pb_source_tokens::parsing::ranges::{Within, names_line, ranges_line};
+use pb_source_tokens::parsing::single::{begins_with_text, keyword, mark};
+use pb_source_tokens::refusal::Refusal;
+use pb_source_tokens::symbol::Placed;
 use std::alloc::Global;
 
 /// Reads what is reserved.

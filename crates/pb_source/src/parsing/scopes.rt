@@ -9,7 +9,7 @@ ghost use Rattle.pb_source.specs.PartsView.{FileHolds};
 use crate::parsing::declared::FileParts;
 use crate::parsing::syntaxes::is_proto2;
 use pb_declarations::{FieldDecl, FileDecl, MessageDecl};
-use pb_tokens::grammar::Grammar;
+use pb_source_tokens::grammar::Grammar;
 use std::alloc::{AllocError, Global};
 
 /// Appends a name to the scope that it is declared in.

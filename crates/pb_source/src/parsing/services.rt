@@ -2,8 +2,8 @@
 
 ghost use Rattle.std.specs.Prelude.{◌≡◌, ◌≤◌, ◌<◌, ◌++◌, [], length, map, codes, string_bytes, option_map, option_to_list, IfOk, OnOk};
 ghost use Rattle.pb_declarations.specs.View.{method_view, service_view};
-ghost use Rattle.pb_tokens.specs.Readers.Forms.{mapped, until, mark_reader};
-ghost use Rattle.pb_tokens.specs.Readers.Given.{ReadsInSteps};
+ghost use Rattle.pb_source_tokens.specs.Readers.Forms.{mapped, until, mark_reader};
+ghost use Rattle.pb_source_tokens.specs.Readers.Given.{ReadsInSteps};
 ghost use Rattle.pb_source.specs.Meaning.{those_said};
 ghost use Rattle.pb_source.specs.Readers.Lines.{is_closing, streamed_reader, parameter_reader, method_statement_reader, method_end_reader};
 ghost use Rattle.pb_source.specs.Readers.Lines.{method_reader, service_statement_reader, service_reader};
@@ -11,12 +11,14 @@ ghost use Rattle.pb_source.specs.Readers.Lines.{method_reader, service_statement
 use crate::kind::{MethodKind, ServiceKind};
 use crate::parsing::kinds::{method_kind, service_kind};
 use pb_declarations::{MethodDecl, ServiceDecl};
-use pb_tokens::grammar::Grammar;
-use pb_tokens::parsing::names::typename;
-use pb_tokens::parsing::options::option;
-use pb_tokens::parsing::single::{begins_with, begins_with_mark, keyword, mark, name, symbol_at};
-use pb_tokens::refusal::Refusal;
-use pb_tokens::symbol::Placed;
+use pb_source_tokens::grammar::Grammar;
+use pb_source_tokens::parsing::names::typename;
+use pb_source_tokens::parsing::options::option;
+use pb_source_tokens::parsing::single::{
+    begins_with, begins_with_mark, keyword, mark, name, symbol_at,
+};
+use pb_source_tokens::refusal::Refusal;
+use pb_source_tokens::symbol::Placed;
 use std::alloc::{AllocError, Global};
 
 /// Reads the type of a method, and whether it is a stream.

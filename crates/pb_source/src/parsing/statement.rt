@@ -1,7 +1,7 @@
 //! Statements, as they were read.
 
 use pb_declarations::{EnumDecl, FieldDecl, MessageDecl, ServiceDecl, TypeCode};
-use pb_tokens::parsing::types::TypeSaid;
+use pb_source_tokens::parsing::types::TypeSaid;
 
 /// A map: `map < key , value > name = number`.
 #[derive(Drop)]

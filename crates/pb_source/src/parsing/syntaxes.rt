@@ -4,7 +4,7 @@ ghost use Rattle.std.specs.Prelude.{◌≡◌};
 ghost use Rattle.pb_source.specs.Syntaxes.{is_lenient, is_proto2, optional_label};
 
 use crate::kind::Label;
-use pb_tokens::grammar::{Grammar, Syntax};
+use pb_source_tokens::grammar::{Grammar, Syntax};
 
 /// Whether the grammar is lenient.
 pub(crate) fn is_lenient(grammar: Grammar) -> bool

@@ -8,7 +8,7 @@ use Rattle.pb_compat.proofs.comparing.compare_pairs.Goals as goal
 pub loop-from-init : goal.loop-from-init
 loop-from-init c =
     subst (λ cs. AreCompared c.args.old.now c.args.new.now c.args.starts.now c.in_ok-pairs.pairs cs) (sym c.new-compared.ensures.items)
-    (compared_none c.args.old.now c.args.new.now c.args.starts.now c.in_ok-pairs.pairs (c.in_ok-pairs.ensures c.args.old.now c.args.new.now c.requires))
+    (compared_none c.args.old.now c.args.new.now c.args.starts.now c.in_ok-pairs.pairs (c.in_ok-pairs.ensures c.args.old.now c.args.new.now c.requires.differ c.requires.within))
 
 pub compare_types-requires-clause-old : goal.compare_types-requires-clause-old
 compare_types-requires-clause-old c =

@@ -2,7 +2,7 @@
 use Rattle.pb_value.specs.Derives.{Text}
 use Rattle.pb_value.specs.Dynamic.{Dynamic}
 use Rattle.pb_value.specs.View.{body_view}
-use Rattle.pb_whole.proofs.Top.{nothing_good}
+use Rattle.pb_decode_whole.proofs.Top.{nothing_good}
 use Rattle.pb_decode.specs.Onto.{IsTextOnto}
 use Rattle.pb_decode.proofs.Outcomes.{ok_weaker}
 use Rattle.pb_decode.proofs.OntoText.{text_onto_none}

@@ -1,5 +1,5 @@
 use Rattle.std.proofs.Common.{◌∙◌}
-use Rattle.pb_building.proofs.PlaceLemmas.{slice_from}
+use Rattle.pb_decode_parts.proofs.PlaceLemmas.{slice_from}
 use Rattle.pb_decode.proofs.push.rest_of.Goals as goal
 
 pub returns : goal.returns

@@ -9,7 +9,7 @@ use Rattle.pb_wire.specs.Ranges.{IsByte, AreBytes}
 use Rattle.pb_decode.specs.Reader.{state_view, Reads, Stops, Reported}
 use Rattle.pb_decode.proofs.ReaderLemmas.{if_fault_weaker}
 use Rattle.pb_decode.proofs.PieceLemmas.{next_given, last_given, all_given, reads_rest, part_bytes, reported_on}
-use Rattle.pb_building.proofs.AnswerLemmas.{none_held}
+use Rattle.pb_decode_parts.proofs.AnswerLemmas.{none_held}
 use Rattle.pb_decode.proofs.push.take_piece.Goals as goal
 
 pub take_joined-requires-clause-reading : goal.take_joined-requires-clause-reading

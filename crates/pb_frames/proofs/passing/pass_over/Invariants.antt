@@ -6,6 +6,7 @@ abbrev pub invariant-passing : goal.invariant-passing
 invariant-passing g l = record {
   in_range : l.done ≤ l.count;
   taken : Takes l.done (g.I.Input.left l.initial.input) (g.I.Input.left l.input);
+  kept : g.I.Input.failures l.input ≡ g.I.Input.failures l.initial.input;
   steady : g.I.Input.is_steady l.initial.input ≡ true → g.I.Input.is_steady l.input ≡ true;
 }
 

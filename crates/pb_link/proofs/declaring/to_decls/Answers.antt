@@ -7,7 +7,7 @@ use Rattle.pb_descr.specs.Writable.{IsWithinLimits}
 use Rattle.pb_descr.specs.Writing.{set_body}
 use Rattle.pb_link.specs.Linking.{Links}
 use Rattle.pb_link.specs.ToDecls.{decls_of}
-use Rattle.pb_rules.proofs.WorldLemmas.{a_world}
+use Rattle.pb_link_rules.proofs.WorldLemmas.{a_world}
 use Rattle.pb_link.proofs.DeclaredPoolLemmas.{nothing_fails}
 use Rattle.pb_link.proofs.PoolAgainLemmas.{pool_again}
 use Rattle.pb_link.proofs.SilentDeclaredLemmas.{declared_silent}

@@ -1,7 +1,7 @@
 use Rattle.std.proofs.Common.{◌≡◌, rules, map, ap, ◌∙◌}
 use Rattle.pb_declarations.specs.View.{file_view}
-use Rattle.pb_names.specs.View.{declaration_view, type_names_view}
-use Rattle.pb_rules.specs.Rules.{lookups}
+use Rattle.pb_link_names.specs.View.{declaration_view, type_names_view}
+use Rattle.pb_link_rules.specs.Rules.{lookups}
 use Rattle.pb_link.proofs.LinkLemmas.{as_many, judged_linked}
 use Rattle.pb_link.proofs.pools.pool_of_names.Goals as goal
 

@@ -1,6 +1,6 @@
 use Rattle.std.proofs.Common.{map, ap, ◌∙◌}
 use Rattle.pb_declarations.specs.View.{file_view}
-use Rattle.pb_names.specs.View.{declaration_view, type_names_view}
+use Rattle.pb_link_names.specs.View.{declaration_view, type_names_view}
 use Rattle.pb_link.proofs.ResolvedLemmas.{files_resolved, resolved_same}
 use Rattle.pb_link.proofs.resolving.resolve.Goals as goal
 

@@ -2,11 +2,11 @@ use Rattle.std.proofs.Common.{◌≡◌, ◌≤◌, ℕ, List, length, ap, sym, 
 use Rattle.std.proofs.lemmas.Result.{err_from_is_err_and}
 use Rattle.pb_declarations.specs.Decls.{DeclaredFile}
 use Rattle.pb_declarations.specs.View.{file_view}
-use Rattle.pb_tokens.specs.declared.fault.SourceCause.{SourceCause}
-use Rattle.pb_tokens.specs.declared.fault.SourceFault.{SourceFault}
+use Rattle.pb_source_tokens.specs.declared.fault.SourceCause.{SourceCause}
+use Rattle.pb_source_tokens.specs.declared.fault.SourceFault.{SourceFault}
 use Rattle.pb_source.specs.declared.reading.Reading.{Reading}
-use Rattle.pb_tokens.specs.Language.{all_rules}
-use Rattle.pb_tokens.specs.Readers.Given.{symbols_from, Fails}
+use Rattle.pb_source_tokens.specs.Language.{all_rules}
+use Rattle.pb_source_tokens.specs.Readers.Given.{symbols_from, Fails}
 use Rattle.pb_source.specs.Readers.Lines.{file_reader}
 use Rattle.pb_source.specs.Source.{IsSourceIn, HasFaultIn}
 use Rattle.pb_source.specs.Readers.Reported.{fault_at}

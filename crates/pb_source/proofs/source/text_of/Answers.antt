@@ -1,5 +1,5 @@
 use Rattle.std.proofs.Common.{sym, subst, ◌∙◌}
-use Rattle.pb_tokens.specs.declared.fault.SourceCause.TheVariants.{BadUtf8}
+use Rattle.pb_source_tokens.specs.declared.fault.SourceCause.TheVariants.{BadUtf8}
 use Rattle.pb_source.specs.Source.{HasFaultIn}
 use Rattle.pb_source.proofs.SourceLaws.{bad_utf8_only}
 use Rattle.pb_source.proofs.source.text_of.Goals as goal

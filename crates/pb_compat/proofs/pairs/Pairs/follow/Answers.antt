@@ -1,6 +1,7 @@
 use Rattle.std.proofs.Common.{◌≡◌, ◌<◌, ◌++◌, ◌∷◌, [], take, get_or, length, ℕ, ◌+◌, sym, subst, arith}
 use Rattle.std.proofs.lemmas.List.{take_more}
 use Rattle.pb_compat.specs.Walk.{Follows}
+use Rattle.pb_compat.proofs.NumberLemmas.{every_number, next_number}
 use Rattle.pb_compat.proofs.WalkLemmas.{follow_none, follow_past, follow_to}
 use Rattle.pb_compat.proofs.pairs.Pairs.follow.Goals as goal
 use Rattle.pb_compat.proofs.pairs.Pairs.follow.Goals.{in-Some+in_ok-add, in_default}
@@ -21,7 +22,8 @@ loop-number-preserved c =
     subst (λ ms. Follows old new c.args.index p ms c.args.self.now c.match-pair_at.self) (sym longer)
     (elim c.match-pair_at.branch as (λ b. Follows old new c.args.index p (take j ns ++ n ∷ []) c.args.self.now c.match-pair_at.self) [
       | in-Some+in_ok-add w ↦ subst (λ b. Follows old new c.args.index p (take j ns ++ n ∷ []) c.args.self.now b) (sym w.self-is)
-          (follow_to old new c.args.index p w.in-Some.pair (take j ns) n c.args.self.now c.loop-number.self w.add.new.self c.loop-number.invariant (sym w.in-Some.ensures.leads) (w.in-Some.ensures.old, w.in-Some.ensures.new) w.in_ok-add.ensures)
+          (follow_to old new c.args.index p w.in-Some.pair ns (take j ns) n c.args.self.now c.loop-number.self w.add.new.self c.loop-number.invariant
+          (next_number old new p ns c.requires.rising j within) (every_number old new p ns c.requires.rising) (sym w.in-Some.ensures.leads) (w.in-Some.ensures.old, w.in-Some.ensures.new) w.in_ok-add.ensures)
       | in_default w ↦ subst (λ b. Follows old new c.args.index p (take j ns ++ n ∷ []) c.args.self.now b) (sym w.self-is)
           (follow_past old new c.args.index p (take j ns) n c.args.self.now c.loop-number.self c.loop-number.invariant (sym w.in_default.ensures.leads))
     ])

@@ -1,6 +1,6 @@
 use Rattle.std.proofs.Common.{◌≡◌, map, take}
-use Rattle.pb_building.specs.Open.Parents.{next_step}
-use Rattle.pb_building.specs.Open.PartView.{scope_view}
+use Rattle.pb_decode_parts.specs.Open.Parents.{next_step}
+use Rattle.pb_decode_parts.specs.Open.PartView.{scope_view}
 use Rattle.pb_decode.proofs.reader.fault.parent_steps.Given as goal
 
 abbrev pub invariant-loop-parent : goal.invariant-loop-parent

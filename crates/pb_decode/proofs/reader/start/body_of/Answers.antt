@@ -1,5 +1,5 @@
 use Rattle.std.proofs.Common.{ap}
-use Rattle.pb_building.specs.Open.PartView.{part_view}
+use Rattle.pb_decode_parts.specs.Open.PartView.{part_view}
 use Rattle.pb_decode.proofs.reader.start.body_of.Goals as goal
 
 pub returns-in-Message-clause-message : goal.returns-in-Message-clause-message

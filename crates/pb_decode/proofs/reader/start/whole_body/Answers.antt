@@ -8,8 +8,8 @@ use Rattle.pb_value.specs.Data.{Message}
 use Rattle.pb_value.specs.View.{body_view}
 use Rattle.pb_value.specs.WellFormed.{IsWellFormed}
 use Rattle.pb_decode.specs.declared.error.DecodeError.{DecodeError}
-use Rattle.pb_building.specs.Open.Parents.{message_part}
-use Rattle.pb_building.specs.Open.PartView.{part_view}
+use Rattle.pb_decode_parts.specs.Open.Parents.{message_part}
+use Rattle.pb_decode_parts.specs.Open.PartView.{part_view}
 use Rattle.pb_decode.specs.Reader.{state_view, path_here, IfFault}
 use Rattle.pb_decode.specs.Reader.Start.{BadFrom, IsWhole}
 use Rattle.pb_decode.proofs.ReaderLemmas.{if_fault_weaker}

@@ -1,5 +1,5 @@
 use Rattle.pb_link.specs.ToDecls.{decls_of}
-use Rattle.pb_rules.proofs.WorldLemmas.{a_world}
+use Rattle.pb_link_rules.proofs.WorldLemmas.{a_world}
 use Rattle.pb_link.proofs.DeclaredPoolLemmas.{nothing_fails}
 use Rattle.pb_link.proofs.PoolAgainLemmas.{pool_again}
 use Rattle.pb_link.proofs.declaring.order.declared_pool.Goals as goal

@@ -2,7 +2,7 @@ use Rattle.std.proofs.Common.{map, ap, ◌∙◌}
 use Rattle.pb_schema.specs.View.{file_view}
 use Rattle.pb_declarations.specs.View.{file_view as declared_view}
 use Rattle.pb_graphs.specs.Flat.{lists_of}
-use Rattle.pb_names.specs.Sees.{file_of}
+use Rattle.pb_link_names.specs.Sees.{file_of}
 use Rattle.pb_link.proofs.PartLemmas.{copied_more, copied_all, imports_at}
 use Rattle.pb_link.proofs.pools.files.files_of.Goals as goal
 

@@ -1,7 +1,7 @@
 use Rattle.std.proofs.Common.{◌≡◌, map, take}
 use Rattle.pb_schema.specs.View.{file_view}
 use Rattle.pb_declarations.specs.View.{file_view as declared_view}
-use Rattle.pb_names.specs.Sees.{file_of}
+use Rattle.pb_link_names.specs.Sees.{file_of}
 use Rattle.pb_link.proofs.pools.files.files_of.Given as goal
 
 abbrev pub invariant-loop-index : goal.invariant-loop-index

@@ -1,5 +1,5 @@
 use Rattle.std.proofs.Common.{◌≡◌, ◌++◌, ◌≤◌, map, drop}
-use Rattle.pb_names.specs.View.{declaration_view}
+use Rattle.pb_link_names.specs.View.{declaration_view}
 use Rattle.pb_declarations.specs.View.{file_view}
 use Rattle.pb_link.specs.Pools.{kinds_from}
 use Rattle.pb_link.proofs.pools.tables.kinds.Given as goal

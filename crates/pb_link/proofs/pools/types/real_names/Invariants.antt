@@ -2,7 +2,7 @@ use Rattle.std.proofs.Common.{◌≡◌, ℕ, ◌<◌, ◌++◌, length, map, dr
 use Rattle.std.specs.Prelude.{string_bytes}
 use Rattle.std.specs.List.{slice_index_or}
 use Rattle.pb_declarations.specs.Decls.{MessageHead}
-use Rattle.pb_names.specs.Declarations.{is_synthetic}
+use Rattle.pb_link_names.specs.Declarations.{is_synthetic}
 use Rattle.pb_link.specs.Pools.{real_from}
 use Rattle.pb_link.proofs.pools.types.real_names.Given as goal
 

@@ -1,6 +1,6 @@
 use Rattle.std.proofs.Common.{map, ap, ◌∙◌}
 use Rattle.pb_declarations.specs.View.{field_view}
-use Rattle.pb_names.specs.View.{declaration_view}
+use Rattle.pb_link_names.specs.View.{declaration_view}
 use Rattle.pb_link.specs.Resolving.{coming, first_type, field_read, behind_one}
 use Rattle.pb_link.specs.Resolved.{field_of_type}
 use Rattle.pb_link.proofs.ResolvingLemmas.{read_more, read_end, behind_more, behind_end}

@@ -1,6 +1,6 @@
 use Rattle.std.proofs.Common.{◌≡◌, ◌++◌, map, drop}
 use Rattle.pb_declarations.specs.View.{field_view}
-use Rattle.pb_names.specs.View.{declaration_view}
+use Rattle.pb_link_names.specs.View.{declaration_view}
 use Rattle.pb_link.specs.Resolving.{coming, fields_read, each_behind, behind_one}
 use Rattle.pb_link.proofs.resolving.fields.resolve_fields.Given as goal
 

@@ -2,7 +2,7 @@ use Rattle.std.proofs.Common.{◌≡◌, map, drop, ap, ◌∙◌, rules}
 use Rattle.std.specs.Prelude.{string_bytes}
 use Rattle.pb_declarations.specs.Decls.{messages_of}
 use Rattle.pb_declarations.specs.View.{enum_view, message_view, service_view, file_view}
-use Rattle.pb_names.specs.View.{declaration_view}
+use Rattle.pb_link_names.specs.View.{declaration_view}
 use Rattle.pb_link.specs.Resolving.{coming, message_read, services_read, each_read, each_behind, behind_message, behind_messages, behind_enum, behind_service, behind_types}
 use Rattle.pb_link.proofs.ResolvingLemmas.{messages_listed, messages_behind}
 use Rattle.pb_link.proofs.resolving.files.resolve_file.Goals as goal

@@ -1,6 +1,6 @@
 use Rattle.std.proofs.Common.{map}
 use Rattle.pb_declarations.specs.View.{file_view}
-use Rattle.pb_names.specs.View.{declaration_view}
+use Rattle.pb_link_names.specs.View.{declaration_view}
 use Rattle.pb_link.specs.Resolving.{coming, file_read, behind_file}
 use Rattle.pb_link.proofs.ResolvingLemmas.{read_more, read_end}
 use Rattle.pb_link.proofs.resolving.files.resolve_files.Goals as goal

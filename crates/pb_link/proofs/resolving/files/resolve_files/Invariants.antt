@@ -1,6 +1,6 @@
 use Rattle.std.proofs.Common.{◌≡◌, ◌++◌, map, drop}
 use Rattle.pb_declarations.specs.View.{file_view}
-use Rattle.pb_names.specs.View.{declaration_view, type_names_view}
+use Rattle.pb_link_names.specs.View.{declaration_view, type_names_view}
 use Rattle.pb_link.specs.Resolving.{coming, files_read}
 use Rattle.pb_link.proofs.resolving.files.resolve_files.Given as goal
 

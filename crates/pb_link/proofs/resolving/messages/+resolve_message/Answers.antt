@@ -5,11 +5,11 @@ use Rattle.pb_declarations.specs.Decls.{messages_of}
 use Rattle.pb_declarations.specs.View.{field_view, enum_view, message_view}
 use Rattle.pb_declarations.proofs.ViewLemmas.{message_view-roll}
 use Rattle.pb_declarations.specs.declared.decl.MessageDecl.{out-MessageDecl}
-use Rattle.pb_names.specs.Declarations.{head_of}
-use Rattle.pb_names.specs.View.{declaration_view}
+use Rattle.pb_link_names.specs.Declarations.{head_of}
+use Rattle.pb_link_names.specs.View.{declaration_view}
 use Rattle.pb_link.specs.Resolving.{coming, fields_read, message_read, behind_message}
 use Rattle.pb_link.proofs.ResolvingLemmas.{read_more, read_end, behind_more, behind_end, message_made, message_went, head_went}
-use Rattle.pb_names.proofs.ViewLemmas.{inner_of-view, name_of-view, enums_of-view, fields_of-view, oneofs_of-view, reserved_of-view, reserved_names_of-view}
+use Rattle.pb_link_names.proofs.ViewLemmas.{inner_of-view, name_of-view, enums_of-view, fields_of-view, oneofs_of-view, reserved_of-view, reserved_names_of-view}
 use Rattle.pb_declarations.proofs.ViewLemmas.{message_view-parts}
 use Rattle.pb_link.proofs.resolving.messages.+resolve_message.Goals as goal
 

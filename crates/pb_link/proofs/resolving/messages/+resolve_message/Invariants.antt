@@ -1,6 +1,6 @@
 use Rattle.std.proofs.Common.{◌≡◌, ◌++◌, map, drop}
 use Rattle.pb_declarations.specs.View.{message_view}
-use Rattle.pb_names.specs.View.{declaration_view}
+use Rattle.pb_link_names.specs.View.{declaration_view}
 use Rattle.pb_link.specs.Resolving.{coming, message_read, each_read, each_behind, behind_message}
 use Rattle.pb_link.proofs.resolving.messages.+resolve_message.Given as goal
 

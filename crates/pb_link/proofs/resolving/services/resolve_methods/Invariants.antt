@@ -1,6 +1,6 @@
 use Rattle.std.proofs.Common.{◌≡◌, ◌++◌, map, drop}
 use Rattle.pb_declarations.specs.View.{method_view}
-use Rattle.pb_names.specs.View.{declaration_view}
+use Rattle.pb_link_names.specs.View.{declaration_view}
 use Rattle.pb_link.specs.Resolving.{coming, methods_read, each_behind, behind_one}
 use Rattle.pb_link.proofs.resolving.services.resolve_methods.Given as goal
 

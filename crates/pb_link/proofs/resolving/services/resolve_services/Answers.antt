@@ -1,6 +1,6 @@
 use Rattle.std.proofs.Common.{map}
 use Rattle.pb_declarations.specs.View.{service_view}
-use Rattle.pb_names.specs.View.{declaration_view}
+use Rattle.pb_link_names.specs.View.{declaration_view}
 use Rattle.pb_link.specs.Resolving.{coming, service_read, behind_service}
 use Rattle.pb_link.proofs.ResolvingLemmas.{read_more, read_end, behind_more, behind_end}
 use Rattle.pb_link.proofs.resolving.services.resolve_services.Goals as goal

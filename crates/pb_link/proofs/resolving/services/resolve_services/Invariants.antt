@@ -1,6 +1,6 @@
 use Rattle.std.proofs.Common.{◌≡◌, ◌++◌, map, drop}
 use Rattle.pb_declarations.specs.View.{service_view}
-use Rattle.pb_names.specs.View.{declaration_view}
+use Rattle.pb_link_names.specs.View.{declaration_view}
 use Rattle.pb_link.specs.Resolving.{coming, services_read, each_behind, behind_service}
 use Rattle.pb_link.proofs.resolving.services.resolve_services.Given as goal
 

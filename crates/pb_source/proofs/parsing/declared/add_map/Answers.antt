@@ -1,5 +1,5 @@
 use Rattle.std.proofs.Common.{ap, ◌∙◌}
-use Rattle.pb_tokens.specs.PhraseView.{type_view}
+use Rattle.pb_source_tokens.specs.PhraseView.{type_view}
 use Rattle.pb_source.specs.Meaning.{entry_of}
 use Rattle.pb_source.specs.StatementView.{map_view}
 use Rattle.pb_source.proofs.PartSteps.{holds_map}

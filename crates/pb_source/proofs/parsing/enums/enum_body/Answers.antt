@@ -1,7 +1,7 @@
 use Rattle.std.proofs.Common.{[], ◌∷◌, ◌++◌, codes, sym, ◌∙◌, arith}
 use Rattle.std.proofs.lemmas.Result.{err_from_is_err_and}
-use Rattle.pb_tokens.specs.Readers.Forms.{mark_reader}
-use Rattle.pb_tokens.proofs.UntilSteps.{starts, goes_on, refuses, ends}
+use Rattle.pb_source_tokens.specs.Readers.Forms.{mark_reader}
+use Rattle.pb_source_tokens.proofs.UntilSteps.{starts, goes_on, refuses, ends}
 use Rattle.pb_source.specs.Meaning.{enum_of}
 use Rattle.pb_source.specs.StatementView.{enum_statement_view}
 use Rattle.pb_source.specs.Readers.Lines.{is_closing, enum_statement_reader}

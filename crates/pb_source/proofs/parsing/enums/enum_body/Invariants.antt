@@ -1,7 +1,7 @@
 use Rattle.std.proofs.Common.{◌≡◌, ◌-◌, List, length, codes}
 use Rattle.pb_declarations.specs.View.{enum_view}
-use Rattle.pb_tokens.specs.Readers.Forms.{mark_reader}
-use Rattle.pb_tokens.proofs.UntilSteps.{HasRead}
+use Rattle.pb_source_tokens.specs.Readers.Forms.{mark_reader}
+use Rattle.pb_source_tokens.proofs.UntilSteps.{HasRead}
 use Rattle.pb_source.specs.Meaning.{EnumStatement, enum_of}
 use Rattle.pb_source.specs.Readers.Lines.{is_closing, enum_statement_reader}
 use Rattle.pb_source.proofs.parsing.enums.enum_body.Given as goal

@@ -1,7 +1,7 @@
 use Rattle.std.proofs.Common.{refl, ap, Ok}
 use Rattle.std.proofs.lemmas.Result.{err_from_is_err_and}
-use Rattle.pb_tokens.specs.Readers.Given.{symbols_from}
-use Rattle.pb_tokens.proofs.UntilSteps.{before_map, fails_before}
+use Rattle.pb_source_tokens.specs.Readers.Given.{symbols_from}
+use Rattle.pb_source_tokens.proofs.UntilSteps.{before_map, fails_before}
 use Rattle.pb_source.specs.Meaning.{enum_of}
 use Rattle.pb_source.specs.Readers.Lines.{enum_reader}
 use Rattle.pb_source.proofs.parsing.enums.enum_line.Goals as goal

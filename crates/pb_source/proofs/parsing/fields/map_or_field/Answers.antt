@@ -1,8 +1,8 @@
 use Rattle.std.proofs.Common.{suc, sym, ◌∙◌, arith}
 use Rattle.std.proofs.lemmas.Result.{err_from_is_err_and}
-use Rattle.pb_tokens.specs.Language.{all_rules}
-use Rattle.pb_tokens.specs.Readers.Given.{symbols_from}
-use Rattle.pb_tokens.proofs.UntilSteps.{mapped_fails, mapped_reads}
+use Rattle.pb_source_tokens.specs.Language.{all_rules}
+use Rattle.pb_source_tokens.specs.Readers.Given.{symbols_from}
+use Rattle.pb_source_tokens.proofs.UntilSteps.{mapped_fails, mapped_reads}
 use Rattle.pb_source.specs.Readers.Lines.{a_single}
 use Rattle.pb_source.proofs.Bridges.{map_is_field}
 use Rattle.pb_source.proofs.parsing.fields.map_or_field.Goals as goal

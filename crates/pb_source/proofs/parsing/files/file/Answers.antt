@@ -1,6 +1,6 @@
 use Rattle.std.proofs.Common.{refl}
 use Rattle.std.proofs.lemmas.Result.{err_from_is_err_and}
-use Rattle.pb_tokens.proofs.UntilSteps.{fails_on, mapped_fails, mapped_reads}
+use Rattle.pb_source_tokens.proofs.UntilSteps.{fails_on, mapped_fails, mapped_reads}
 use Rattle.pb_source.specs.Readers.Lines.{file_reader}
 use Rattle.pb_source.proofs.parsing.files.file.Goals as goal
 

@@ -1,11 +1,11 @@
 use Rattle.std.proofs.Common.{◌≡◌, ◌<◌, ℕ, List, [], ◌∷◌, ◌++◌, ◌&&◌, map, codes, refl, ap, sym, subst, ◌∙◌, true, false, Some, None, option_map, Ok, arith, rules}
 use Rattle.pb_declarations.specs.View.{message_view}
 use Rattle.std.proofs.lemmas.Result.{err_from_is_err_and}
-use Rattle.pb_tokens.specs.SymbolView.{symbol_of}
-use Rattle.pb_tokens.specs.Language.{all_rules}
-use Rattle.pb_tokens.specs.Readers.Forms.{first_passes, mapped, mark_reader}
-use Rattle.pb_tokens.specs.Readers.Given.{symbols_from, Fails}
-use Rattle.pb_tokens.proofs.UntilSteps.{fails_on, mapped_fails, mapped_reads, before_map, fails_before, starts, goes_on, refuses, ends}
+use Rattle.pb_source_tokens.specs.SymbolView.{symbol_of}
+use Rattle.pb_source_tokens.specs.Language.{all_rules}
+use Rattle.pb_source_tokens.specs.Readers.Forms.{first_passes, mapped, mark_reader}
+use Rattle.pb_source_tokens.specs.Readers.Given.{symbols_from, Fails}
+use Rattle.pb_source_tokens.proofs.UntilSteps.{fails_on, mapped_fails, mapped_reads, before_map, fails_before, starts, goes_on, refuses, ends}
 use Rattle.pb_source.specs.Syntaxes.{is_proto2}
 use Rattle.pb_source.specs.declared.kind.Label.TheVariants.{Unlabelled}
 use Rattle.pb_source.specs.declared.kind.OneofKind.TheVariants as in_a_oneof

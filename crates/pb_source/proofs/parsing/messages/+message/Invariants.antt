@@ -1,8 +1,8 @@
 use Rattle.std.proofs.Common.{◌≡◌, ◌+◌, ◌-◌, ◌*◌, List, Option, length, codes, map}
 use Rattle.pb_declarations.specs.Decls.{DeclaredMessage}
 use Rattle.pb_declarations.specs.View.{message_view}
-use Rattle.pb_tokens.specs.Readers.Forms.{mark_reader}
-use Rattle.pb_tokens.proofs.UntilSteps.{HasRead}
+use Rattle.pb_source_tokens.specs.Readers.Forms.{mark_reader}
+use Rattle.pb_source_tokens.proofs.UntilSteps.{HasRead}
 use Rattle.pb_source.specs.Meaning.{Member, MessageStatement, those_said}
 use Rattle.pb_source.specs.PartsView.{HoldsSaid}
 use Rattle.pb_source.specs.StatementView.{member_view}

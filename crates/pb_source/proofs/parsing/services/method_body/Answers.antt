@@ -1,7 +1,7 @@
 use Rattle.std.proofs.Common.{[], ◌∷◌, ◌++◌, codes, sym, ◌∙◌, arith}
 use Rattle.std.proofs.lemmas.Result.{err_from_is_err_and}
-use Rattle.pb_tokens.specs.Readers.Forms.{mark_reader}
-use Rattle.pb_tokens.proofs.UntilSteps.{starts, goes_on, refuses, ends}
+use Rattle.pb_source_tokens.specs.Readers.Forms.{mark_reader}
+use Rattle.pb_source_tokens.proofs.UntilSteps.{starts, goes_on, refuses, ends}
 use Rattle.pb_source.specs.Readers.Lines.{is_closing, method_statement_reader}
 use Rattle.pb_source.proofs.NoStatement.{no_method_statement}
 use Rattle.pb_source.proofs.parsing.services.method_body.Goals as goal

@@ -1,6 +1,6 @@
 use Rattle.std.proofs.Common.{◌-◌, List, length, codes}
-use Rattle.pb_tokens.specs.Readers.Forms.{mark_reader}
-use Rattle.pb_tokens.proofs.UntilSteps.{HasRead}
+use Rattle.pb_source_tokens.specs.Readers.Forms.{mark_reader}
+use Rattle.pb_source_tokens.proofs.UntilSteps.{HasRead}
 use Rattle.pb_source.specs.Readers.Lines.{is_closing, method_statement_reader}
 use Rattle.pb_source.proofs.parsing.services.method_body.Given as goal
 

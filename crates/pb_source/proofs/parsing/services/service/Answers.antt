@@ -2,9 +2,9 @@ use Rattle.std.proofs.Common.{ℕ, List, map, refl, ap, sym, Ok}
 use Rattle.std.proofs.lemmas.Result.{err_from_is_err_and}
 use Rattle.pb_declarations.specs.Decls.{DeclaredService}
 use Rattle.pb_declarations.specs.View.{method_view}
-use Rattle.pb_tokens.specs.Readers.Forms.{Outcome}
-use Rattle.pb_tokens.specs.Readers.Given.{symbols_from}
-use Rattle.pb_tokens.proofs.UntilSteps.{before_map, fails_before}
+use Rattle.pb_source_tokens.specs.Readers.Forms.{Outcome}
+use Rattle.pb_source_tokens.specs.Readers.Given.{symbols_from}
+use Rattle.pb_source_tokens.proofs.UntilSteps.{before_map, fails_before}
 use Rattle.pb_source.specs.Meaning.{those_said}
 use Rattle.pb_source.specs.Readers.Lines.{service_reader}
 use Rattle.pb_source.proofs.parsing.services.service.Goals as goal

@@ -1,8 +1,8 @@
 use Rattle.std.proofs.Common.{◌≡◌, ◌-◌, List, Option, length, codes, map}
 use Rattle.pb_declarations.specs.Decls.{DeclaredMethod}
 use Rattle.pb_declarations.specs.View.{method_view}
-use Rattle.pb_tokens.specs.Readers.Forms.{mark_reader}
-use Rattle.pb_tokens.proofs.UntilSteps.{HasRead}
+use Rattle.pb_source_tokens.specs.Readers.Forms.{mark_reader}
+use Rattle.pb_source_tokens.proofs.UntilSteps.{HasRead}
 use Rattle.pb_source.specs.Meaning.{those_said}
 use Rattle.pb_source.specs.Readers.Lines.{is_closing, service_statement_reader}
 use Rattle.pb_source.proofs.parsing.services.service_body.Given as goal

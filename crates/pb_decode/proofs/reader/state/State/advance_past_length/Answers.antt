@@ -1,10 +1,10 @@
 -- What is opened is the innermost part, or elements or a payload come next in the same part.
 use Rattle.std.proofs.Common.{refl, sym, ap, subst, ◌∙◌, ◌+◌, ℕ, arith}
 use Rattle.pb_wire.specs.Grammar.{payload_at}
-use Rattle.pb_building.specs.declared.open.target.Target.{Target}
-use Rattle.pb_building.specs.declared.tokens.step.Step.TheVariants as step
-use Rattle.pb_building.specs.Open.PartView.{part_view, scope_view}
-use Rattle.pb_building.specs.Tokens.After.{After}
+use Rattle.pb_decode_parts.specs.declared.open.target.Target.{Target}
+use Rattle.pb_decode_parts.specs.declared.tokens.step.Step.TheVariants as step
+use Rattle.pb_decode_parts.specs.Open.PartView.{part_view, scope_view}
+use Rattle.pb_decode_parts.specs.Tokens.After.{After}
 use Rattle.pb_decode.specs.Reader.{parents_view, weight}
 use Rattle.pb_decode.proofs.LengthSteps.{entered, after_here}
 use Rattle.pb_decode.proofs.reader.state.State.advance_past_length.Goals as goal

@@ -3,13 +3,13 @@ use Rattle.std.proofs.Common.{ℕ, ◌+◌, ◌++◌, ◌∷◌, [], refl, sym, 
 use Rattle.pb_wire.specs.Fault.{fault, HasTag}
 use Rattle.pb_wire.specs.Scan.{passed}
 use Rattle.pb_wire.specs.declared.fault.Cause.TheVariants.{TooDeep}
-use Rattle.pb_building.specs.Open.Openings.{innermost_group}
-use Rattle.pb_building.specs.Open.Parents.{path_of, next_step}
+use Rattle.pb_decode_parts.specs.Open.Openings.{innermost_group}
+use Rattle.pb_decode_parts.specs.Open.Parents.{path_of, next_step}
 use Rattle.pb_decode.specs.Reader.{state_view, here, path_here}
 use Rattle.pb_decode.proofs.ReaderLemmas.{fault_reported}
 use Rattle.pb_decode.proofs.ElementLemmas.{after_reads}
 use Rattle.pb_decode.proofs.EndedLemmas.{has_reached, ends_group}
-use Rattle.pb_building.proofs.TokenReports.{end_reported}
+use Rattle.pb_decode_parts.proofs.TokenReports.{end_reported}
 use Rattle.pb_decode.proofs.TagTaken.{refused_at_tag}
 use Rattle.pb_decode.proofs.WholeRecords.{tag_can}
 use Rattle.pb_decode.proofs.reader.state.State.advance_past_tag.Goals as goal

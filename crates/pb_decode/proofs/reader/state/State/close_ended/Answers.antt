@@ -1,7 +1,7 @@
 -- Part by part the reader has read what it had.
 use Rattle.std.proofs.Common.{arith, sym, ap, ◌∙◌}
 use Rattle.std.specs.Prelude.{is_some}
-use Rattle.pb_building.specs.Open.Openings.{innermost_group}
+use Rattle.pb_decode_parts.specs.Open.Openings.{innermost_group}
 use Rattle.pb_decode.specs.Reader.{state_view, parents_view, here, path_here}
 use Rattle.pb_wire.specs.Fault.{fault}
 use Rattle.pb_wire.specs.declared.fault.Cause.TheVariants.{PastEnd}

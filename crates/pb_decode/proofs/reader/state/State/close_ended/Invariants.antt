@@ -1,7 +1,7 @@
 use Rattle.std.proofs.Common.{◌≡◌, ℕ, List, vec_len}
 use Rattle.pb_wire.specs.Record.{Record}
 use Rattle.pb_wire.specs.Fault.{Place}
-use Rattle.pb_building.specs.declared.tokens.step.Step.TheVariants.{Tag}
+use Rattle.pb_decode_parts.specs.declared.tokens.step.Step.TheVariants.{Tag}
 use Rattle.pb_decode.specs.Reader.{state_view, Reads}
 use Rattle.pb_decode.proofs.reader.state.State.close_ended.Given as goal
 

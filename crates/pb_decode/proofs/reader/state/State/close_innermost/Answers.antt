@@ -1,11 +1,11 @@
 -- Where the innermost part ends the reader is in its parent.
 use Rattle.std.proofs.Common.{◌∷◌, ◌+◌, refl, sym, ap, arith}
-use Rattle.pb_building.specs.Open.Parents.{parent_of}
-use Rattle.pb_building.specs.Open.PartView.{part_view, scope_view}
+use Rattle.pb_decode_parts.specs.Open.Parents.{parent_of}
+use Rattle.pb_decode_parts.specs.Open.PartView.{part_view, scope_view}
 use Rattle.pb_decode.specs.Reader.{state_view, parents_view, here}
 use Rattle.pb_decode.proofs.FewRecords.{parent_counts_fit}
 use Rattle.pb_decode.proofs.EndedLemmas.{parents_popped, has_reached, part_closed}
-use Rattle.pb_whole.proofs.Held.{parent_can_hold, part_fits}
+use Rattle.pb_decode_whole.proofs.Held.{parent_can_hold, part_fits}
 use Rattle.pb_decode.proofs.reader.state.State.close_innermost.Goals as goal
 
 pub close_part-requires-clause-can : goal.close_part-requires-clause-can

@@ -1,6 +1,6 @@
 -- The list is a whole record, and the part goes on to its own end.
 use Rattle.std.proofs.Common.{refl}
-use Rattle.pb_building.specs.declared.tokens.step.Step.TheVariants.{Tag}
+use Rattle.pb_decode_parts.specs.declared.tokens.step.Step.TheVariants.{Tag}
 use Rattle.pb_decode.specs.Reader.{state_view}
 use Rattle.pb_decode.proofs.EndedLemmas.{list_ended}
 use Rattle.pb_decode.proofs.reader.state.State.end_list.Goals as goal

@@ -2,7 +2,7 @@
 use Rattle.std.proofs.Common.{ℕ, refl, sym, subst}
 use Rattle.pb_wire.specs.Fault.{HasTag}
 use Rattle.pb_wire.specs.Scan.{passed}
-use Rattle.pb_building.specs.Open.PartView.{part_view}
+use Rattle.pb_decode_parts.specs.Open.PartView.{part_view}
 use Rattle.pb_decode.specs.Reader.{state_view, parents_view, here}
 use Rattle.pb_decode.proofs.EndedLemmas.{has_reached}
 use Rattle.pb_decode.proofs.LengthSteps.{entered}

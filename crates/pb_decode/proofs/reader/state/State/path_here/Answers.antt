@@ -1,8 +1,8 @@
 -- The steps of the parents, and that of the record that is begun.
 use Rattle.std.proofs.Common.{ap, sym, ◌∙◌, ◌++◌, List}
 use Rattle.pb_wire.specs.declared.fault.PathStep.{PathStep}
-use Rattle.pb_building.specs.Open.Parents.{path_of}
-use Rattle.pb_building.specs.Open.PartView.{scope_view}
+use Rattle.pb_decode_parts.specs.Open.Parents.{path_of}
+use Rattle.pb_decode_parts.specs.Open.PartView.{scope_view}
 use Rattle.pb_decode.specs.Reader.{parents_view, own_step}
 use Rattle.pb_decode.proofs.Outcomes.{ok_weaker}
 use Rattle.pb_decode.proofs.PathLemmas.{path_alone}

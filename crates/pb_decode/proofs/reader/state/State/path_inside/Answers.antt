@@ -1,7 +1,7 @@
 -- The steps of the parents, and that of the record.
 use Rattle.std.proofs.Common.{◌∷◌, [], refl}
-use Rattle.pb_building.specs.Open.Parents.{next_step}
-use Rattle.pb_building.specs.Open.PartView.{scope_view}
+use Rattle.pb_decode_parts.specs.Open.Parents.{next_step}
+use Rattle.pb_decode_parts.specs.Open.PartView.{scope_view}
 use Rattle.pb_decode.proofs.PathLemmas.{path_begun}
 use Rattle.pb_decode.proofs.reader.state.State.path_inside.Goals as goal
 

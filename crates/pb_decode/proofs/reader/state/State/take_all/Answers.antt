@@ -3,7 +3,7 @@ use Rattle.std.proofs.Common.{◌-◌, ◌+◌, sym, ap, ◌∙◌, subst, arith
 use Rattle.std.proofs.lemmas.Result.{err_from_is_err_and}
 use Rattle.pb_decode.specs.Reader.{state_view, CanRead, Passes}
 use Rattle.pb_decode.proofs.ReaderLemmas.{reads_slice, reads_ahead, reads_on, taken_none, taken_some}
-use Rattle.pb_building.proofs.PlaceLemmas.{slice_from}
+use Rattle.pb_decode_parts.proofs.PlaceLemmas.{slice_from}
 use Rattle.pb_decode.proofs.WaitLemmas.{none_waits}
 use Rattle.pb_decode.proofs.reader.state.State.take_all.Goals as goal
 

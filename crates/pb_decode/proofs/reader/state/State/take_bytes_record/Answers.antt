@@ -2,12 +2,12 @@
 use Rattle.std.proofs.Common.{ℕ, ◌+◌, refl, sym, subst, arith}
 use Rattle.pb_wire.specs.Fault.{HasTag}
 use Rattle.pb_wire.specs.Scan.{passed}
-use Rattle.pb_building.specs.Open.Parents.{Scope, Reached}
-use Rattle.pb_building.specs.Open.PartView.{part_view, scope_view}
-use Rattle.pb_building.proofs.PlaceLemmas.{slice_size}
+use Rattle.pb_decode_parts.specs.Open.Parents.{Scope, Reached}
+use Rattle.pb_decode_parts.specs.Open.PartView.{part_view, scope_view}
+use Rattle.pb_decode_parts.proofs.PlaceLemmas.{slice_size}
 use Rattle.pb_decode.specs.Reader.{state_view, parents_view, here}
 use Rattle.pb_decode.proofs.ReaderLemmas.{reached_reads}
-use Rattle.pb_whole.proofs.Tags.{bytes_next, payload_leads}
+use Rattle.pb_decode_whole.proofs.Tags.{bytes_next, payload_leads}
 use Rattle.pb_decode.proofs.WholeRecords.{tag_reached, tag_can, tag_few, length_here}
 use Rattle.pb_decode.proofs.reader.state.State.take_bytes_record.Goals as goal
 

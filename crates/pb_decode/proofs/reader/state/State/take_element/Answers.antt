@@ -3,15 +3,15 @@ use Rattle.std.proofs.Common.{ℕ, ◌+◌, Option, ◌∙◌, refl, sym, subst,
 use Rattle.pb_wire.specs.Fault.{fault}
 use Rattle.pb_wire.specs.Scan.{given_at, passed}
 use Rattle.pb_wire.specs.declared.scan.Scanned.TheVariants as token
-use Rattle.pb_building.specs.declared.tokens.step.Step.{Step}
-use Rattle.pb_building.specs.Tokens.Numbers.{TellsNumber}
-use Rattle.pb_building.specs.Tokens.After.{After}
-use Rattle.pb_building.specs.Tokens.Number.{IsNumberType}
-use Rattle.pb_building.specs.Open.PartView.{part_view}
+use Rattle.pb_decode_parts.specs.declared.tokens.step.Step.{Step}
+use Rattle.pb_decode_parts.specs.Tokens.Numbers.{TellsNumber}
+use Rattle.pb_decode_parts.specs.Tokens.After.{After}
+use Rattle.pb_decode_parts.specs.Tokens.Number.{IsNumberType}
+use Rattle.pb_decode_parts.specs.Open.PartView.{part_view}
 use Rattle.pb_decode.specs.Reader.{state_view, here, path_here}
 use Rattle.pb_decode.proofs.ReaderLemmas.{fault_reported}
-use Rattle.pb_building.proofs.NumberTokens.{size_some}
-use Rattle.pb_whole.proofs.ListHolds.{list_can_hold}
+use Rattle.pb_decode_parts.proofs.NumberTokens.{size_some}
+use Rattle.pb_decode_whole.proofs.ListHolds.{list_can_hold}
 use Rattle.pb_decode.proofs.ElementLemmas.{list_types, element_short, element_refused, after_reads}
 use Rattle.pb_decode.proofs.WaitLemmas.{element_waits}
 use Rattle.pb_decode.proofs.reader.state.State.take_element.Goals as goal

@@ -2,7 +2,7 @@
 use Rattle.std.proofs.Common.{ℕ, refl, sym, ◌∙◌, subst}
 use Rattle.pb_wire.specs.Fault.{HasTag}
 use Rattle.pb_wire.specs.Scan.{passed}
-use Rattle.pb_building.specs.Open.Openings.{innermost_group}
+use Rattle.pb_decode_parts.specs.Open.Openings.{innermost_group}
 use Rattle.pb_decode.specs.Reader.{state_view, here}
 use Rattle.pb_decode.proofs.EndedLemmas.{ends_group}
 use Rattle.pb_decode.proofs.reader.state.State.take_group_tag.Goals as goal

@@ -1,7 +1,7 @@
 -- The target says which of them is there.
 use Rattle.std.proofs.Common.{subst}
-use Rattle.pb_building.specs.Open.PartView.{part_view}
-use Rattle.pb_building.specs.Open.Targets.{Means, part_context}
+use Rattle.pb_decode_parts.specs.Open.PartView.{part_view}
+use Rattle.pb_decode_parts.specs.Open.Targets.{Means, part_context}
 use Rattle.pb_decode.proofs.reader.state.State.take_inner.Goals as goal
 
 pub take_message-requires : goal.take_message-requires

@@ -3,13 +3,13 @@ use Rattle.std.proofs.Common.{◌≢◌, [], refl, ap, arith}
 use Rattle.pb_wire.specs.Fault.{Place, fault, input_end, HasLength, LengthFault, VarintFault}
 use Rattle.pb_wire.specs.declared.fault.Cause.TheVariants.{Truncated}
 use Rattle.pb_wire.specs.Scan.{passed}
-use Rattle.pb_building.specs.Tokens.After.{tag, awaited}
+use Rattle.pb_decode_parts.specs.Tokens.After.{tag, awaited}
 use Rattle.pb_decode.specs.Reader.{state_view, here, path_here}
 use Rattle.pb_decode.proofs.ReaderLemmas.{fault_reported}
 use Rattle.pb_decode.proofs.ReaderSafe.{awaited_can}
 use Rattle.pb_decode.proofs.LengthTaken.{at_length, length_fault_reported, length_short}
 use Rattle.pb_decode.proofs.TagTaken.{at_own_left, cut_length}
-use Rattle.pb_building.proofs.NumberTokens.{number_size}
+use Rattle.pb_decode_parts.proofs.NumberTokens.{number_size}
 use Rattle.pb_decode.proofs.WaitLemmas.{length_waits}
 use Rattle.pb_decode.proofs.reader.state.State.take_length.Goals as goal
 

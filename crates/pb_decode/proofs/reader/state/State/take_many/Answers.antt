@@ -3,7 +3,7 @@ use Rattle.std.proofs.Common.{sym, subst, drop, ◌∙◌}
 use Rattle.std.proofs.lemmas.Result.{err_from_is_err_and}
 use Rattle.pb_decode.specs.Reader.{CanRead}
 use Rattle.pb_decode.proofs.ReaderLemmas.{reads_on}
-use Rattle.pb_building.proofs.PlaceLemmas.{slice_from}
+use Rattle.pb_decode_parts.proofs.PlaceLemmas.{slice_from}
 use Rattle.pb_decode.proofs.reader.state.State.take_many.Goals as goal
 
 pub take_ended-requires : goal.take_ended-requires

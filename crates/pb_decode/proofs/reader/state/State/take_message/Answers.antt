@@ -4,12 +4,12 @@ use Rattle.std.specs.Prelude.{false}
 use Rattle.pb_wire.specs.Fault.{HasTag}
 use Rattle.pb_wire.specs.Scan.{given_at, passed}
 use Rattle.pb_value.specs.View.{body_view}
-use Rattle.pb_building.specs.Open.PartView.{part_view, scope_view}
+use Rattle.pb_decode_parts.specs.Open.PartView.{part_view, scope_view}
 use Rattle.pb_decode.specs.Reader.{state_view, parents_view, left_of, here}
-use Rattle.pb_building.specs.Open.Parents.{up_to}
-use Rattle.pb_building.proofs.PlaceLemmas.{slice_from}
-use Rattle.pb_whole.proofs.Held.{part_fits}
-use Rattle.pb_whole.proofs.Payloads.{message_inside, none_left}
+use Rattle.pb_decode_parts.specs.Open.Parents.{up_to}
+use Rattle.pb_decode_parts.proofs.PlaceLemmas.{slice_from}
+use Rattle.pb_decode_whole.proofs.Held.{part_fits}
+use Rattle.pb_decode_whole.proofs.Payloads.{message_inside, none_left}
 use Rattle.pb_decode.proofs.WholeRecords.{tag_few, tag_can, tag_reached, length_here, message_in_reader, inner_passed}
 use Rattle.pb_decode.proofs.reader.state.State.take_message.Goals as goal
 

@@ -3,14 +3,14 @@ use Rattle.std.proofs.Common.{ℕ, ◌+◌, Option, Some, ◌∙◌, refl, sym, 
 use Rattle.pb_wire.specs.Fault.{fault}
 use Rattle.pb_wire.specs.Scan.{given_at, passed}
 use Rattle.pb_wire.specs.declared.scan.Scanned.TheVariants as token
-use Rattle.pb_building.specs.Tokens.Numbers.{TellsNumber}
-use Rattle.pb_building.specs.declared.tokens.step.Step.TheVariants.{Tag}
-use Rattle.pb_building.specs.Open.Parents.{Scope, Reached}
-use Rattle.pb_building.specs.Open.PartView.{part_view, scope_view}
-use Rattle.pb_building.specs.Tokens.After.{tag}
+use Rattle.pb_decode_parts.specs.Tokens.Numbers.{TellsNumber}
+use Rattle.pb_decode_parts.specs.declared.tokens.step.Step.TheVariants.{Tag}
+use Rattle.pb_decode_parts.specs.Open.Parents.{Scope, Reached}
+use Rattle.pb_decode_parts.specs.Open.PartView.{part_view, scope_view}
+use Rattle.pb_decode_parts.specs.Tokens.After.{tag}
 use Rattle.pb_decode.specs.Reader.{state_view, here, path_here}
 use Rattle.pb_decode.proofs.ReaderLemmas.{number_short, number_refused, reached_reads, fault_reported}
-use Rattle.pb_building.proofs.NumberTokens.{size_some}
+use Rattle.pb_decode_parts.proofs.NumberTokens.{size_some}
 use Rattle.pb_decode.proofs.ReaderSafe.{awaited_can, awaited_few}
 use Rattle.pb_decode.proofs.WaitLemmas.{number_waits}
 use Rattle.pb_decode.proofs.reader.state.State.take_number.Goals as goal

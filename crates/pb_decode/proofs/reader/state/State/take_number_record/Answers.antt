@@ -2,15 +2,15 @@
 use Rattle.std.proofs.Common.{ℕ, ◌+◌, ◌-◌, ◌∙◌, Option, Some, option_map, refl, sym, ap, subst, arith, length, length-drop}
 use Rattle.pb_wire.specs.Fault.{Place}
 use Rattle.pb_wire.specs.Scan.{passed}
-use Rattle.pb_building.specs.Tokens.Number.{number_view}
-use Rattle.pb_building.specs.Tokens.Numbers.{Follows}
-use Rattle.pb_building.specs.Open.Parents.{Scope, Reached}
-use Rattle.pb_building.specs.Open.PartView.{part_view, scope_view}
-use Rattle.pb_building.specs.Tokens.After.{tag}
+use Rattle.pb_decode_parts.specs.Tokens.Number.{number_view}
+use Rattle.pb_decode_parts.specs.Tokens.Numbers.{Follows}
+use Rattle.pb_decode_parts.specs.Open.Parents.{Scope, Reached}
+use Rattle.pb_decode_parts.specs.Open.PartView.{part_view, scope_view}
+use Rattle.pb_decode_parts.specs.Tokens.After.{tag}
 use Rattle.pb_decode.specs.Reader.{state_view, parents_view, left_of, here}
 use Rattle.pb_decode.proofs.ReaderLemmas.{reached_reads}
-use Rattle.pb_building.proofs.PlaceLemmas.{slice_from}
-use Rattle.pb_whole.proofs.Tags.{there_after, number_next}
+use Rattle.pb_decode_parts.proofs.PlaceLemmas.{slice_from}
+use Rattle.pb_decode_whole.proofs.Tags.{there_after, number_next}
 use Rattle.pb_decode.proofs.WholeRecords.{tag_reached, tag_can, tag_few}
 use Rattle.pb_decode.proofs.reader.state.State.take_number_record.Goals as goal
 

@@ -3,7 +3,7 @@ use Rattle.std.proofs.Common.{ℕ, refl, subst}
 use Rattle.pb_wire.specs.Fault.{HasTag}
 use Rattle.pb_wire.specs.Scan.{passed}
 use Rattle.pb_decode.specs.Reader.{state_view, here}
-use Rattle.pb_whole.proofs.Tags.{opening_next}
+use Rattle.pb_decode_whole.proofs.Tags.{opening_next}
 use Rattle.pb_decode.proofs.WholeRecords.{tag_reached, tag_can, length_here}
 use Rattle.pb_decode.proofs.reader.state.State.take_opening.Goals as goal
 

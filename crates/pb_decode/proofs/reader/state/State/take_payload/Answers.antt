@@ -4,9 +4,9 @@ use Rattle.std.proofs.lemmas.List.{length-take-le}
 use Rattle.pb_wire.specs.Fault.{fault}
 use Rattle.pb_wire.specs.Scan.{passed}
 use Rattle.pb_wire.specs.declared.fault.Cause.TheVariants.{BadText}
-use Rattle.pb_building.specs.declared.tokens.step.Step.TheVariants.{Tag}
-use Rattle.pb_building.specs.Open.Parents.{Scope, Reached}
-use Rattle.pb_building.specs.Open.PartView.{part_view, scope_view}
+use Rattle.pb_decode_parts.specs.declared.tokens.step.Step.TheVariants.{Tag}
+use Rattle.pb_decode_parts.specs.Open.Parents.{Scope, Reached}
+use Rattle.pb_decode_parts.specs.Open.PartView.{part_view, scope_view}
 use Rattle.pb_decode.specs.Reader.{state_view, here, path_here}
 use Rattle.pb_decode.proofs.ReaderLemmas.{reached_reads, fault_reported}
 use Rattle.pb_decode.proofs.PayloadTaken.{payload_can, payload_few, payload_moves, payload_next, payload_refused, payload_short}

@@ -1,12 +1,12 @@
 -- The elements go into the part of their list.
 use Rattle.std.proofs.Common.{◌+◌, ℕ, Option, refl, sym, subst}
 use Rattle.pb_wire.specs.Scan.{given_at, passed}
-use Rattle.pb_building.specs.declared.tokens.step.Step.{Step}
-use Rattle.pb_building.specs.declared.tokens.step.Step.TheVariants.{Elements}
-use Rattle.pb_building.specs.Open.Parents.{Part}
-use Rattle.pb_building.specs.Values.Run.{put_run}
-use Rattle.pb_building.specs.Open.PartView.{part_view, scope_view}
-use Rattle.pb_building.specs.Tokens.After.{After}
+use Rattle.pb_decode_parts.specs.declared.tokens.step.Step.{Step}
+use Rattle.pb_decode_parts.specs.declared.tokens.step.Step.TheVariants.{Elements}
+use Rattle.pb_decode_parts.specs.Open.Parents.{Part}
+use Rattle.pb_decode_parts.specs.Values.Run.{put_run}
+use Rattle.pb_decode_parts.specs.Open.PartView.{part_view, scope_view}
+use Rattle.pb_decode_parts.specs.Tokens.After.{After}
 use Rattle.pb_decode.specs.Reader.{state_view, parents_view, here}
 use Rattle.pb_decode.proofs.ElementLemmas.{list_types, after_reads}
 use Rattle.pb_decode.proofs.reader.state.State.take_run.Goals as goal

@@ -4,7 +4,7 @@ use Rattle.std.proofs.lemmas.Result.{err_from_is_err_and}
 use Rattle.pb_wire.specs.Fault.{Place, fault, input_end, HasTag, TagFault, VarintFault}
 use Rattle.pb_wire.specs.declared.fault.Cause.TheVariants.{Truncated}
 use Rattle.pb_wire.specs.Scan.{passed}
-use Rattle.pb_building.proofs.TokenReports.{tag_reported}
+use Rattle.pb_decode_parts.proofs.TokenReports.{tag_reported}
 use Rattle.pb_decode.specs.Reader.{state_view, left_of, path_here}
 use Rattle.pb_decode.proofs.ReaderLemmas.{fault_reported}
 use Rattle.pb_decode.proofs.EndedLemmas.{has_reached}

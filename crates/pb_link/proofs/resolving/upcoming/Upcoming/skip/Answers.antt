@@ -1,6 +1,6 @@
 use Rattle.std.proofs.Common.{map, ap, sym, ◌∙◌}
 use Rattle.std.proofs.lemmas.List.{drop-map}
-use Rattle.pb_names.specs.View.{type_names_view}
+use Rattle.pb_link_names.specs.View.{type_names_view}
 use Rattle.pb_link.proofs.resolving.upcoming.Upcoming.skip.Goals as goal
 
 pub returns : goal.returns

@@ -1,6 +1,0 @@
-use Rattle.pb_command.proofs.Streams.{IsStreaming}
-use Rattle.pb_command.proofs.frames.put_frames.Given as goal
-
-abbrev pub invariant-loop-index : goal.invariant-loop-index
-invariant-loop-index g l =
-    IsStreaming g.O.Output.written g.O.Output.failures g.I.Input.left g.I.Input.is_steady l.form l.initial.out l.out l.initial.sink l.sink l.initial.reader l.reader l.index

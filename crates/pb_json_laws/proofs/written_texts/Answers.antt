@@ -1,5 +1,0 @@
-use Rattle.pb_json_laws.proofs.TextLaws.{text_read}
-use Rattle.pb_json_laws.proofs.written_texts.Goals as goal
-
-pub returns : goal.returns
-returns c layout j text = text_read layout j text

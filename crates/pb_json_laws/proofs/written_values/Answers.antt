@@ -1,5 +1,0 @@
-use Rattle.pb_json_laws.proofs.EnumLaws.{value_read}
-use Rattle.pb_json_laws.proofs.written_values.Goals as goal
-
-pub returns : goal.returns
-returns c = value_read

@@ -1,0 +1,8 @@
+use Rattle.std.proofs.Common.{◌≡◌, ◌++◌, map, take}
+use Rattle.pb_declarations.specs.View.{field_view, message_view}
+use Rattle.pb_link_names.specs.Declarations.{fields_of, head_of}
+use Rattle.pb_link_names.specs.View.{declaration_view}
+use Rattle.pb_link_names.proofs.declared.add_fields.Given as goal
+
+abbrev pub invariant-loop-index : goal.invariant-loop-index
+invariant-loop-index l = map declaration_view l.row.items ≡ map declaration_view l.initial.row.items ++ fields_of l.parent.file l.parent.index l.parent.scope.now (head_of (message_view l.message)) (map field_view (take l.index l.fields))

@@ -1,0 +1,8 @@
+use Rattle.pb_link_names.specs.View.{declaration_view}
+use Rattle.pb_link_rules.specs.Flags.{is_marked_first}
+use Rattle.pb_link_rules.proofs.NamesLemmas.{flags_more}
+use Rattle.pb_link_rules.proofs.flags.first_files.Goals as goal
+
+pub loop-declaration-preserved : goal.loop-declaration-preserved
+loop-declaration-preserved c =
+    flags_more (is_marked_first c.args.imports.now) declaration_view c.args.row.now c.loop-declaration.declaration-index c.declaration-item.result c.loop-declaration.flags.items c.push.new.self.items c.is_marked_first.result c.loop-declaration-test.true c.declaration-item.is c.loop-declaration.invariant c.is_marked_first.ensures c.in_ok-push.ensures.items

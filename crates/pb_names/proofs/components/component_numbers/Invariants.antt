@@ -1,5 +1,0 @@
-use Rattle.pb_names.specs.Components.{Fits}
-use Rattle.pb_names.proofs.components.component_numbers.Given as goal
-
-abbrev pub invariant-loop-index : goal.invariant-loop-index
-invariant-loop-index l = Fits l.walk

@@ -1,0 +1,44 @@
+//! The words of the command line, and the command that they name. A program that calls commands itself finds them here too.
+//!
+//! ```rust
+//! use pb_wire::{Output, WriteOutput, write_all};
+//! use pbtool_cli::{Cleanup, HostFiles, Refusal, run_then};
+//! use std::io::ErrorKind;
+//! use std::process::ExitCode;
+//! use std::{env, io};
+//!
+//! fn main(rt: HostRuntime) -> ExitCode {
+//!     let mut err = WriteOutput::new(rt.stderr());
+//!     let args: Vec<String> = match command_line(&rt) {
+//!         Ok(args) => args,
+//!         Err(error) => return ExitCode::from(tell_unread(&error, &mut err)),
+//!     };
+//!     let mut files = HostFiles::new(&rt);
+//!     let mut out = WriteOutput::new(rt.stdout());
+//!     let status = run_then(
+//!         rt.alloc(),
+//!         Cleanup::LeaveToSystem,
+//!         args.as_slice(),
+//!         &mut files,
+//!         &mut out,
+//!         &mut err,
+//!     );
+//!     ExitCode::from(status)
+//! }
+//!
+//! /// The words of the command line, the program's name first.
+//! fn command_line(rt: &HostRuntime) -> io::Result<Vec<String>> {
+//!     let args = env::args(rt)?.collect(rt.alloc())?;
+//!     Ok(args)
+//! }
+//! ```
+#![tactic(auto)]
+
+mod command_line;
+mod words;
+
+pub use command_line::{run, run_then};
+pub use pbtool_command::{
+    Cleanup, Command, Comparison, Files, FloatForm, FrameForm, HostFiles, Layout, MemFiles,
+    RawForm, Readers, Reading, Refusal, Roots, Source, execute, execute_explained, execute_then,
+};

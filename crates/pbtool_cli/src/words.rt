@@ -1,0 +1,366 @@
+//! The words of the command line.
+ghost use Rattle.std.specs.Prelude.{◌≡◌, false, IfOk};
+ghost use Rattle.clap.specs.Words.{app_of, rule_of};
+ghost use Rattle.clap.specs.declared.builder.command.Command.TheViews.{out-Command};
+ghost use Rattle.pbtool_cli.specs.Words.{both_rule, compat_command, from_json_command, other_tool};
+ghost use Rattle.pbtool_cli.specs.Words.{canon_command, check_command, compile_command, frames_command, json_command, raw_command, show_command, types_command};
+ghost use Rattle.pbtool_cli.specs.Words.{decimal_rule, directory_rule, explain_rule, json_rule, keep_going_rule, lenient_rule, nested_rule, of_source, wanted};
+ghost use Rattle.pbtool_cli.specs.Words.{tool, tool_top};
+
+use clap::{Arg, ArgAction, Command};
+use std::alloc::{AllocError, Global};
+
+/// What `--version` prints.
+const VERSION: &str = "0.1.0";
+
+/// What the help says of a file with a message.
+const BYTES: &str = "The file with the bytes of the message";
+
+/// What the help says of a file with a stream.
+const STREAM: &str = "The file with the bytes of the stream";
+
+/// What the help says of a file with a message as JSON.
+const JSON: &str = "The file with the JSON of the message";
+
+/// The definition of the command line.
+pub fn definition<'a>(alloc: Global) -> Result<Command<'a>, AllocError>
+    ensures app { IfOk result (λ c. app_of c ≡ tool) }
+    ensures local { IfOk result (λ c. (out-Command c).has_globals ≡ false) }
+    ensures closed { IfOk result (λ c. (out-Command c).allow_external_subcommands ≡ false) }
+{
+    let others = other_commands(alloc)?;
+    let with_compat = others.subcommand(compat(alloc)?)?;
+    let whole = with_compat.subcommand(from_json(alloc)?)?;
+    Ok(whole)
+}
+
+/// All commands but `compat` and `from-json`.
+fn other_commands<'a>(alloc: Global) -> Result<Command<'a>, AllocError>
+    ensures app { IfOk result (λ c. app_of c ≡ other_tool) }
+    ensures local { IfOk result (λ c. (out-Command c).has_globals ≡ false) }
+    ensures closed { IfOk result (λ c. (out-Command c).allow_external_subcommands ≡ false) }
+{
+    let with_raw = top(alloc).subcommand(raw(alloc)?)?;
+    let with_check = with_raw.subcommand(check(alloc)?)?;
+    let with_show = with_check.subcommand(show(alloc)?)?;
+    let with_canon = with_show.subcommand(canon(alloc)?)?;
+    let with_json = with_canon.subcommand(json(alloc)?)?;
+    let with_frames = with_json.subcommand(frames(alloc)?)?;
+    let with_types = with_frames.subcommand(types(alloc)?)?;
+    let whole = with_types.subcommand(compile(alloc)?)?;
+    Ok(whole)
+}
+
+fn top<'a>(alloc: Global) -> Command<'a>
+    ensures app { app_of result ≡ tool_top }
+    ensures local { (out-Command result).has_globals ≡ false }
+    ensures closed { (out-Command result).allow_external_subcommands ≡ false }
+{
+    Command::new(alloc, "pbtool")
+        .version(VERSION)
+        .about("Reads and shows Protocol Buffers messages")
+        .subcommand_required(true)
+        .disable_help_subcommand(true)
+}
+
+fn raw<'a>(alloc: Global) -> Result<Command<'a>, AllocError>
+    ensures app { IfOk result (λ c. app_of c ≡ raw_command) }
+    ensures local { IfOk result (λ c. (out-Command c).has_globals ≡ false) }
+{
+    let short = Arg::new(alloc, "short")
+        .long("short")
+        .action(ArgAction::SetTrue)
+        .help("Print the shortest spelling as one line of hexadecimal instead");
+    let file = Arg::new(alloc, "FILE")
+        .required(true)
+        .help("The file with the bytes of one message");
+    let command = Command::new(alloc, "raw")
+        .about("Print the records of a message, without its schema")
+        .after_help("From a pipe: curl -s URL | ./pbtool raw /dev/stdin");
+    let with_short = command.arg(short)?;
+    let nested = nested_option(alloc);
+    let with_nested = with_short.arg(nested)?;
+    let explain = explain_option(alloc);
+    let with_explain = with_nested.arg(explain)?;
+    let whole = with_explain.arg(file)?;
+    Ok(whole)
+}
+
+fn check<'a>(alloc: Global) -> Result<Command<'a>, AllocError>
+    ensures app { IfOk result (λ c. app_of c ≡ check_command) }
+    ensures local { IfOk result (λ c. (out-Command c).has_globals ≡ false) }
+{
+    let command = Command::new(alloc, "check").about("Say that a file is a message of a type");
+    let whole = with_source(alloc, command, BYTES)?;
+    Ok(whole)
+}
+
+fn show<'a>(alloc: Global) -> Result<Command<'a>, AllocError>
+    ensures app { IfOk result (λ c. app_of c ≡ show_command) }
+    ensures local { IfOk result (λ c. (out-Command c).has_globals ≡ false) }
+{
+    let command = Command::new(alloc, "show").about("Print the fields of a message");
+    let decimal = decimal_option(alloc);
+    let with_decimal = command.arg(decimal)?;
+    let whole = with_source(alloc, with_decimal, BYTES)?;
+    Ok(whole)
+}
+
+fn canon<'a>(alloc: Global) -> Result<Command<'a>, AllocError>
+    ensures app { IfOk result (λ c. app_of c ≡ canon_command) }
+    ensures local { IfOk result (λ c. (out-Command c).has_globals ≡ false) }
+{
+    let out = Arg::new(alloc, "out")
+        .long("out")
+        .action(ArgAction::Set)
+        .help("Write the bytes to this file instead");
+    let command = Command::new(alloc, "canon").about(
+        "Print the canonical bytes of a message as one line of hexadecimal",
+    );
+    let with_out = command.arg(out)?;
+    let whole = with_source(alloc, with_out, BYTES)?;
+    Ok(whole)
+}
+
+fn json<'a>(alloc: Global) -> Result<Command<'a>, AllocError>
+    ensures app { IfOk result (λ c. app_of c ≡ json_command) }
+    ensures local { IfOk result (λ c. (out-Command c).has_globals ≡ false) }
+{
+    let pretty = Arg::new(alloc, "pretty")
+        .long("pretty")
+        .action(ArgAction::SetTrue)
+        .help("Put each member and each element on its own line");
+    let command = Command::new(alloc, "json").about("Print a message as JSON");
+    let with_pretty = command.arg(pretty)?;
+    let whole = with_source(alloc, with_pretty, BYTES)?;
+    Ok(whole)
+}
+
+fn frames<'a>(alloc: Global) -> Result<Command<'a>, AllocError>
+    ensures app { IfOk result (λ c. app_of c ≡ frames_command) }
+    ensures local { IfOk result (λ c. (out-Command c).has_globals ≡ false) }
+{
+    let command = Command::new(alloc, "frames").about(
+        "Print the messages of a stream, each after its length",
+    );
+    let decimal = decimal_option(alloc);
+    let with_decimal = command.arg(decimal)?;
+    let json = json_option(alloc);
+    let with_json = with_decimal.arg(json)?;
+    let keep_going = keep_going_option(alloc);
+    let with_keep_going = with_json.arg(keep_going)?;
+    let whole = with_source(alloc, with_keep_going, STREAM)?;
+    Ok(whole)
+}
+
+fn types<'a>(alloc: Global) -> Result<Command<'a>, AllocError>
+    ensures app { IfOk result (λ c. app_of c ≡ types_command) }
+    ensures local { IfOk result (λ c. (out-Command c).has_globals ≡ false) }
+{
+    let command = Command::new(alloc, "types").about(
+        "Print what a descriptor set declares, a line each",
+    );
+    let lenient = lenient_option(alloc);
+    let with_lenient = command.arg(lenient)?;
+    let set = wanted(alloc, "SET", "The file with the descriptor set");
+    let with_set = with_lenient.arg(set)?;
+    let name = Arg::new(alloc, "NAME").help("Print only the message or enum of this full name");
+    let whole = with_set.arg(name)?;
+    Ok(whole)
+}
+
+fn compile<'a>(alloc: Global) -> Result<Command<'a>, AllocError>
+    ensures app { IfOk result (λ c. app_of c ≡ compile_command) }
+    ensures local { IfOk result (λ c. (out-Command c).has_globals ≡ false) }
+{
+    let command = Command::new(alloc, "compile").about(
+        "Write the descriptor set of sources and their imports",
+    );
+    let explain = explain_option(alloc);
+    let with_explain = command.arg(explain)?;
+    let lenient = lenient_sources_option(alloc);
+    let with_lenient = with_explain.arg(lenient)?;
+    let directory = directory_option(alloc);
+    let with_directory = with_lenient.arg(directory)?;
+    let root = wanted(alloc, "ROOT", "The folder of the sources");
+    let with_root = with_directory.arg(root)?;
+    let out = wanted(alloc, "OUT", "The file to write");
+    let with_out = with_root.arg(out)?;
+    let file = wanted(alloc, "FILE", "A source, by its name below the folder").action(
+        ArgAction::Append,
+    );
+    let whole = with_out.arg(file)?;
+    Ok(whole)
+}
+
+fn compat<'a>(alloc: Global) -> Result<Command<'a>, AllocError>
+    ensures app { IfOk result (λ c. app_of c ≡ compat_command) }
+    ensures local { IfOk result (λ c. (out-Command c).has_globals ≡ false) }
+{
+    let command = Command::new(alloc, "compat").about(
+        "Print what a change of a schema does to messages, a line for each field",
+    );
+    let lenient = lenient_option(alloc);
+    let with_lenient = command.arg(lenient)?;
+    let both = both_option(alloc);
+    let with_both = with_lenient.arg(both)?;
+    let old = wanted(
+        alloc,
+        "OLD",
+        "The file with the descriptor set of the old types",
+    );
+    let with_old = with_both.arg(old)?;
+    let new = wanted(
+        alloc,
+        "NEW",
+        "The file with the descriptor set of the new types",
+    );
+    let with_new = with_old.arg(new)?;
+    let name = Arg::new(alloc, "TYPE").help("Compare only the message type of this full name");
+    let whole = with_new.arg(name)?;
+    Ok(whole)
+}
+
+fn from_json<'a>(alloc: Global) -> Result<Command<'a>, AllocError>
+    ensures app { IfOk result (λ c. app_of c ≡ from_json_command) }
+    ensures local { IfOk result (λ c. (out-Command c).has_globals ≡ false) }
+{
+    let command = Command::new(alloc, "from-json").about(
+        "Write the canonical bytes of a message that is given as JSON",
+    );
+    let with_source = with_source(alloc, command, JSON)?;
+    let out = wanted(alloc, "OUT", "The file to write");
+    let whole = with_source.arg(out)?;
+    Ok(whole)
+}
+
+/// The flag for both directions.
+fn both_option<'a>(alloc: Global) -> Arg<'a>
+    ensures rule { rule_of result ≡ both_rule }
+    ensures local { result.global ≡ false }
+{
+    Arg::new(alloc, "both")
+        .long("both")
+        .action(ArgAction::SetTrue)
+        .help("Ask also how the old types read messages of the new ones")
+}
+
+/// A directory where sources are looked for after the root.
+fn directory_option<'a>(alloc: Global) -> Arg<'a>
+    ensures rule { rule_of result ≡ directory_rule }
+    ensures local { result.global ≡ false }
+{
+    Arg::new(alloc, "DIR")
+        .short('I')
+        .action(ArgAction::Append)
+        .help("Look here for a source or an import that is not under ROOT; may be repeated")
+}
+
+/// The flag for payloads that are listed as messages.
+fn nested_option<'a>(alloc: Global) -> Arg<'a>
+    ensures rule { rule_of result ≡ nested_rule }
+    ensures local { result.global ≡ false }
+{
+    Arg::new(alloc, "nested")
+        .long("nested")
+        .action(ArgAction::SetTrue)
+        .help("Print a payload that is a list of records itself as a message")
+}
+
+/// The flag for floats in decimal.
+fn decimal_option<'a>(alloc: Global) -> Arg<'a>
+    ensures rule { rule_of result ≡ decimal_rule }
+    ensures local { result.global ≡ false }
+{
+    Arg::new(alloc, "decimal")
+        .long("decimal")
+        .action(ArgAction::SetTrue)
+        .help("Print floats in decimal, and not by their bits")
+}
+
+/// The flag for messages that are printed as JSON.
+fn json_option<'a>(alloc: Global) -> Arg<'a>
+    ensures rule { rule_of result ≡ json_rule }
+    ensures local { result.global ≡ false }
+{
+    Arg::new(alloc, "json")
+        .long("json")
+        .action(ArgAction::SetTrue)
+        .help("Print each message as JSON, on one line")
+}
+
+/// The flag for frames that are refused and passed over.
+fn keep_going_option<'a>(alloc: Global) -> Arg<'a>
+    ensures rule { rule_of result ≡ keep_going_rule }
+    ensures local { result.global ≡ false }
+{
+    Arg::new(alloc, "keep-going")
+        .long("keep-going")
+        .action(ArgAction::SetTrue)
+        .help("Pass over frames that are refused, and report them all at the end")
+}
+
+/// The command with the arguments that name a type and a file of its messages. `help` says what the file holds.
+fn with_source<'a>(
+    alloc: Global,
+    command: Command<'a>,
+    help: &'a str,
+) -> Result<Command<'a>, AllocError>
+    ensures app { (out-Command command.entry).has_globals ≡ false → IfOk result (λ c. app_of c ≡ of_source (app_of command.entry)) }
+    ensures local { (out-Command command.entry).has_globals ≡ false → IfOk result (λ c. (out-Command c).has_globals ≡ false) }
+{
+    let explain = explain_option(alloc);
+    let with_explain = command.arg(explain)?;
+    let lenient = lenient_option(alloc);
+    let with_lenient = with_explain.arg(lenient)?;
+    let set = wanted(alloc, "SET", "The file with the descriptor set of the type");
+    let with_set = with_lenient.arg(set)?;
+    let name = wanted(alloc, "TYPE", "The full name of the message type");
+    let with_type = with_set.arg(name)?;
+    let file = wanted(alloc, "FILE", help);
+    let whole = with_type.arg(file)?;
+    Ok(whole)
+}
+
+/// The flag for lines that explain a refusal.
+fn explain_option<'a>(alloc: Global) -> Arg<'a>
+    ensures rule { rule_of result ≡ explain_rule }
+    ensures local { result.global ≡ false }
+{
+    Arg::new(alloc, "explain")
+        .long("explain")
+        .action(ArgAction::SetTrue)
+        .help(
+            "After the line of a refusal print where it is, what was expected and the bytes around",
+        )
+}
+
+/// The flag for lenient reading of the set.
+fn lenient_option<'a>(alloc: Global) -> Arg<'a>
+    ensures rule { rule_of result ≡ lenient_rule }
+    ensures local { result.global ≡ false }
+{
+    Arg::new(alloc, "lenient")
+        .long("lenient")
+        .action(ArgAction::SetTrue)
+        .help("Leave out the extensions, required labels and default values of the set")
+}
+
+/// The flag for lenient reading of sources.
+fn lenient_sources_option<'a>(alloc: Global) -> Arg<'a>
+    ensures rule { rule_of result ≡ lenient_rule }
+    ensures local { result.global ≡ false }
+{
+    Arg::new(alloc, "lenient")
+        .long("lenient")
+        .action(ArgAction::SetTrue)
+        .help("Leave out the extensions and custom options of the sources")
+}
+
+/// An argument that is required.
+fn wanted<'a>(alloc: Global, id: &'a str, help: &'a str) -> Arg<'a>
+    ensures rule { rule_of result ≡ wanted id.now }
+    ensures local { result.global ≡ false }
+{
+    Arg::new(alloc, id).required(true).help(help)
+}

@@ -1,0 +1,53 @@
+use Rattle.std.proofs.Common.{◌≡◌, None, refl, inl}
+use Rattle.std.proofs.KnownBytes.{Appends-nil}
+use Rattle.std.proofs.lemmas.Result.{err_from_is_err_and}
+use Rattle.pbtool_files.specs.Answer.{device_failed}
+use Rattle.pbtool_files.specs.FileMap.{IsSaved, IsUnsaved}
+use Rattle.pb_output.specs.Sending.{Cut, Sent}
+use Rattle.pbtool_files.specs.Known.{OfFiles}
+use Rattle.pbtool_command.specs.Steps.{NoFile, StreamAt, StreamBegunAt}
+use Rattle.pbtool_command.specs.Streaming.{FramesBegunIn, FramesIn}
+use Rattle.pbtool_files.proofs.RefusalLemmas.{refuses_map}
+use Rattle.pbtool_command.proofs.Coming.{comes_map, no_file_kept, refused_comes}
+use Rattle.pbtool_command.proofs.Commands.{stream_begun, stream_right}
+use Rattle.pbtool_command.proofs.frames.frames_at.Goals as goal
+
+pub returns-in_err-input-clause-comes : goal.returns-in_err-input-clause-comes
+returns-in_err-input-clause-comes g c =
+    let p = err_from_is_err_and c.from_residual.result c.from_residual.ensures.1 in
+    let contents = g.F.Files.contents in
+    let is_steady = g.F.Files.is_steady in
+    let before = c.args.files.now in
+    let form = c.args.form in
+    let path = c.args.path.now in
+    let pool = c.args.pool.now in
+    let kind = c.args.message_type.0 in
+    rw (p.1, p.2)
+    (refused_comes (Sent g.O.Output.written g.O.Output.failures c.args.out.now c.args.out.now) (Cut g.O.Output.written g.O.Output.failures c.args.out.now c.args.out.now)
+    (IsSaved contents before c.open_file.new.files) (IsUnsaved contents g.F.Files.failures before c.open_file.new.files)
+    (StreamAt contents is_steady before form pool kind path) (StreamBegunAt contents is_steady before form pool kind path) c.in_err-input.field-0.0
+    (refl, Appends-nil (g.O.Output.written c.args.out.now)) c.in_err-input.ensures.files (inl refl)
+    (refuses_map (λ a. OfFiles contents is_steady before path (λ content. content ≡ None) × (a ≡ device_failed path))
+    (StreamAt contents is_steady before form pool kind path) c.in_err-input.field-0.0 (λ a h. inl h) c.in_err-input.ensures.refused))
+
+pub returns-clause-comes : goal.returns-clause-comes
+returns-clause-comes g c =
+    let contents = g.F.Files.contents in
+    let is_steady = g.F.Files.is_steady in
+    let left = g.F.In.Input.left in
+    let stays = g.F.In.Input.is_steady in
+    let before = c.args.files.now in
+    let form = c.args.form in
+    let path = c.args.path.now in
+    let pool = c.args.pool.now in
+    let kind = c.args.message_type.0 in
+    let input = c.in_ok-input.input in
+    let out = Sent g.O.Output.written g.O.Output.failures c.args.out.now c.write_frames.new.out in
+    let cut = Cut g.O.Output.written g.O.Output.failures c.args.out.now c.write_frames.new.out in
+    let comes = rw c.new-reader.ensures at c.write_frames.ensures in
+    comes_map out out cut cut NoFile (IsSaved contents before c.open_file.new.files) (λ _. ⊥)
+    (IsUnsaved contents g.F.Files.failures before c.open_file.new.files) (FramesIn left stays input form path pool kind)
+    (StreamAt contents is_steady before form pool kind path) (FramesBegunIn left stays input form pool kind) (StreamBegunAt contents is_steady before form pool kind path)
+    c.write_frames.result (λ text h. h) (λ text h. h) (no_file_kept contents before c.open_file.new.files c.in_ok-input.ensures.files)
+    (λ device h. absurd h) (stream_right contents is_steady before left stays input form path pool kind c.in_ok-input.ensures.opened)
+    (stream_begun contents is_steady before left stays input form path pool kind c.in_ok-input.ensures.opened) comes

@@ -1,0 +1,7 @@
+use Rattle.pbtool_command.proofs.types.show.Goals as goal
+
+pub returns-in-None : goal.returns-in-None
+returns-in-None g c = rw c.in-None.is c.print_set.ensures
+
+pub returns-in-Some : goal.returns-in-Some
+returns-in-Some g c = rw c.in-Some.is c.print_named.ensures

@@ -1,0 +1,8 @@
+use Rattle.std.proofs.Common.{append_assoc, refl}
+use Rattle.pb_output.proofs.SinkLemmas.{puts_held, puts_then}
+use Rattle.pbtool_explain.proofs.steps.put_start.Goals as goal
+
+pub returns : goal.returns
+returns g c =
+    puts_then c.reserve.ensures.kept
+    (puts_held refl refl (rw (c.push-2.ensures.after, c.push_decimal.ensures.after, c.push.ensures.after) (simp append_assoc)))
