@@ -2,6 +2,7 @@
 //! rows of the command for the same bytes.
 
 use crate::raw::FLAT;
+use crate::runs::{NONE, SET_OF_M, files_of};
 use pb_decode::decode;
 use pb_descr::{FileDecl, read_set};
 use pb_link::link;
@@ -14,7 +15,6 @@ use pbtool_cli::{
     Cleanup, Command, FloatForm, FrameForm, Layout, Reading, Source, execute, execute_then,
     run_then,
 };
-use pbtool_runs::{NONE, SET_OF_M, files_of};
 use std::alloc::Global;
 use std::test::Fail;
 

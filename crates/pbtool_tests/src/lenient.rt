@@ -1,8 +1,8 @@
 //! Sets of proto2 that are read leniently, and what a set declares. The set is what protoc writes of b.proto and a.proto, the message what protoc
 //! encodes by them; what is printed is worked out by the rules of messages, of lenient reading and of listings.
 
+use crate::runs::{Failures, NONE, Run, after, run_separate};
 use pbtool_cli::MemFiles;
-use pbtool_runs::{Failures, NONE, Run, after, has_lines, run_separate};
 use std::alloc::Global;
 use std::test::Fail;
 
@@ -36,48 +36,6 @@ const FILES: &[(&str, &str)] = &[
     ("e", ""),
 ];
 
-/// Words, and after each bar a line that is printed, or after a mark reported.
-const ROWS: &str = r#"
-check s shop.Item m|!set file 0 cause Extension
-show s shop.Item m|!set file 0 cause Extension
-canon s shop.Item m|!set file 0 cause Extension
-json s shop.Item m|!set file 0 cause Extension
-frames s shop.Item f|!set file 0 cause Extension
-types s|!set file 0 cause Extension
-check --lenient s shop.Item m|ok
-show --lenient s shop.Item m|id: 5|name: "x"|sizes {|  key: "a"|  value: LARGE|}|? 100 len 2 6869|? 101 varint 7
-canon --lenient s shop.Item m|08051201781a050a01611001a206026869a80607
-json --lenient s shop.Item m|{"id":5,"name":"x","sizes":[{"key":"a","value":"LARGE"}]}
-frames --lenient s shop.Item f|frame 0 at 0 size 21|  id: 5|  name: "x"|  sizes {|    key: "a"|    value: LARGE|  }|  ? 100 len 2 6869|  ? 101 varint 7|frame 1 at 21 size 1
-show --lenient s shop.Item u|sizes {|  key: "b"|  ? 2 varint 9|}
-canon --lenient s shop.Item u|1a050a01621009
-check --lenient s tags.Box e|ok
-check --lenient s tags.note e|!type tags.note unknown
-check --lenient p M e|ok
-check --lenient c M e|!set byte 1 path 1[0] cause Truncated
-check --lenient n M e|!set file 0 cause NotProto3
-check --lenient t M e|!link m at - cause TwoFiles
-types --lenient s|file a.proto proto2|file b.proto proto2|message shop.Item a.proto|field shop.Item.id 1 optional int32|field shop.Item.name 2 optional string|field shop.Item.sizes 3 repeated shop.Item.SizesEntry|message shop.Item.SizesEntry a.proto|field shop.Item.SizesEntry.key 1 optional string|field shop.Item.SizesEntry.value 2 optional shop.Size|message tags.Box b.proto|field tags.Box.item 1 optional shop.Item|enum shop.Size a.proto|value shop.Size SMALL 0|value shop.Size LARGE 1|omitted a.proto shop.Item ExtensionRange|omitted a.proto shop.Item.inner Extension|omitted a.proto shop.Item.id Required|omitted a.proto shop.Item.name DefaultValue|omitted a.proto shop.Item.SizesEntry ClosedMap|omitted b.proto tags.note Extension|omitted b.proto tags.Box.item Required
-types --lenient s tags.Box|message tags.Box b.proto|field tags.Box.item 1 optional shop.Item
-types s shop.Size --lenient|enum shop.Size a.proto|value shop.Size SMALL 0|value shop.Size LARGE 1
-types --lenient s shop.Color|!type shop.Color unknown
-types --lenient s shop.Item.inner|!type shop.Item.inner unknown
-types p|file m.proto proto3|message M m.proto|field M.a 1 implicit int32
-types --lenient p|file m.proto proto3|message M m.proto|field M.a 1 implicit int32
-types p M|message M m.proto|field M.a 1 implicit int32
-types p N|!type N unknown
-types e
-types c|!set byte 1 path 1[0] cause Truncated
-types n|!set file 0 cause NotProto3
-types --lenient n|!set file 0 cause NotProto3
-compat s p|!set file 0 cause Extension
-compat p s|!set file 0 cause Extension
-compat --lenient s s|ok
-compat --lenient --both s s shop.Item|backward ok|forward ok
-compat --lenient p n|!set file 0 cause NotProto3
-types t|!link m at - cause TwoFiles
-"#;
-
 /// The bytes of each file.
 fn decoded(alloc: Global) -> Result<Vec<Vec<u8>>, Fail> {
     let mut all = Vec::new(alloc);
@@ -96,23 +54,6 @@ fn run_over_all(alloc: Global, words: &str, failures: Failures) -> Result<Run, F
     }
     let mut files = MemFiles::new(alloc, named, 1, failures.input, failures.open);
     run_separate(alloc, words, &mut files, failures)
-}
-
-fn is_answered(alloc: Global, row: &str) -> Result<bool, Fail> {
-    let (words, lines) = match row.split_once('|') {
-        Some((words, lines)) => (words, Some(lines)),
-        None => (row, None),
-    };
-    let run = run_over_all(alloc, words, NONE)?;
-    has_lines(alloc, &run, lines)
-}
-
-#[test]
-fn rows(rt: HostRuntime) -> Result<(), Fail> {
-    for row in ROWS.lines() {
-        assert!(rt; row.is_empty() || is_answered(rt.alloc(), row)?, "{row}");
-    }
-    Ok(())
 }
 
 /// What `types` prints of the enum.

@@ -1,7 +1,7 @@
 //! The commands that read messages by a type. The sets T, F, M, Q and R are what protoc writes of these files; what is printed is worked out
 //! by the rules of messages, of their canonical form and of listings.
 
-use pbtool_runs::{Failures, NONE, Run, SET_OF_M, after, files_of, has_lines, run_words};
+use crate::runs::{Failures, NONE, Run, SET_OF_M, after, files_of, run_words};
 use std::alloc::Global;
 use std::test::Fail;
 
@@ -37,107 +37,6 @@ const Q: &str =
 const R: &str =
     "0a8f020a07722e70726f746f2283020a015212120a016c18012003280a32042e522e4c52016c12140a016818022001280a32042e522e484800520168120e0a016e180320012805480052016e12170a016d18042003280b32092e522e4d456e74727952016d12100a01701805200328114202100052017012100a016618062003280742021001520166120c0a017318072001280952017312100a017218082001280b32022e525201721a110a014c120c0a01781801200128055201781a150a014812100a017218012001280b32022e525201721a380a064d456e74727912100a036b657918012001280552036b657912180a0576616c756518022001280b32022e52520576616c75653a02380142030a016f";
 
-/// A set, whose message type has its name, and the bytes of a message; after the first bar its canonical bytes, and after each
-/// other one a line of its listing.
-const MESSAGES: &str = r#"
-T -|
-T 089601|089601|a: 150
-T 08968100|089601|a: 150
-T 08feffffff0f|08feffffffffffffffff01|a: -2
-T 3206038e029ea7053001|3207038e029ea70501|e: 3|e: 270|e: 86942|e: 1
-T 3200|
-T 1a0208011a0312017a|1a05080112017a|c {|  a: 1|  b: "z"|}
-T 38054202080142025802|420408015802|y {|  a: 1|  s: 1|}
-T 42020801380542025802|42025802|y {|  s: 1|}
-T 08050800|
-T 210000000000000080|210000000000000080|d: 0x8000000000000000
-T 210000000000000000|
-T 4a021007|4a040a001007|m[""]: 7
-T a3010801a401|a3010801a401|? 20 group {|  1 varint 1|}
-T 0a0141|0a0141|? 1 len 1 41
-T 08ffffffffffffffffff7f|08ffffffffffffffffff01|a: -1
-T 08960112017a1a0208012100000000000000803202030438054a050a016b10075000580162020803a3010801a401|08960112017a1a0208012100000000000000803202030438054a050a016b100750005801620408031200a3010801a401|a: 150|b: "z"|c {|  a: 1|}|d: 0x8000000000000000|e: 3|e: 4|x: 5|m["k"]: 7|p: false|s: -1|n[3] {|}|? 20 group {|  1 varint 1|}
-F 72020102|70017002|v: -1|v: 1
-F 850100000080|850100000080|g: 0x80000000
-F 850100000000|
-F 8801ffffffff0f|8801ffffffffffffffffff01|k: NEG
-F 880105|880105|k: 5
-F 6a006a0178|6a006a0178|u: ""|u: "x"
-F 508080808010|5001|p: true
-F 58ffffffff1f|58ffffffff0f|s: -2147483648
-T 62060801120208016206080112025801|6206080112025801|n[1] {|  s: -1|}
-T 620a08011202080112025801|62080801120408015801|n[1] {|  a: 1|  s: -1|}
-T 4a070a016b10071801|4a050a016b1007|m["k"]: 7
-T 4a020805|4a040a001000|m[""]: 0
-T 420208013805|3805|x: 5
-T 4a050a016210024a050a01611001|4a050a016110014a050a01621002|m["a"]: 1|m["b"]: 2
-F 1207225c007fc3a961|1207225c007fc3a961|b: "\"\\\x00\x7féa"
-F 7a02ff00|7a02ff00|w: h'ff00'
-F 92010801000000ffffffff|92010801000000ffffffff|h: 1|h: 4294967295
-Q 0800|0800|a: 0
-Q 12020102|10011002|e: 1|e: 2
-Q 1b08051c1b08061c|1b08061c|g {|  x: 6|}
-Q 1b08051c1b10071c|1b080510071c|g {|  x: 5|  ? 2 varint 7|}
-Q 1b1c|1b1c|g {|}
-Q 1a020805|1a020805|? 3 len 2 0805
-Q 20072002|20022007|k: TWO|? 4 varint 7
-Q 22002001|20012200|k: ONE|? 4 len 0
-Q 208180808010|2001|k: ONE
-Q 208780808010|208780808010|? 4 varint 4294967303
-Q 2a0401070209|2a02010228072809|l: ONE|l: TWO|? 5 varint 7|? 5 varint 9
-Q 28072801|2a01012807|l: ONE|? 5 varint 7
-Q 1b08051c2002|1b08051c2002|g {|  x: 5|}|k: TWO
-Q 2b08052c|2b08052c|? 5 group {|  1 varint 5|}
-R 0b08010c0b0c|0b08010c0b0c|l {|  x: 1|}|l {|}
-R 13140b0c|0b0c1314|l {|}|h {|}
-R 130a02180514|130a02180514|h {|  r {|    n: 5|  }|}
-R 1805130a02180714|130a02180714|h {|  r {|    n: 7|  }|}
-R 130a02180514130a02180714|130a02180714|h {|  r {|    n: 7|  }|}
-R 13141805|1805|n: 5
-R 13140805|13140805|h {|}|? 1 varint 5
-R 0a020805|0a020805|? 1 len 2 0805
-R 2206080512021314|2206080512021314|m[5] {|  h {|  }|}
-R 2a020204|28022804|p: 1|p: 2
-R 3501000000|320401000000|f: 1
-R 3a004200|3a004200|s: ""|r {|}
-"#;
-
-/// A command, a set, a type and the bytes of a file; after each bar a line that is printed, or after a mark reported.
-const COMMANDS: &str = "
-frames T T 03089601000208|frame 0 at 0 size 4|  a: 150|frame 1 at 4 size 1|!frame 2 byte 2 path 1[0] cause Truncated
-frames T T 010805|!frame 0 byte 2 path 1[0] cause PastEnd
-frames T T 80|!frame 0 byte 1 path - cause Truncated
-frames T T -
-check M M 089601|ok
-show M M 089601|a: 150
-canon M M 089601|089601
-check M N 089601|!type N unknown
-check - M -|!type M unknown
-check 0a M -|!set byte 1 path 1[0] cause Truncated
-check 0a00 M -|!set file 0 cause MissingName
-check 0a030a016d M -|!type M unknown
-check 0a0b0a016d620670726f746f34 M -|!set file 0 cause NotProto3
-check 0a170a016d220a0a014d12050a0161280a620670726f746f33 M -|!set file 0 cause Group
-check 0a110a016d220c0a014d12070a016120022805 M -|!set file 0 cause Required
-check 0a170a07712e70726f746f2a0c0a014512070a034f4e4510010a2e0a07702e70726f746f1a07712e70726f746f22120a0150120d0a016b18012001280e32022e45620670726f746f33 P -|!link p.proto at P.k cause ClosedEnum
-check Q Q 1b08051c2002|ok
-check Q Q.G 0805|ok
-canon Q Q 1b08051c1b08061c|1b08061c
-show Q Q 1b0896|!byte 3 path 3[0].1[0] cause Truncated
-show Q Q 1b24|!byte 1 path 3[0] cause WrongEnd
-check Q Q 1b|!byte 1 path 3[0] cause Truncated
-check Q Q 1c|!byte 0 path - cause StrayEnd
-check Q Q 1b1c1b08|!byte 4 path 3[1].1[0] cause Truncated
-frames Q Q 041b08051c022002|frame 0 at 0 size 5|  g {|    x: 5|  }|frame 1 at 5 size 3|  k: TWO
-frames Q Q 021b1c011b1c|frame 0 at 0 size 3|  g {|  }|!frame 1 byte 2 path 3[0] cause PastEnd
-check 0a0b0a016d620670726f746f330a0b0a016d620670726f746f33 M -|!link m at - cause TwoFiles
-check 0a0e0a016d1a016d620670726f746f33 M -|!link m at - cause ImportCycle
-frames T T ffffffff0f|!frame 0 byte 0 path - cause LengthTooLarge
-check T T 120241ff|!byte 3 path 2[0] cause BadText
-show T T 1a050896|!byte 4 path 3[0].1[0] cause Truncated
-canon T T 0b|!byte 1 path 1[0] cause Truncated
-";
-
 /// The first word of a row, and what is after it.
 fn word(row: &str) -> (&str, &str) {
     row.split_once(' ').unwrap_or((row, ""))
@@ -167,64 +66,6 @@ fn run_on(
 ) -> Result<Run, Fail> {
     let mut files = files_of(alloc, &[("s", set), ("f", file)], failures)?;
     run_words(alloc, words, &mut files, failures)
-}
-
-/// Whether a command over a set, a type of it and a file prints these lines.
-fn tells(
-    alloc: Global,
-    command: &str,
-    set: &str,
-    kind: &str,
-    file: &str,
-    lines: Option<&str>,
-) -> Result<bool, Fail> {
-    let set = bytes_of(alloc, set)?;
-    let file = bytes_of(alloc, file)?;
-    let run = run_on(alloc, &[command, "s", kind, "f"], &set, &file, NONE)?;
-    has_lines(alloc, &run, lines)
-}
-
-/// What is before the first bar, and what is after it, if there is one.
-fn bar(row: &str) -> (&str, Option<&str>) {
-    match row.split_once('|') {
-        Some((words, lines)) => (words, Some(lines)),
-        None => (row, None),
-    }
-}
-
-fn is_answered(alloc: Global, row: &str) -> Result<bool, Fail> {
-    let (words, lines) = bar(row);
-    let (command, words) = word(words);
-    let (set, words) = word(words);
-    let (kind, file) = word(words);
-    tells(alloc, command, set, kind, file, lines)
-}
-
-#[test]
-fn commands(rt: HostRuntime) -> Result<(), Fail> {
-    for row in COMMANDS.lines() {
-        assert!(rt; row.is_empty() || is_answered(rt.alloc(), row)?, "{row}");
-    }
-    Ok(())
-}
-
-fn is_message(alloc: Global, row: &str) -> Result<bool, Fail> {
-    let (words, rest) = row.split_once('|').ok_or("no canonical bytes")?;
-    let (name, text) = word(words);
-    let (canonical, listing) = bar(rest);
-    Ok(
-        tells(alloc, "check", name, name, text, Some("ok"))?
-            && tells(alloc, "show", name, name, text, listing)?
-            && tells(alloc, "canon", name, name, text, Some(canonical))?,
-    )
-}
-
-#[test]
-fn messages(rt: HostRuntime) -> Result<(), Fail> {
-    for row in MESSAGES.lines() {
-        assert!(rt; row.is_empty() || is_message(rt.alloc(), row)?, "{row}");
-    }
-    Ok(())
 }
 
 /// A message of M that is longer than the set.
@@ -325,38 +166,5 @@ fn outputs_fail(rt: HostRuntime) -> Result<(), Fail> {
             );
         }
     }
-    Ok(())
-}
-
-/// Whether `canon --out` writes the canonical bytes to the file, and prints nothing.
-fn is_saved(alloc: Global) -> Result<bool, Fail> {
-    let set = bytes_of(alloc, SET_OF_M)?;
-    let entries: [(&str, &[u8]); 2] = [("s", &set), ("f", b"\x08\x85\x00")];
-    let mut files = files_of(alloc, &entries, NONE)?;
-    let words = ["canon", "--out", "o", "s", "M", "f"];
-    let run = run_words(alloc, &words, &mut files, NONE)?;
-    Ok(run.is(0, b"", b"") && files.bytes_at("o") == Some(b"\x08\x05".as_slice()))
-}
-
-#[test]
-fn saved(rt: HostRuntime) -> Result<(), Fail> {
-    assert!(rt; is_saved(rt.alloc())?);
-    Ok(())
-}
-
-/// Whether a thousand empty messages are shown, through a buffer that is passed on many times.
-fn are_shown(alloc: Global) -> Result<bool, Fail> {
-    let set = bytes_of(alloc, SET_OF_M)?;
-    let mut lines = String::new(alloc);
-    for index in 0..1000 {
-        lines.push_str(format!(in alloc; "frame {index} at {index} size 1\n")?.as_str())?;
-    }
-    let run = run_on(alloc, &["frames", "s", "M", "f"], &set, &[0; 1000], NONE)?;
-    Ok(run.is(0, lines.as_bytes(), b""))
-}
-
-#[test]
-fn many_frames(rt: HostRuntime) -> Result<(), Fail> {
-    assert!(rt; are_shown(rt.alloc())?);
     Ok(())
 }

@@ -1,6 +1,6 @@
 //! `compat` over two sets, which `compile` makes of sources in memory. What is printed is worked out by the rules of COMPAT.md.
 
-use pbtool_runs::{Failures, NONE, Run, after, files_in, run_separate};
+use crate::runs::{Failures, NONE, Run, after, files_in, run_separate};
 use std::alloc::Global;
 use std::test::Fail;
 

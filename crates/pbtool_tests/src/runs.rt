@@ -42,6 +42,10 @@ impl Run {
     }
 }
 
+/// What protoc writes of m.proto: message M { int32 a = 1; }
+pub const SET_OF_M: &str =
+    "0a240a076d2e70726f746f22110a014d120c0a0161180120012805520161620670726f746f33";
+
 /// Files in memory, which give one byte a call.
 pub fn files_of<'a>(
     alloc: Global,

@@ -1,6 +1,6 @@
 //! Refusals that are explained. What is printed is worked out by the rules of paths, and the bytes counted by hand.
 
-use pbtool_runs::{Failures, NONE, Run, after, files_in, run_separate};
+use crate::runs::{Failures, NONE, Run, after, files_in, run_separate};
 use std::alloc::Global;
 use std::test::Fail;
 
