@@ -2,7 +2,7 @@
 
 ghost use Rattle.std.specs.Prelude.{◌<◌, length};
 
-use super::schema::pool;
+use crate::schema::pool;
 use pb_json_read::{JsonReadCause, JsonRules, read_json};
 use pb_schema::{MessageId, Pool};
 use std::alloc::{AllocError, Global};

@@ -1,0 +1,5 @@
+//! Messages from JSON.
+
+mod lenient;
+mod refusals;
+mod rows;
