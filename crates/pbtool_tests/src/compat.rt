@@ -78,24 +78,28 @@ fn run_line(alloc: Global, words: &str, failures: Failures) -> Result<Run, Fail>
 /// The lines after bars, those with a mark and those without, each with its end.
 fn lines_of(alloc: Global, lines: &str) -> Result<(String, String), Fail> {
     let mut printed = String::new(alloc);
-    let mut told = String::new(alloc);
+    let mut reported = String::new(alloc);
     for line in lines.split('|') {
         let (text, line) = match line.strip_prefix('!') {
-            Some(line) => (&mut told, line),
+            Some(line) => (&mut reported, line),
             None => (&mut printed, line),
         };
         text.push_str(line)?;
         text.push_str("\n")?;
     }
-    Ok((printed, told))
+    Ok((printed, reported))
 }
 
 fn is_answered(alloc: Global, row: &str) -> Result<bool, Fail> {
     let (words, rest) = row.split_once('|').ok_or("no status")?;
     let (status, lines) = rest.split_once('|').ok_or("no lines")?;
-    let (printed, told) = lines_of(alloc, lines)?;
+    let (printed, reported) = lines_of(alloc, lines)?;
     let run = run_line(alloc, words, NONE)?;
-    Ok(run.is(status.parse::<u8>()?, printed.as_bytes(), told.as_bytes()))
+    Ok(run.is(
+        status.parse::<u8>()?,
+        printed.as_bytes(),
+        reported.as_bytes(),
+    ))
 }
 
 #[test]

@@ -45,15 +45,17 @@ const NO_COMMANDS: &[&[&str]] = &[
 #[test]
 fn usage(rt: HostRuntime) -> Result<(), Fail> {
     for words in NO_COMMANDS {
-        let told = run_over(rt.alloc(), words, b"", NONE)?;
+        let reported = run_over(rt.alloc(), words, b"", NONE)?;
         assert!(rt;
-            told.status == 2 && told.out.bytes().is_empty() && !told.err.bytes().is_empty(),
+            reported.status == 2
+                && reported.out.bytes().is_empty()
+                && !reported.err.bytes().is_empty(),
             "{words:?}"
         );
     }
     // The text of usage is clap's.
-    let told = run_over(rt.alloc(), &["show", "f", "T"], b"", NONE)?;
-    assert!(rt; told.is(2, b"", WITHOUT_A_FILE));
+    let reported = run_over(rt.alloc(), &["show", "f", "T"], b"", NONE)?;
+    assert!(rt; reported.is(2, b"", WITHOUT_A_FILE));
     Ok(())
 }
 
@@ -78,8 +80,8 @@ fn input_fails(rt: HostRuntime) -> Result<(), Fail> {
             input: after(call),
             ..NONE
         };
-        let told = run_over(alloc, &["raw", "f"], FLAT, input)?;
-        assert!(rt; told.is(3, b"", b"device f\n"), "call {call}");
+        let reported = run_over(alloc, &["raw", "f"], FLAT, input)?;
+        assert!(rt; reported.is(3, b"", b"device f\n"), "call {call}");
     }
     let past = Failures {
         input: after(13),
@@ -104,8 +106,11 @@ fn output_fails(rt: HostRuntime) -> Result<(), Fail> {
                 out: after(call as u64),
                 ..NONE
             };
-            let told = run_over(alloc, words, FLAT, out)?;
-            assert!(rt; told.is(3, &answer[..call], b"device -\n"), "call {call}");
+            let reported = run_over(alloc, words, FLAT, out)?;
+            assert!(rt;
+                reported.is(3, &answer[..call], b"device -\n"),
+                "call {call}"
+            );
         }
         let past = Failures {
             out: after(answer.len() as u64),

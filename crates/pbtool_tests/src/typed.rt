@@ -72,7 +72,7 @@ fn run_on(
 const LONG: [u8; 60] = [0x08; 60];
 
 /// How `check` of it ends where this read fails of the set or, where that is read, of the message.
-fn told_at(call: u64, set: usize) -> (u8, &'static [u8], &'static [u8]) {
+fn answer_at(call: u64, set: usize) -> (u8, &'static [u8], &'static [u8]) {
     if call <= set as u64 {
         (3, b"", b"device s\n")
     } else if call <= LONG.len() as u64 {
@@ -88,8 +88,8 @@ fn fails_at(alloc: Global, set: &[u8], call: u64) -> Result<bool, Fail> {
         ..NONE
     };
     let run = run_on(alloc, &["check", "s", "M", "f"], set, &LONG, input)?;
-    let (status, printed, told) = told_at(call, set.len());
-    Ok(run.is(status, printed, told))
+    let (status, printed, reported) = answer_at(call, set.len());
+    Ok(run.is(status, printed, reported))
 }
 
 // Each read of the set fails in turn, and then each of the message. At the last byte of an input its end is still to be read.
