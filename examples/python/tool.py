@@ -133,7 +133,11 @@ def printed(command, *words):
             yield "" if shown is None else f"  shown by {shown.encode().hex()}\n"
     elif command == "field":
         set_name, type_name, name = words
-        yield " ".join(map(str, mabristu.Pool(read(set_name))[type_name].field(name).numbers)) + "\n"
+        found = mabristu.Pool(read(set_name))[type_name]
+        try:
+            yield " ".join(map(str, found.field(name).numbers)) + "\n"
+        except KeyError:
+            raise LookupError(f"field {name} unknown") from None
     elif command == "types":
         *options, set_name = words
         yield from types(mabristu.Pool(read(set_name), lenient="--lenient" in options).schema())
