@@ -33,18 +33,21 @@ pub record IsKept (old new : Types) (m n : ℕ) (f g : FieldView) : Type 0 where
   pub shape : keeps_shape old new f.shape g.shape ≡ true
   pub calm : is_in_crowd (is_crowded (message_fields old m) (message_fields new n)) g.shape ≡ false
 
-pub kept_unbroken : (old new : Types) (m n k : ℕ) (f g : FieldView) → NoneBreaks old new m n → field_numbered k (message_fields old m) ≡ Some f → field_numbered k (message_fields new n) ≡ Some g → IsKept old new m n f g
-kept_unbroken old new m n k f g none found_f found_g = by (is_in_crowd (is_crowded (message_fields old m) (message_fields new n)) g.shape) refl
+pub kept_field : (old new : Types) (m n : ℕ) (f g : FieldView) (c : Bool) → is_in_crowd (is_crowded (message_fields old m) (message_fields new n)) g.shape ≡ c → keeps_field old new c f g ≡ true → IsKept old new m n f g
+kept_field old new m n f g c crowd e =
+    let parts = and_both (keeps_values old new f g && keeps_shape old new f.shape g.shape) (not c) e in
+    let kinds = and_both (keeps_values old new f g) (keeps_shape old new f.shape g.shape) parts.0 in
+    record { kind = kinds.0; shape = kinds.1; calm = crowd ∙ turned c parts.1 }
   where
     turned : (b : Bool) → not b ≡ true → b ≡ false
     turned true e = absurd (cc)
     turned false e = refl
 
+pub kept_unbroken : (old new : Types) (m n k : ℕ) (f g : FieldView) → NoneBreaks old new m n → field_numbered k (message_fields old m) ≡ Some f → field_numbered k (message_fields new n) ≡ Some g → IsKept old new m n f g
+kept_unbroken old new m n k f g none found_f found_g = by (is_in_crowd (is_crowded (message_fields old m) (message_fields new n)) g.shape) refl
+  where
     by_kept : (c : Bool) → is_in_crowd (is_crowded (message_fields old m) (message_fields new n)) g.shape ≡ c → (b : Bool) → keeps_field old new c f g ≡ b → IsKept old new m n f g
-    by_kept c crowd true e =
-        let parts = and_both (keeps_values old new f g && keeps_shape old new f.shape g.shape) (not c) e in
-        let kinds = and_both (keeps_values old new f g) (keeps_shape old new f.shape g.shape) parts.0 in
-        record { kind = kinds.0; shape = kinds.1; calm = crowd ∙ turned c parts.1 }
+    by_kept c crowd true e = kept_field old new m n f g c crowd e
     by_kept c crowd false e =
         let breaks : change_of_field old new c f g ≡ Some BreaksReading = ap (λ (b : Bool). if not b then Some BreaksReading else otherwise f g) e in
         let d : Difference = record { number = k; severity = BreaksReading } in

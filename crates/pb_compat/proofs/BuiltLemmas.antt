@@ -24,7 +24,7 @@ use Rattle.pb_compat.proofs.PackedLemmas.{packed_is_misread}
 use Rattle.pb_compat.proofs.PairLemmas.{IsPairMisread, pair_is_misread}
 use Rattle.pb_compat.proofs.PartnerLemmas.{partner_is}
 use Rattle.pb_compat.proofs.ShownLemmas.{can_hold, one_is_misread, shape_is_misread}
-use Rattle.pb_compat.proofs.WholeLemmas.{key_kinds, may_be_value}
+use Rattle.pb_compat.proofs.FieldReadLemmas.{key_kinds, may_be_value}
 use Rattle.pb_compat.proofs.WitnessLemmas.{CanHold, IsMisread, misread_shows}
 
 -- FIELDS THAT ARE SET

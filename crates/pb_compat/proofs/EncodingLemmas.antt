@@ -40,7 +40,8 @@ use Rattle.pb_compat.specs.Agrees.{HasNoUnknown, ValueHasNoUnknown, ValuesHaveNo
 use Rattle.pb_compat.specs.Pairs.{ReachedIn, begun_in}
 use Rattle.pb_compat.specs.Agrees.{NoneBreaks}
 use Rattle.pb_compat.proofs.BreaksLemmas.{IsKept, kept_unbroken}
-use Rattle.pb_compat.proofs.WholeLemmas.{key_kinds, may_be_value, Pair, lead, messages_read}
+use Rattle.pb_compat.proofs.FieldReadLemmas.{key_kinds, may_be_value}
+use Rattle.pb_compat.proofs.WholeLemmas.{Pair, lead, messages_read}
 use Rattle.pb_compat.proofs.FieldLemmas.{and_both, kept_scalars, packable_too, same_wire}
 use Rattle.pb_compat.proofs.HoldingLemmas.{key_scalar}
 
@@ -402,6 +403,24 @@ module _ (old new : Types) (Pair : ℕ → ℕ → Type 0) (depth_left : ℕ) (i
   sound_others u n a b (map_of es) shape.Implicit i keeps shaped w name = absurd shaped
   sound_others u n a b h s i keeps shaped w name = absurd (cc)
 
+  -- the records of what a kept field holds
+  pub sound_kept :
+      (rules_old : IsPool old) (m u k : ℕ) (f g : FieldView) (h : Holding) → Leads Pair f.kind g.kind → IsKept old new m u f g → field_numbered k (message_fields old m) ≡ Some f → field_numbered k (message_fields new u) ≡ Some g
+      → IsOfShape f.shape h → IsHeld old f.shape f.kind h → holds_declared old f.kind h ≡ true → HoldsNoUnknown h → holding_depth h ≤ depth_left → AreWritable (canon_holding old f h)
+      → AllSound (schema_of new) (a_message u) depth_left (canon_holding old f h)
+  sound_kept rules_old m u k f g h pair kept found_f found_g shaped w declared known l short = by (keeps_kind old new f.kind g.kind) refl
+    where
+      there : field_numbered f.number (message_fields new u) ≡ Some g
+      there = ap (λ (i : ℕ). field_numbered i (message_fields new u)) (found_number k (message_fields old m) f found_f) ∙ found_g
+
+      by : (b : Bool) → keeps_kind old new f.kind g.kind ≡ b → AllSound (schema_of new) (a_message u) depth_left (canon_holding old f h)
+      by true keeps =
+          sound_holding u f.kind g.kind keeps pair f.name f.number f.shape g.shape h (ap (read_field (a_message u)) there) (ap group_of_field there) (can_pack old m rules_old k f found_f) (may_be_value old m k f rules_old found_f) (key_kinds old m k f rules_old found_f)
+          kept.shape shaped w declared known l short
+      by false loses =
+          let others = and_both (is_implicit f.shape) (keeps_others new f.kind g.kind) (ap (λ (b : Bool). b || (is_implicit f.shape && keeps_others new f.kind g.kind)) (sym loses) ∙ kept.kind) in
+          sound_others u f.number f.kind g.kind h f.shape others.0 others.1 shaped w f.name
+
   -- records of a number that the new type does not declare
   sound_lost_all : (u k : ℕ) (rs : List Record) → field_numbered k (message_fields new u) ≡ None → AllNumbered k rs → records_depth rs ≤ depth_left → AllSound (schema_of new) (a_message u) depth_left rs
   unfolding AllNumbered
@@ -417,22 +436,13 @@ module _ (old new : Types) (rules_old : IsPool old) (rules_new : IsPool new) (st
         → AreWritable (canon_holding old f h) → AllSound (schema_of new) (a_message n) depth_left (canon_holding old f h)
     sound_at k f h found shaped w declared known l short = by (field_numbered k (message_fields new n)) refl
       where
-        by_kept : (g : FieldView) → IsKept old new m n f g → field_numbered f.number (message_fields new n) ≡ Some g → field_numbered k (message_fields new n) ≡ Some g → (b : Bool) → keeps_kind old new f.kind g.kind ≡ b
-            → AllSound (schema_of new) (a_message n) depth_left (canon_holding old f h)
-        by_kept g kept there e true keeps =
-            sound_holding old new (Pair old new rules_old rules_new start unbroken (suc fields)) depth_left inside (canon-good old rules_old) n f.kind g.kind keeps (lead old new rules_old rules_new start unbroken fields m n k f g pair found e) f.name f.number f.shape g.shape h
-            (ap (read_field (a_message n)) there) (ap group_of_field there) (can_pack old m rules_old k f found) (may_be_value old m k f rules_old found) (key_kinds old m k f rules_old found) kept.shape shaped w declared known l short
-        by_kept g kept there e false loses =
-            let others = and_both (is_implicit f.shape) (keeps_others new f.kind g.kind) (ap (λ (b : Bool). b || (is_implicit f.shape && keeps_others new f.kind g.kind)) (sym loses) ∙ kept.kind) in
-            sound_others old new (Pair old new rules_old rules_new start unbroken (suc fields)) depth_left inside (canon-good old rules_old) n f.number f.kind g.kind h f.shape others.0 others.1 shaped w f.name
-
         by : (o : Option FieldView) → field_numbered k (message_fields new n) ≡ o → AllSound (schema_of new) (a_message n) depth_left (canon_holding old f h)
         by None e =
             let deep = depth_holding old f h in
             sound_lost_all old new (Pair old new rules_old rules_new start unbroken (suc fields)) depth_left inside (canon-good old rules_old) n k (canon_holding old f h) e (numbered_at old (message_fields old m) (can_pack old m rules_old) k h f found) (omega (arith, deep, l))
         by (Some g) e =
-            let number : f.number ≡ k = found_number k (message_fields old m) f found in
-            by_kept g (kept_unbroken old new m n k f g (unbroken fields (m, n) few pair) found e) (ap (λ (i : ℕ). field_numbered i (message_fields new n)) number ∙ e) e (keeps_kind old new f.kind g.kind) refl
+            sound_kept old new (Pair old new rules_old rules_new start unbroken (suc fields)) depth_left inside (canon-good old rules_old) rules_old m n k f g h (lead old new rules_old rules_new start unbroken fields m n k f g pair found e)
+            (kept_unbroken old new m n k f g (unbroken fields (m, n) few pair) found e) found e shaped w declared known l short
 
     sound_fields : (fs : Fields) → AreFields old (message_fields old m) fs → FieldsHaveNoUnknown fs → fields_depth fs ≤ depth_left → AreWritable (canon_fields old (message_fields old m) fs) → AllSound (schema_of new) (a_message n) depth_left (canon_fields old (message_fields old m) fs)
     sound_fields no_fields w known l short = AllSound.none
@@ -454,7 +464,7 @@ module _ (old new : Types) (rules_old : IsPool old) (rules_new : IsPool new) (st
 
   -- ALL LEVELS
 
-  sound_within : (depth_left fields m n : ℕ) (v : Message) → Pair old new rules_old rules_new start unbroken fields m n → fields + depth_left ≤ 100 → IsBody old m v → HasNoUnknown v → message_depth v ≤ depth_left → AreWritable (canon old m v) → AllSound (schema_of new) (a_message n) depth_left (canon old m v)
+  pub sound_within : (depth_left fields m n : ℕ) (v : Message) → Pair old new rules_old rules_new start unbroken fields m n → fields + depth_left ≤ 100 → IsBody old m v → HasNoUnknown v → message_depth v ≤ depth_left → AreWritable (canon old m v) → AllSound (schema_of new) (a_message n) depth_left (canon old m v)
   sound_within zero fields m n v pair few w known l short = sound_body zero fields (omega (arith, few)) (λ i j x p b d k s. absurd (omega (arith, k))) m n pair v w known l short
   sound_within (suc depth_left) fields m n v pair few w known l short =
       sound_body (suc depth_left) fields (omega (arith, few)) (λ i j x p b d k s. (depth_left, refl, sound_within depth_left (suc fields) i j x p (omega (arith, few)) b d (omega (arith, k)) s)) m n pair v w known l short

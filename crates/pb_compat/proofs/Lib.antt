@@ -26,18 +26,28 @@ pub mod ContentLemmas
 pub mod CrowdLemmas
 -- fields that no difference breaks
 pub mod BreaksLemmas
+-- what a field of the new type reads, whatever the other fields hold
+pub mod LocalLemmas
 -- whole messages, one level
 pub mod MessageLemmas
+-- one field of a message
+pub mod FieldReadLemmas
 -- whole messages of any depth
 pub mod WholeLemmas
 -- canonical records of an old message that are sound for the new type
 pub mod EncodingLemmas
+-- one field that no difference breaks
+pub mod KeptLemmas
+-- what differences that do not break say of messages
+pub mod EffectLemmas
 -- what a comparison that reports no break says
 pub mod ReportedLemmas
 -- kinds that are not kept: a value that the new kind reads otherwise
 pub mod LostLemmas
 -- worked cases of the rules
 pub mod Rows
+-- worked cases of what differences that do not break do to messages
+pub mod EffectRows
 -- worked lines of differences
 pub mod LineRows
 -- worked cases of the pairs of a comparison

@@ -1,7 +1,7 @@
 -- Worked lines of differences.
 use Rattle.std.proofs.Common.{◌≡◌, ℕ, ℤ, pos, List, [], ◌∷◌, true, false, Some, None, refl}
 use Rattle.std.specs.Fmt.{digits}
-use Rattle.std.specs.Prelude.{codes}
+use Rattle.std.specs.Prelude.{codes, ◌++◌, flat_map}
 use Rattle.pb_schema.specs.declared.types.Kind.{Kind}
 use Rattle.pb_schema.specs.declared.types.Kind.TheVariants as kind
 use Rattle.pb_schema.specs.declared.types.Shape.{Shape}
@@ -9,7 +9,7 @@ use Rattle.pb_schema.specs.declared.types.Shape.TheVariants as shape
 use Rattle.pb_schema.specs.Types.{FieldView, MessageView, EnumView, FileView, Types}
 use Rattle.pb_compat.specs.declared.difference.Severity.{Severity}
 use Rattle.pb_compat.specs.declared.difference.Severity.TheVariants.{BreaksReading, Loses, ChangesPresence, Converts, Renames}
-use Rattle.pb_compat.specs.Lines.{difference_text}
+use Rattle.pb_compat.specs.Lines.{difference_text, kind_text, type_text}
 
 abbrev a_field : List ℕ → ℕ → Kind → Shape → FieldView
 a_field name n k s = record { name = name; number = n; kind = k; shape = s }
@@ -72,6 +72,25 @@ item = refl
 way : line 11 Converts ≡ codes "shop.Order.way 11 converts optional int32 was oneof choice int32"
 unfolding digits
 way = refl
+
+-- the names of kinds in sources
+abbrev kinds : List Kind
+kinds =
+    kind.Double ∷ kind.Float ∷ kind.Int64 ∷ kind.Uint64 ∷ kind.Int32 ∷ kind.Fixed64 ∷ kind.Fixed32 ∷ kind.Bool ∷ kind.Text ∷ kind.Bytes ∷ kind.Uint32 ∷ kind.Sfixed32 ∷ kind.Sfixed64
+    ∷ kind.Sint32 ∷ kind.Sint64 ∷ []
+
+names : flat_map (λ k. kind_text old k ++ codes " ") kinds ≡ codes "double float int64 uint64 int32 fixed64 fixed32 bool string bytes uint32 sfixed32 sfixed64 sint32 sint64 "
+names = refl
+
+-- a message has presence without the word
+message_field : type_text old 0 shape.Explicit (kind.Message (record { 0 = 1 })) ≡ codes "shop.Item"
+message_field = refl
+
+optional_bytes : type_text old 0 shape.Explicit kind.Bytes ≡ codes "optional bytes"
+optional_bytes = refl
+
+open_enum : type_text old 0 (shape.List true) (kind.Enum (record { 0 = 0 })) ≡ codes "repeated shop.Size"
+open_enum = refl
 
 -- no such field
 nothing : line 3 Loses ≡ []

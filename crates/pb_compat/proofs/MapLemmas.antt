@@ -31,7 +31,7 @@ use Rattle.pb_compat.proofs.NeverLemmas.{MayHold, never_key, never_map}
 use Rattle.pb_compat.proofs.OtherwiseLemmas.{got, gives, gives_one}
 use Rattle.pb_compat.proofs.ReadingLemmas.{AreAt, read_whole}
 use Rattle.pb_compat.proofs.ShownLemmas.{can_hold}
-use Rattle.pb_compat.proofs.WholeLemmas.{key_kinds, may_be_value}
+use Rattle.pb_compat.proofs.FieldReadLemmas.{key_kinds, may_be_value}
 use Rattle.pb_compat.proofs.WitnessLemmas.{CanHold, IsMisread, alone_shows, same_alone, none_unknown, witness_alone, witness_read}
 
 module _ (old new : Types) (inner : ℕ → List Record → Message) (key l a b : Kind) (x : Scalar) (d : Datum) where

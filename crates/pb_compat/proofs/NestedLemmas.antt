@@ -46,7 +46,7 @@ use Rattle.pb_compat.proofs.OtherwiseLemmas.{uncut_open, open_shaped}
 use Rattle.pb_compat.proofs.ReadingLemmas.{AreAt, read_whole}
 use Rattle.pb_compat.proofs.ShortLemmas.{record_short, value_brief}
 use Rattle.pb_compat.proofs.ShownLemmas.{field_number}
-use Rattle.pb_compat.proofs.WholeLemmas.{may_be_value}
+use Rattle.pb_compat.proofs.FieldReadLemmas.{may_be_value}
 use Rattle.pb_compat.proofs.WitnessLemmas.{IsPlain, IsMisread, first_sound, alone_parts, alone_records, same_alone, none_unknown}
 
 -- THE RECORD OF A MESSAGE

@@ -32,6 +32,10 @@ pub each_weaker : (P Q : ℕ → Holding → Type 0) → ((k : ℕ) (h : Holding
 each_weaker P Q f no_fields w = tt
 each_weaker P Q f (field k h fs) w = (f k h w.0, each_weaker P Q f fs w.1)
 
+pub each_all : (P : ℕ → Holding → Type 0) → ((k : ℕ) (h : Holding) → P k h) → (fs : Fields) → EachField P fs
+each_all P f no_fields = tt
+each_all P f (field k h fs) = (f k h, each_all P f fs)
+
 -- the field of a number alone
 abbrev pub single : ℕ → Option Holding → Fields
 single k None = no_fields

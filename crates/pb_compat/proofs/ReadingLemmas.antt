@@ -54,7 +54,7 @@ at_append : (k : ℕ) (xs ys : List Record) → AreAt k xs → AreAt k ys → Ar
 at_append k [] ys h g = g
 at_append k (x ∷ xs) ys h g = (h.0, at_append k xs ys h.1 g)
 
-at_settled : (gs : List FieldView) (k : ℕ) (rs : List Record) → AreAt k rs → AreAt k (settled gs rs)
+pub at_settled : (gs : List FieldView) (k : ℕ) (rs : List Record) → AreAt k rs → AreAt k (settled gs rs)
 at_settled gs k [] h = tt
 at_settled gs k (r ∷ rs) h =
     at_append k (cut_at (field_numbered r.number gs) r) (settled gs rs)
@@ -68,7 +68,7 @@ module _ (new : Types) (rules : IsPool new) (n k : ℕ) (g : FieldView) (found :
   gs = message_fields new n
 
   -- a record of the number that counts fits the field, and has no number that its closed enum does not declare
-  counted : (r : Record) → r.number ≡ k → counts new gs r ≡ true → IsCounted new k g.shape g.kind r
+  pub counted : (r : Record) → r.number ≡ k → counts new gs r ≡ true → IsCounted new k g.shape g.kind r
   counted r own c =
       let there : field_numbered r.number gs ≡ Some g = ap (λ (i : ℕ). field_numbered i gs) own ∙ found in
       let parts = and_both (fits_any gs r) (not (is_undeclared new (closed_of (field_numbered r.number gs)) r.payload)) c in (
@@ -85,7 +85,7 @@ module _ (new : Types) (rules : IsPool new) (n k : ℕ) (g : FieldView) (found :
   all_counted [] h c = tt
   all_counted (r ∷ rs) h c = (counted r h.0 c.0, all_counted rs h.1 c.1)
 
-  fits_own : (r : Record) → IsCounted new k g.shape g.kind r → fits g r ≡ true
+  pub fits_own : (r : Record) → IsCounted new k g.shape g.kind r → fits g r ≡ true
   fits_own r c =
       ap (λ (i : ℕ). (i == g.number) && fits_shape g.shape g.kind (wire_type r.payload)) (c.0 ∙ sym (found_number k gs g found))
       ∙ ap (λ (b : Bool). b && fits_shape g.shape g.kind (wire_type r.payload)) (self_equal g.number) ∙ c.1

@@ -1,5 +1,5 @@
 -- Worked cases of the rules.
-use Rattle.std.proofs.Common.{◌≡◌, ℕ, ℤ, pos, List, [], ◌∷◌, true, false, Some, None, refl}
+use Rattle.std.proofs.Common.{◌≡◌, ℕ, ℤ, pos, List, [], ◌∷◌, map, true, false, Some, None, refl}
 use Rattle.pb_schema.specs.declared.types.Kind.{Kind}
 use Rattle.pb_schema.specs.declared.types.Kind.TheVariants as kind
 use Rattle.pb_schema.specs.declared.types.Shape.{Shape}
@@ -8,7 +8,7 @@ use Rattle.pb_schema.specs.Types.{FieldView, EnumView, Types}
 use Rattle.pb_compat.specs.declared.difference.Severity.{Severity}
 use Rattle.pb_compat.specs.declared.difference.Severity.TheVariants.{BreaksReading, Loses, ChangesPresence, Converts, Renames}
 use Rattle.pb_compat.specs.Oneofs.{at_most_one, is_crowded}
-use Rattle.pb_compat.specs.Fields.{keeps_shape, severities}
+use Rattle.pb_compat.specs.Fields.{keeps_shape, kind_form, severities}
 
 abbrev a_field : ℕ → ℕ → Kind → Shape → FieldView
 a_field letter n k s = record { name = letter ∷ []; number = n; kind = k; shape = s }
@@ -106,7 +106,45 @@ module _ (old new : Types) where
   into_list_with_presence : changed (a_field 97 1 kind.Int32 shape.Explicit) (a_field 97 1 kind.Int32 (shape.List true)) ≡ Converts ∷ []
   into_list_with_presence = refl
 
+  -- KINDS OF ONE WIRE TYPE
+
+  enum_as_int32 : changed (a_field 97 1 (kind.Enum (record { 0 = 0 })) shape.Implicit) (a_field 97 1 kind.Int32 shape.Implicit) ≡ Converts ∷ []
+  enum_as_int32 = refl
+
+  wider_unsigned : changed (a_field 97 1 kind.Uint32 shape.Implicit) (a_field 97 1 kind.Uint64 shape.Implicit) ≡ Converts ∷ []
+  wider_unsigned = refl
+
+  unsigned_as_int64 : changed (a_field 97 1 kind.Uint32 shape.Implicit) (a_field 97 1 kind.Int64 shape.Implicit) ≡ Converts ∷ []
+  unsigned_as_int64 = refl
+
+  wider_zigzag : changed (a_field 97 1 kind.Sint32 shape.Implicit) (a_field 97 1 kind.Sint64 shape.Implicit) ≡ Converts ∷ []
+  wider_zigzag = refl
+
+  bool_as_uint32 : changed (a_field 97 1 kind.Bool shape.Implicit) (a_field 97 1 kind.Uint32 shape.Implicit) ≡ Converts ∷ []
+  bool_as_uint32 = refl
+
+  string_as_bytes : changed (a_field 97 1 kind.Text shape.Implicit) (a_field 97 1 kind.Bytes shape.Implicit) ≡ Converts ∷ []
+  string_as_bytes = refl
+
+  zigzag_as_int32 : changed (a_field 97 1 kind.Sint32 shape.Implicit) (a_field 97 1 kind.Int32 shape.Implicit) ≡ BreaksReading ∷ []
+  zigzag_as_int32 = refl
+
+  fixed_as_signed : changed (a_field 97 1 kind.Fixed32 shape.Implicit) (a_field 97 1 kind.Sfixed32 shape.Implicit) ≡ BreaksReading ∷ []
+  fixed_as_signed = refl
+
+  bytes_as_message : changed (a_field 97 1 kind.Bytes shape.Explicit) (a_field 97 1 (kind.Message (record { 0 = 1 })) shape.Explicit) ≡ BreaksReading ∷ []
+  bytes_as_message = refl
+
   -- FORMS
+
+  -- the numbers of the kinds in descriptor.proto, and one more for a closed enum
+  abbrev kinds : List Kind
+  kinds =
+      kind.Double ∷ kind.Float ∷ kind.Int64 ∷ kind.Uint64 ∷ kind.Int32 ∷ kind.Fixed64 ∷ kind.Fixed32 ∷ kind.Bool ∷ kind.Text ∷ kind.Group (record { 0 = 0 }) ∷ kind.Message (record { 0 = 0 })
+      ∷ kind.Bytes ∷ kind.Uint32 ∷ kind.Enum (record { 0 = 0 }) ∷ kind.Sfixed32 ∷ kind.Sfixed64 ∷ kind.Sint32 ∷ kind.Sint64 ∷ kind.ClosedEnum (record { 0 = 0 }) ∷ []
+
+  numbers_of_kinds : map kind_form kinds ≡ 1 ∷ 2 ∷ 3 ∷ 4 ∷ 5 ∷ 6 ∷ 7 ∷ 8 ∷ 9 ∷ 10 ∷ 11 ∷ 12 ∷ 13 ∷ 14 ∷ 15 ∷ 16 ∷ 17 ∷ 18 ∷ 19 ∷ []
+  numbers_of_kinds = refl
 
   -- a list has one form, packed or not
   unpacked_list : changed (a_field 97 1 kind.Int32 (shape.List true)) (a_field 97 1 kind.Int32 (shape.List false)) ≡ []
@@ -145,3 +183,13 @@ still_closed = refl
 
 bool_as_closed : severities with_enum with_enum (λ o. false) (a_field 97 1 kind.Bool shape.Explicit) (Some (a_field 97 1 (kind.ClosedEnum (record { 0 = 0 })) shape.Explicit)) ≡ Converts ∷ []
 bool_as_closed = refl
+
+-- enum E { B = 1; }, which declares no 0: false is not written where presence is implicit
+abbrev with_one : Types
+with_one = record { files = []; messages = []; enums = record { name = []; file = 0; parent = None; values = ([], pos 1) ∷ [] } ∷ [] }
+
+true_as_one : severities with_one with_one (λ o. false) (a_field 97 1 kind.Bool shape.Implicit) (Some (a_field 97 1 (kind.ClosedEnum (record { 0 = 0 })) shape.Explicit)) ≡ ChangesPresence ∷ []
+true_as_one = refl
+
+false_as_one : severities with_one with_one (λ o. false) (a_field 97 1 kind.Bool shape.Explicit) (Some (a_field 97 1 (kind.ClosedEnum (record { 0 = 0 })) shape.Explicit)) ≡ BreaksReading ∷ []
+false_as_one = refl

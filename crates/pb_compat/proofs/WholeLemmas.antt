@@ -1,87 +1,27 @@
 -- What the new type reads of the canonical records of a message of any depth.
-use Rattle.std.proofs.Common.{◌≡◌, ℕ, zero, suc, ◌+◌, ◌<◌, ◌≤◌, List, [], ◌∷◌, ◌++◌, Bool, true, false, ◌&&◌, ◌||◌, Option, Some, None, refl, sym, ◌∙◌, ap, subst, arith, append-nil}
+use Rattle.std.proofs.Common.{◌≡◌, ℕ, zero, suc, ◌+◌, ◌<◌, ◌≤◌, List, ◌++◌, true, false, Option, Some, sym, ◌∙◌, ap, subst, arith, append-nil}
 use Rattle.std.specs.Prelude.{option_and_then}
-use Rattle.std.specs.List.{AllByRecursion}
-use Rattle.pb_wire.specs.Record.{Record, wire_type}
-use Rattle.pb_schema.specs.declared.types.Kind.{Kind}
-use Rattle.pb_schema.specs.declared.types.Kind.TheVariants as kind
-use Rattle.pb_schema.specs.declared.types.Shape.{Shape}
-use Rattle.pb_schema.specs.declared.types.Shape.TheVariants as shape
-use Rattle.pb_schema.specs.Types.{FieldView, MessageView, Types, message_fields, field_numbered}
-use Rattle.pb_schema.specs.Kinds.{wire_type_of, message_of_kind, closed_enum, written}
-use Rattle.pb_schema.specs.Closed.{closed_of, is_list_field, known, unknown}
-use Rattle.pb_schema.specs.Rules.{IsPool, MayBePacked, MayBeValue, HasKeyKind}
-use Rattle.pb_value.specs.Data.{scalar, message, no_datums, datum, Holding, one, list, map, Fields, no_fields, field, Message, body, fields_depth, holding_depth, message_depth}
+use Rattle.pb_wire.specs.Record.{Record}
+use Rattle.pb_schema.specs.Types.{FieldView, Types, message_fields, field_numbered}
+use Rattle.pb_schema.specs.Kinds.{message_of_kind}
+use Rattle.pb_schema.specs.Closed.{known, unknown}
+use Rattle.pb_schema.specs.Rules.{IsPool}
+use Rattle.pb_value.specs.Data.{Fields, no_fields, field, Message, body, fields_depth, message_depth}
 use Rattle.pb_value.specs.Value.{fields_held, value_within, value}
-use Rattle.pb_value.specs.Canon.{canon, canon_fields, canon_holding, record_of}
-use Rattle.pb_value.specs.Judge.Forms.{is_implicit}
-use Rattle.pb_value.specs.WellFormed.{IsOfShape, IsDatum, IsHeld, holds_declared, AreFields, IsBody}
+use Rattle.pb_value.specs.Canon.{canon, canon_fields}
+use Rattle.pb_value.specs.WellFormed.{IsOfShape, IsHeld, holds_declared, AreFields, IsBody}
 use Rattle.pb_value.proofs.FieldBack.{numbered_at}
-use Rattle.pb_value.proofs.HeldBack.{field_with}
-use Rattle.pb_value.proofs.KnownLemmas.{settled-same}
-use Rattle.pb_value.proofs.BodyBack.{can_pack, numbers_differ, canon-good}
-use Rattle.pb_value.proofs.JudgeLemmas.{found_in, fields_all}
-use Rattle.pb_value.proofs.Numbers.{found_number}
-use Rattle.pb_value.proofs.OpenedLemmas.{opened_shape}
+use Rattle.pb_value.proofs.BodyBack.{can_pack}
 use Rattle.pb_value.proofs.Options.{some_of}
 use Rattle.pb_compat.specs.Oneofs.{is_crowded}
-use Rattle.pb_compat.specs.Fields.{keeps_kind, keeps_others, keeps_shape, is_in_crowd}
+use Rattle.pb_compat.specs.Fields.{is_in_crowd}
 use Rattle.pb_compat.specs.Pairs.{pair_of, message_at, ReachedIn, begun_in, further_in}
 use Rattle.pb_compat.specs.Agrees.{NoneBreaks}
-use Rattle.pb_compat.specs.Agrees.{Agrees, HasNoUnknown, FieldsHaveNoUnknown, HoldsNoUnknown, ReadsMessages}
+use Rattle.pb_compat.specs.Agrees.{Agrees, HasNoUnknown, FieldsHaveNoUnknown, ReadsMessages}
 use Rattle.pb_compat.proofs.BreaksLemmas.{IsKept, kept_unbroken}
-use Rattle.pb_compat.proofs.ContentLemmas.{content_read, holding_read, IsCounted, one_counted, holding_counted, varint_uncut, opened_for, holding_settled}
-use Rattle.pb_compat.proofs.ConvertLemmas.{kept_read}
-use Rattle.pb_compat.proofs.FieldLemmas.{and_both}
-use Rattle.pb_compat.proofs.HoldingLemmas.{single_read}
-use Rattle.pb_compat.proofs.ScalarLemmas.{others_kept}
 use Rattle.pb_compat.proofs.OnlyLemmas.{EachField}
-use Rattle.pb_compat.proofs.MessageLemmas.{opened, FieldRead, IsReadAt, fields_agree, nothing_more, unknown_fields}
-
--- THE RULES OF A POOL
-
-pub key_kinds : (pool : Types) (m n : ℕ) (f : FieldView) → IsPool pool → field_numbered n (message_fields pool m) ≡ Some f → HasKeyKind f.shape
-key_kinds pool m n f rules e = (found_in (λ (g : FieldView). (t : MessageView) × HasKeyKind g.shape) n (message_fields pool m) f (fields_all (λ t g. HasKeyKind g.shape) pool pool.messages m rules.fields.shapes.keys) e).1
-
-pub may_be_value : (pool : Types) (m n : ℕ) (f : FieldView) → IsPool pool → field_numbered n (message_fields pool m) ≡ Some f → MayBeValue f.shape f.kind
-may_be_value pool m n f rules e =
-    (found_in (λ (g : FieldView). (t : MessageView) × MayBeValue g.shape g.kind) n (message_fields pool m) f (fields_all (λ t g. MayBeValue g.shape g.kind) pool pool.messages m rules.fields.shapes.values) e).1
-
--- KINDS THAT KEEP ALL BUT THE DEFAULT
-
-others_wire : (new : Types) (a b : Kind) → keeps_others new a b ≡ true → wire_type_of b ≡ 0
-others_wire new kind.Bool (kind.ClosedEnum e) q = refl
-others_wire new kind.Int32 (kind.ClosedEnum e) q = refl
-others_wire new (kind.Enum i) (kind.ClosedEnum e) q = refl
-others_wire new a b q = absurd (cc)
-
--- LISTS AS IF NOT PACKED
-
-opened_carries : (P : Shape → Type 0) → ((p : Bool) → P (shape.List p) → P (shape.List false)) → (t : Shape) (b : Kind) (s : Shape) → P s → P (opened_for t b s)
-opened_carries P carry (shape.List q) b s h = by (closed_enum b) s h
-  where
-    by : (e : Option ℕ) (s : Shape) → P s → P (opened_shape e s)
-    by None s h = h
-    by (Some e) (shape.List p) h = carry p h
-    by (Some e) shape.Implicit h = h
-    by (Some e) shape.Explicit h = h
-    by (Some e) (shape.OneofMember o) h = h
-    by (Some e) (shape.Map key) h = h
-opened_carries P carry shape.Implicit b s h = h
-opened_carries P carry shape.Explicit b s h = h
-opened_carries P carry (shape.OneofMember o) b s h = h
-opened_carries P carry (shape.Map key) b s h = h
-
-shape_carries : (h : Holding) (p : Bool) → IsOfShape (shape.List p) h → IsOfShape (shape.List false) h
-shape_carries (one d) p w = w
-shape_carries (list no_datums) p w = w
-shape_carries (list (datum d ds)) p w = tt
-shape_carries (map es) p w = w
-
-held_carries : (pool : Types) (k : Kind) (h : Holding) (p : Bool) → IsHeld pool (shape.List p) k h → IsHeld pool (shape.List false) k h
-held_carries pool k (one d) p w = w
-held_carries pool k (list ds) p w = w
-held_carries pool k (map es) p w = w
+use Rattle.pb_compat.proofs.MessageLemmas.{IsReadAt, fields_agree, nothing_more, unknown_fields}
+use Rattle.pb_compat.proofs.FieldReadLemmas.{field_read}
 
 -- ONE LEVEL
 
@@ -105,64 +45,8 @@ module _ (old new : Types) (rules_old : IsPool old) (rules_new : IsPool new) (st
     abbrev gs : List FieldView
     gs = message_fields new n
 
-    -- where the new kind keeps all values but the default
-    others_read : (k : ℕ) (f g : FieldView) (h : Holding) → f.number ≡ k → (is_implicit f.shape && keeps_others new f.kind g.kind) ≡ true → keeps_shape old new f.shape g.shape ≡ true → IsOfShape f.shape h → IsHeld old f.shape f.kind h
-        → FieldRead old new gs inner k f g h
-    others_read k f g h number others fit shaped w = by f.shape h (and_both (is_implicit f.shape) (keeps_others new f.kind g.kind) others).0 fit shaped w
-      where
-        keeps : keeps_others new f.kind g.kind ≡ true
-        keeps = (and_both (is_implicit f.shape) (keeps_others new f.kind g.kind) others).1
-
-        by : (s : Shape) (h : Holding) → is_implicit s ≡ true → keeps_shape old new s g.shape ≡ true → IsOfShape s h → IsHeld old s f.kind h → FieldRead old new gs inner k (field_with f.name f.number f.kind s) g h
-        by shape.Implicit (one (scalar x)) i fit shaped w =
-            let r = kept_read old new inner f.kind g.kind x (others_kept new f.kind g.kind keeps x w shaped) in
-            let written_so : wire_type (written f.kind x) ≡ 0 = r.wire ∙ others_wire new f.kind g.kind keeps in
-            record {
-              settles = settled-same gs (record_of f.number (written f.kind x) ∷ [])
-                  (varint_uncut (written f.kind x) (is_list_field (field_numbered f.number gs)) (closed_of (field_numbered f.number gs)) written_so, tt);
-              counted = subst (λ (j : ℕ). AllByRecursion (IsCounted new j g.shape g.kind) (record_of f.number (written f.kind x) ∷ [])) number
-                  (one_counted old new inner f.kind g.kind f.number g.shape (scalar x) fit r, tt);
-              agrees = single_read old new inner f.kind g.kind f.name f.number shape.Implicit g.shape (scalar x) fit r;
-            }
-        by shape.Implicit (one (message v)) i fit shaped w = absurd (others_scalar f.kind keeps w)
-          where
-            others_scalar : (a : Kind) → keeps_others new a g.kind ≡ true → IsDatum old a (message v) → ⊥
-            others_scalar (kind.Message j) e w = absurd (cc)
-            others_scalar (kind.Group j) e w = absurd (cc)
-            others_scalar a e w = w
-        by shape.Implicit h i fit shaped w = absurd shaped
-        by s h i fit shaped w = absurd (cc)
-
-    kept_read_at : (k : ℕ) (f g : FieldView) (h : Holding) → field_numbered k all ≡ Some f → field_numbered k gs ≡ Some g → keeps_kind old new f.kind g.kind ≡ true → keeps_shape old new f.shape g.shape ≡ true
-        → IsOfShape f.shape h → IsHeld old f.shape f.kind h → holds_declared old f.kind h ≡ true → HoldsNoUnknown h → holding_depth h ≤ levels → FieldRead old new gs inner k f g h
-    kept_read_at k f g h found_f found_g keeps fit shaped w declared none l =
-        let can = can_pack old m rules_old k f found_f in
-        let content = content_read old new inner (Pair (suc fields)) levels inside (canon-good old rules_old) f.kind g.kind keeps (lead fields m n k f g pair found_f found_g) f.shape h (may_be_value old m k f rules_old found_f) w declared none l in
-        let number : f.number ≡ k = found_number k all f found_f in
-        let there : field_numbered f.number gs ≡ Some g = ap (λ (i : ℕ). field_numbered i gs) number ∙ found_g in
-        let can_still : MayBePacked (opened_for g.shape g.kind f.shape) f.kind = opened_carries (λ s. MayBePacked s f.kind) (λ p x. tt) g.shape g.kind f.shape can in
-        let key_still : HasKeyKind (opened_for g.shape g.kind f.shape) = opened_carries HasKeyKind (λ p x. tt) g.shape g.kind f.shape (key_kinds old m k f rules_old found_f) in
-        let keeps_still : keeps_shape old new (opened_for g.shape g.kind f.shape) g.shape ≡ true = opened_carries (λ s. keeps_shape old new s g.shape ≡ true) (λ p x. x) g.shape g.kind f.shape fit in
-        let shaped_still : IsOfShape (opened_for g.shape g.kind f.shape) h = opened_carries (λ s. IsOfShape s h) (shape_carries h) g.shape g.kind f.shape shaped in
-        let held_still : IsHeld old (opened_for g.shape g.kind f.shape) f.kind h = opened_carries (λ s. IsHeld old s f.kind h) (held_carries old f.kind h) g.shape g.kind f.shape w in
-        record {
-          settles = holding_settled old new inner f.kind g.kind keeps f.name g.name f.number g.number gs f.shape g.shape h there can fit shaped w declared content;
-          counted = subst (λ (i : ℕ). AllByRecursion (IsCounted new i g.shape g.kind) (canon_holding old (opened f g) h)) number
-              (holding_counted old new inner f.kind g.kind keeps f.name f.number (opened_for g.shape g.kind f.shape) g.shape h can_still keeps_still shaped_still held_still declared content);
-          agrees = holding_read old new inner (canon-good old rules_old) f.kind g.kind keeps f.name f.number (opened_for g.shape g.kind f.shape) g.shape h can_still key_still (key_kinds new n k g rules_new found_g) keeps_still shaped_still held_still declared content;
-        }
-
-    field_read : (k : ℕ) (f g : FieldView) (h : Holding) → field_numbered k all ≡ Some f → field_numbered k gs ≡ Some g → IsOfShape f.shape h → IsHeld old f.shape f.kind h → holds_declared old f.kind h ≡ true → HoldsNoUnknown h → holding_depth h ≤ levels
-        → FieldRead old new gs inner k f g h
-    field_read k f g h found_f found_g shaped w declared none l = by (keeps_kind old new f.kind g.kind) refl
-      where
-        kept : IsKept old new m n f g
-        kept = kept_unbroken old new m n k f g (unbroken fields (m, n) few pair) found_f found_g
-
-        by : (b : Bool) → keeps_kind old new f.kind g.kind ≡ b → FieldRead old new gs inner k f g h
-        by true e = kept_read_at k f g h found_f found_g e kept.shape shaped w declared none l
-        by false e =
-            others_read k f g h (found_number k all f found_f) (ap (λ (b : Bool). b || (is_implicit f.shape && keeps_others new f.kind g.kind)) (sym e) ∙ kept.kind) kept.shape shaped w
+    field_unbroken : (k : ℕ) (f g : FieldView) → field_numbered k all ≡ Some f → field_numbered k gs ≡ Some g → IsKept old new m n f g
+    field_unbroken k f g found_f found_g = kept_unbroken old new m n k f g (unbroken fields (m, n) few pair) found_f found_g
 
     read_fields : (fs : Fields) → AreFields old all fs → FieldsHaveNoUnknown fs → fields_depth fs ≤ levels → EachField (IsReadAt old new all gs inner) fs
     read_fields no_fields w none l = tt
@@ -172,7 +56,9 @@ module _ (old new : Types) (rules_old : IsPool old) (rules_new : IsPool new) (st
             own = at.0;
             found = at.1;
             numbered = numbered_at old all (can_pack old m rules_old) k h at.0 at.1;
-            read = λ g found. field_read k at.0 g h at.1 found at.2.0 at.2.1 at.2.2 none.0 (omega (arith, l));
+            read = λ g found.
+                field_read old new rules_old rules_new m n levels inner (Pair (suc fields)) inside k at.0 g h (lead fields m n k at.0 g pair at.1 found) (field_unbroken k at.0 g at.1 found) at.1 found at.2.0 at.2.1 at.2.2 none.0
+                (omega (arith, l));
           },
           read_fields fs w.1 none.1 (omega (arith, l)),
         )
@@ -181,16 +67,14 @@ module _ (old new : Types) (rules_old : IsPool old) (rules_new : IsPool new) (st
         → Agrees old new m n (body fs us) (body (fields_held inner gs gs (known new gs (canon old m (body fs us)))) (unknown new gs (canon old m (body fs us))))
     body_agrees fs us w none l =
         let read = read_fields fs w.0 none.1 l in
-        let differ = numbers_differ new n rules_new in
-        let calm : (k : ℕ) (f g : FieldView) → field_numbered k all ≡ Some f → field_numbered k gs ≡ Some g → is_in_crowd (is_crowded all gs) g.shape ≡ false =
-        λ k f g found_f found_g. (kept_unbroken old new m n k f g (unbroken fields (m, n) few pair) found_f found_g).calm in
+        let calm : (k : ℕ) (f g : FieldView) → field_numbered k all ≡ Some f → field_numbered k gs ≡ Some g → is_in_crowd (is_crowded all gs) g.shape ≡ false = λ k f g found_f found_g. (field_unbroken k f g found_f found_g).calm in
         let same : canon old m (body fs us) ≡ canon_fields old all fs = ap (λ (rs : List Record). canon_fields old all fs ++ rs) none.0 ∙ append-nil (canon_fields old all fs) in
         subst (λ (rs : List Record). Agrees old new m n (body fs us) (body (fields_held inner gs gs (known new gs rs)) (unknown new gs rs))) (sym same)
-        (fields_agree old new all gs inner differ fs w.1 w.0 w.2 read calm, nothing_more old new all gs inner differ fs w.1 w.0 w.2 read calm, unknown_fields old new all gs inner fs read)
+        (fields_agree old new rules_new all n inner fs w.1 w.0 w.2 read calm, nothing_more old new rules_new all n inner fs w.1 w.0 w.2, unknown_fields old new all gs inner fs read)
 
   -- ALL LEVELS
 
-  within_agrees : (levels fields m n : ℕ) (v : Message) → Pair fields m n → fields + levels ≤ 101 → IsBody old m v → HasNoUnknown v → message_depth v < levels → Agrees old new m n v (value_within new levels n (canon old m v))
+  pub within_agrees : (levels fields m n : ℕ) (v : Message) → Pair fields m n → fields + levels ≤ 101 → IsBody old m v → HasNoUnknown v → message_depth v < levels → Agrees old new m n v (value_within new levels n (canon old m v))
   unfolding value_within
   within_agrees zero fields m n v pair few w none l = absurd (omega (arith, l))
   within_agrees (suc levels) fields m n (body fs us) pair few w none l =

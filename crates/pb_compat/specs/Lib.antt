@@ -10,3 +10,4 @@ pub mod Lines
 pub mod Witness
 pub mod Samples
 pub mod Nested
+pub mod Effects

@@ -5,6 +5,7 @@ ghost use Rattle.pb_schema.specs.Types.{Types};
 ghost use Rattle.pb_schema.specs.declared.types.Kind.{Kind};
 ghost use Rattle.pb_compat.specs.Scalars.{keeps_scalars, KeepsScalars, ScalarsAreLost};
 ghost use Rattle.pb_compat.specs.Agrees.{ReadsMessages, ReadsEncodings};
+ghost use Rattle.pb_compat.specs.Effects.{LostArePassedOn, ConvertedAreKept, PresenceIsTurned};
 ghost use Rattle.pb_compat.specs.Witness.{OneIsShown, ShapeIsShown, PairIsShown, MapIsShown, PackedIsShown};
 ghost use Rattle.pb_schema.specs.Rules.{IsPool};
 
@@ -39,4 +40,14 @@ pub fn witnessed()
     ensures pair { (old new : Types) → IsPool old → IsPool new → PairIsShown old new }
     ensures map { (old new : Types) → IsPool old → IsPool new → MapIsShown old new }
     ensures packed { (old new : Types) → IsPool old → IsPool new → PackedIsShown old new }
+{}
+
+/// What differences that do not break reading do to messages. Of a field that is lost: its records become unknown records of the message that is
+/// read, and are written again (`loses`). Of one that is converted, or changes presence: each message of the old type holds the same in the new
+/// field, and a message with this field alone is read (`converts`, `presence`). If it changes presence, a default that the old field sets is
+/// read as not set, or no old message sets the new field to a default (`presence`).
+pub fn effects()
+    ensures loses { (old new : Types) → IsPool new → LostArePassedOn old new }
+    ensures converts { (old new : Types) → IsPool old → IsPool new → ConvertedAreKept old new }
+    ensures presence { (old new : Types) → IsPool old → IsPool new → PresenceIsTurned old new }
 {}
