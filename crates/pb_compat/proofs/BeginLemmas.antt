@@ -1,5 +1,5 @@
 -- The pairs where a walk begins, added one by one.
-use Rattle.std.proofs.Common.{◌≡◌, ◌+◌, ◌<◌, ◌≤◌, inl, inr, ⊎_elim, ℕ, List, [], ◌∷◌, ◌++◌, length, take, Option, Some, None, sym, ◌∙◌, ap, subst, arith, Contains, length-take-le}
+use Rattle.std.proofs.Common.{◌≡◌, ◌+◌, ◌<◌, inl, inr, ⊎_elim, ℕ, List, [], ◌∷◌, ◌++◌, length, take, Option, Some, None, sym, ◌∙◌, ap, subst, arith, Contains, length-take-le}
 use Rattle.std.specs.Prelude.{slice_get}
 use Rattle.pb_schema.specs.Names.{AllDiffer}
 use Rattle.pb_schema.specs.Types.{Types}

@@ -1,11 +1,11 @@
 -- Worked cases of what differences that do not break do to messages.
-use Rattle.std.proofs.Common.{◌≡◌, ℕ, pos, List, [], ◌∷◌, true, Option, Some, None, refl}
-use Rattle.pb_wire.specs.Record.{Record, varint, len}
+use Rattle.std.proofs.Common.{◌≡◌, ℕ, pos, [], ◌∷◌, true, Option, Some, None, refl}
+use Rattle.pb_wire.specs.Record.{Record, varint}
 use Rattle.pb_schema.specs.declared.types.Kind.{Kind}
 use Rattle.pb_schema.specs.declared.types.Kind.TheVariants as kind
 use Rattle.pb_schema.specs.declared.types.Shape.{Shape}
 use Rattle.pb_schema.specs.declared.types.Shape.TheVariants as shape
-use Rattle.pb_schema.specs.Types.{FieldView, MessageView, Types}
+use Rattle.pb_schema.specs.Types.{FieldView, Types}
 use Rattle.pb_schema.specs.Scalar.{int32, int64, boolean}
 use Rattle.pb_value.specs.Data.{scalar, message, empty, Holding, one, no_fields, field, body}
 use Rattle.pb_value.specs.Value.{value, value_within}

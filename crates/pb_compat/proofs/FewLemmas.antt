@@ -1,5 +1,5 @@
 -- The steps of a comparison to a pair are as few as the fields that lead there.
-use Rattle.std.proofs.Common.{◌≡◌, ◌≤◌, ◌<◌, ◌⊎◌, inl, inr, ⊎_elim, ℕ, zero, suc, ◌+◌, List, [], ◌∷◌, length, map, Bool, true, false, Option, Some, None, refl, sym, ◌∙◌, ap, subst, arith, Contains}
+use Rattle.std.proofs.Common.{◌≡◌, ◌≤◌, ◌<◌, ◌⊎◌, inl, inr, ⊎_elim, ℕ, zero, suc, ◌+◌, List, length, map, Bool, true, false, Option, Some, None, refl, sym, ◌∙◌, ap, subst, arith, Contains}
 use Rattle.std.specs.Prelude.{◌↔◌, ◌&&◌, nat_lt, slice_get, IsSomeAnd}
 use Rattle.std.proofs.lemmas.Bool.Decides.{nat_tests}
 use Rattle.std.proofs.lemmas.Bool.{cases_lt}
@@ -11,7 +11,7 @@ use Rattle.pb_compat.specs.declared.difference.Step.{Step}
 use Rattle.pb_compat.specs.Agrees.{break_among}
 use Rattle.pb_compat.specs.Fields.{differences_at}
 use Rattle.pb_compat.specs.Nested.{IsReachedFrom, IsFoundWhereNear}
-use Rattle.pb_compat.specs.Pairs.{leads, types_of, ReachedFrom, ReachedIn, begun_in, further_in, IsWithinFields, IsReachedBy, IsNoLater, IsComparisonFrom}
+use Rattle.pb_compat.specs.Pairs.{leads, types_of, ReachedIn, begun_in, further_in, IsWithinFields, IsReachedBy, IsNoLater, IsComparisonFrom}
 use Rattle.pb_compat.proofs.ClimbLemmas.{began_in}
 use Rattle.pb_compat.proofs.Lists.{get_earlier, get_mapped, index_of, mapped_got, one_index}
 use Rattle.pb_compat.proofs.ReportedLemmas.{reached_by_fields}

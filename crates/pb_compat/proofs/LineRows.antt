@@ -1,12 +1,12 @@
 -- Worked lines of differences.
-use Rattle.std.proofs.Common.{◌≡◌, ℕ, ℤ, pos, List, [], ◌∷◌, true, false, Some, None, refl}
+use Rattle.std.proofs.Common.{◌≡◌, ℕ, pos, List, [], ◌∷◌, true, false, None, refl}
 use Rattle.std.specs.Fmt.{digits}
 use Rattle.std.specs.Prelude.{codes, ◌++◌, flat_map}
 use Rattle.pb_schema.specs.declared.types.Kind.{Kind}
 use Rattle.pb_schema.specs.declared.types.Kind.TheVariants as kind
 use Rattle.pb_schema.specs.declared.types.Shape.{Shape}
 use Rattle.pb_schema.specs.declared.types.Shape.TheVariants as shape
-use Rattle.pb_schema.specs.Types.{FieldView, MessageView, EnumView, FileView, Types}
+use Rattle.pb_schema.specs.Types.{FieldView, MessageView, Types}
 use Rattle.pb_compat.specs.declared.difference.Severity.{Severity}
 use Rattle.pb_compat.specs.declared.difference.Severity.TheVariants.{BreaksReading, Loses, ChangesPresence, Converts, Renames}
 use Rattle.pb_compat.specs.Lines.{difference_text, kind_text, type_text}

@@ -1,11 +1,9 @@
 -- Worked cases of the pairs of a comparison: where it begins, how each pair is reached, and in which order.
-use Rattle.std.proofs.Common.{◌≡◌, ◌<◌, ◌≤◌, ◌⊎◌, inl, inr, ℕ, List, [], ◌∷◌, Option, Some, None, refl, ap, arith, Contains}
+use Rattle.std.proofs.Common.{◌≡◌, ◌≤◌, inl, inr, ℕ, List, [], ◌∷◌, Option, Some, None, refl, ap, arith, Contains}
 use Rattle.std.specs.Prelude.{Vec}
 use Rattle.std.specs.declared.alloc.Global.{Global}
 use Rattle.pb_graphs.proofs.ContainsLemmas.{Contains-first, Contains-one}
-use Rattle.pb_schema.specs.declared.types.Kind.{Kind}
 use Rattle.pb_schema.specs.declared.types.Kind.TheVariants as kind
-use Rattle.pb_schema.specs.declared.types.Shape.{Shape}
 use Rattle.pb_schema.specs.declared.types.Shape.TheVariants as shape
 use Rattle.pb_schema.specs.Types.{FieldView, MessageView, Types}
 use Rattle.pb_compat.specs.declared.difference.ComparedTypes.{ComparedTypes}

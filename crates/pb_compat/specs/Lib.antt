@@ -11,3 +11,4 @@ pub mod Witness
 pub mod Samples
 pub mod Nested
 pub mod Effects
+pub mod Bounded

@@ -45,6 +45,10 @@ pub record IsWithinFields (old new : Types) (starts : List (ℕ × ℕ)) (most :
   pub few : fields ≤ most
   pub reached : ReachedIn old new start fields p
 
+-- more pairs than this are reached from some
+abbrev pub ReachesMore : Types → Types → List (ℕ × ℕ) → ℕ → Type 0
+ReachesMore old new starts most = (ps : List (ℕ × ℕ)) × AllDiffer ps × AllByRecursion (ReachedFrom old new starts) ps × (most < length ps)
+
 -- A COMPARISON
 
 -- the numbers of some fields, in rising order

@@ -1,10 +1,11 @@
 //! The comparison of two types, and of all types that their fields lead to.
 
-ghost use Rattle.std.specs.Prelude.{◌≡◌, ◌<◌, ℕ, Some, length, slice_get, IfOk, OnOk};
+ghost use Rattle.std.specs.Prelude.{◌≡◌, ◌<◌, ℕ, [], ◌∷◌, Some, length, slice_get, IfOk, OnOk};
 ghost use Rattle.std.specs.List.{AllByRecursion};
 ghost use Rattle.pb_compat.specs.Namesakes.{namesakes as namesakes_of};
 ghost use Rattle.pb_compat.specs.Nested.{AreLinked, IsReachedFrom};
 ghost use Rattle.pb_compat.specs.Pairs.{types_of, AreDifferences, IsComparison, IsComparisonFrom};
+ghost use Rattle.pb_compat.specs.Bounded.{Compares, IsWithinBound, Links, Exceeds};
 ghost use Rattle.pb_compat.specs.Walk.{pairs_of, steps_of, FollowsAll, IsWithin};
 ghost use Rattle.pb_compat.specs.Pairs.{AreRising};
 ghost use Rattle.pb_schema.specs.Names.{AllDiffer};
@@ -84,6 +85,43 @@ fn compare_pairs(
     Ok(compared)
 }
 
+/// Compares the types of some pairs, and of all pairs that their fields lead to; None if more than `max_pairs` are reached.
+fn compare_few(
+    alloc: Global,
+    old: &Pool,
+    new: &Pool,
+    starts: &[(usize, usize)],
+    max_pairs: usize,
+) -> Result<Option<Vec<ComparedTypes>>, AllocError>
+    requires within { AllByRecursion (IsWithin old.now new.now) starts.now }
+    requires differ { AllDiffer starts.now }
+    ensures compared { IfOk result (Compares old.now new.now starts.now) }
+    ensures linked { IfOk result (Links old.now new.now) }
+    ensures few { IfOk result (IsWithinBound max_pairs) }
+    ensures many { IfOk result (Exceeds old.now new.now starts.now max_pairs) }
+{
+    let mut pairs = Pairs::begin(alloc, starts)?;
+    let mut compared = Vec::new(alloc);
+    while let Some((from, to)) = pairs.get(compared.len()) {
+        let reached = pairs.len();
+        if reached > max_pairs {
+            return Ok(None);
+        }
+        let index = compared.len();
+        let types = compare_types(
+            alloc,
+            old,
+            MessageId(from),
+            new,
+            MessageId(to),
+            index,
+            &mut pairs,
+        )?;
+        compared.push(types)?;
+    }
+    Ok(Some(compared))
+}
+
 /// Compares a message type of an old pool with one of a new pool, and each pair of types that fields of the same number lead to if both
 /// hold messages. Each pair is compared once, in the order in which it was reached first; the types given are the first pair.
 ///
@@ -116,4 +154,40 @@ pub fn compare_all(alloc: Global, old: &Pool, new: &Pool) -> Result<Vec<Compared
 {
     let starts = namesakes(alloc, old, new)?;
     compare_pairs(alloc, old, new, &starts)
+}
+
+/// Compares two types, of the old pool and of the new one, as `compare` does; None if more than `max_pairs` pairs are reached. Until then it keeps
+/// no more than these and those that the fields of one pair lead to. So the caller bounds the time and the memory that schemas of strangers take:
+/// two of n types can reach n squared pairs.
+pub fn compare_within(
+    alloc: Global,
+    old: &Pool,
+    new: &Pool,
+    types: (MessageId, MessageId),
+    max_pairs: usize,
+) -> Result<Option<Vec<ComparedTypes>>, AllocError>
+    requires old { types.0.0 < length old.now.messages }
+    requires new { types.1.0 < length new.now.messages }
+    ensures compared { IfOk result (Compares old.now new.now ((types.0.0, types.1.0) ∷ [])) }
+    ensures linked { IfOk result (Links old.now new.now) }
+    ensures few { IfOk result (IsWithinBound max_pairs) }
+    ensures many { IfOk result (Exceeds old.now new.now ((types.0.0, types.1.0) ∷ []) max_pairs) }
+{
+    compare_few(alloc, old, new, &[(types.0.0, types.1.0)], max_pairs)
+}
+
+/// Compares all types as `compare_all` does; None if more than `max_pairs` pairs are reached.
+pub fn compare_all_within(
+    alloc: Global,
+    old: &Pool,
+    new: &Pool,
+    max_pairs: usize,
+) -> Result<Option<Vec<ComparedTypes>>, AllocError>
+    ensures compared { IfOk result (Compares old.now new.now (namesakes_of old.now new.now)) }
+    ensures linked { IfOk result (Links old.now new.now) }
+    ensures few { IfOk result (IsWithinBound max_pairs) }
+    ensures many { IfOk result (Exceeds old.now new.now (namesakes_of old.now new.now) max_pairs) }
+{
+    let starts = namesakes(alloc, old, new)?;
+    compare_few(alloc, old, new, &starts, max_pairs)
 }

@@ -32,7 +32,7 @@ mod scalars;
 mod witnesses;
 
 pub use breaking::breaks_reading;
-pub use comparing::{compare, compare_all};
+pub use comparing::{compare, compare_all, compare_all_within, compare_within};
 pub use difference::{ComparedTypes, Difference, Severity, Step};
 pub use namesakes::namesake;
 pub use nested::nested_witness;

@@ -98,6 +98,13 @@ impl Pairs {
         Ok(())
     }
 
+    /// How many pairs there are.
+    pub(crate) fn len(&self) -> usize
+        ensures { result ≡ length (pairs_of self.now) }
+    {
+        self.seen.len()
+    }
+
     /// The pair at an index.
     pub(crate) fn get(&self, index: usize) -> Option<(usize, usize)>
         ensures { result ≡ slice_get (pairs_of self.now) index }

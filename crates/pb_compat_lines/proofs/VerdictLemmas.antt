@@ -1,5 +1,5 @@
 -- What the lines of a comparison are together.
-use Rattle.std.proofs.Common.{◌≡◌, ℕ, List, [], ◌++◌, Bool, Option, Some, None, length, refl, sym, ap, ◌∙◌, subst}
+use Rattle.std.proofs.Common.{◌≡◌, ℕ, List, [], ◌++◌, Bool, Option, Some, None, length, ap, ◌∙◌}
 use Rattle.std.specs.Prelude.{◌||◌, Result, Ok, Err, IfOk}
 use Rattle.std.specs.declared.alloc.AllocError.{AllocError}
 use Rattle.pb_schema.specs.Types.{Types}
@@ -9,7 +9,7 @@ use Rattle.pb_compat.specs.Pairs.{IsComparison, IsComparisonFrom}
 use Rattle.pb_compat.specs.declared.difference.ComparedTypes.{ComparedTypes}
 use Rattle.pb_compat_lines.specs.Lines.{compared_lines, lacks_below, missing_below, or_ok}
 use Rattle.pb_compat_lines.specs.Verdict.{IsReportOfAll, IsReportOfTypes, Judges, Reports}
-use Rattle.pb_compat_lines.specs.declared.verdict.Readers.TheVariants.{New, Both}
+use Rattle.pb_compat_lines.specs.declared.verdict.Readers.TheVariants.{New}
 use Rattle.pb_compat_lines.specs.declared.verdict.Verdict.{Verdict}
 
 module _ (prefix : List ℕ) (old new : Types) (cs : List ComparedTypes) where

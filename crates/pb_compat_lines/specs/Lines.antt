@@ -1,5 +1,5 @@
 -- The lines of a comparison of two pools. Each begins with a prefix.
-use Rattle.std.specs.Prelude.{ℕ, zero, suc, List, [], ◌∷◌, ◌++◌, codes, Bool, true, false, ◌||◌, if◌then◌else◌, flat_map, is_none, Option, Some, None, slice_get}
+use Rattle.std.specs.Prelude.{ℕ, zero, suc, List, [], ◌∷◌, ◌++◌, codes, Bool, false, ◌||◌, if◌then◌else◌, flat_map, is_none, Option, Some, None, slice_get}
 use Rattle.std.specs.Str.{bytes_eq}
 use Rattle.pb_schema.specs.Names.{message_names, name_at}
 use Rattle.pb_schema.specs.Types.{FieldView, Types}

@@ -1,6 +1,5 @@
 -- What a comparison of two pools prints, and whether it found a difference that breaks reading.
-use Rattle.std.specs.Prelude.{◌≡◌, ◌⊎◌, ℕ, List, [], ◌++◌, codes, Bool, ◌||◌, length, Option, Some, None, Result, Ok, Err}
-use Rattle.std.specs.declared.alloc.AllocError.{AllocError}
+use Rattle.std.specs.Prelude.{◌≡◌, ◌⊎◌, ℕ, List, [], ◌++◌, codes, Bool, ◌||◌, length, Option, Some, None}
 use Rattle.pb_schema.specs.Names.{message_names}
 use Rattle.pb_schema.specs.Tables.{place_of}
 use Rattle.pb_schema.specs.Types.{Types}
