@@ -23,7 +23,9 @@ pub mod GraphLemmas
 pub mod ComponentLemmas
 -- for sets of names, and the packages that files make
 pub mod NameSetsLemmas
--- for scopes, one after another outwards
+-- for scopes that pass a test, and the first part of a name
 pub mod ScopeSteps
 -- for the places of full names
 pub mod PlacesLemmas
+-- for names as paths of words, and the scopes in which a name may be
+pub mod WordLemmas

@@ -7,6 +7,7 @@ pub mod Oneofs
 pub mod Marks
 pub mod View
 pub mod Firsts
+pub mod Words
 pub mod Graphs
 pub mod Components
 pub mod PackageSets

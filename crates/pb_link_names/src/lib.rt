@@ -18,3 +18,4 @@ pub mod scene;
 mod scopes;
 pub mod sight;
 pub mod type_refs;
+pub mod words;

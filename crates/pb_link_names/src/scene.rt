@@ -15,8 +15,9 @@ use crate::declaration::Declaration;
 use crate::found::Found;
 use crate::package_set::PackageSet;
 use crate::places::{Places, Want};
-use crate::scopes::{first_part, has_dot, outer};
+use crate::scopes::{beginning, first_part, has_dot};
 use crate::sight::Sight;
+use crate::words::Words;
 use pb_schema::scoped;
 use std::alloc::{AllocError, Global};
 
@@ -26,6 +27,8 @@ pub struct Scene<'a> {
     pub places: Places<'a>,
     /// The packages of all files.
     pub packages: PackageSet,
+    /// The words of the names of all files.
+    pub words: Words<'a>,
     pub sight: Sight,
     /// The packages of the files that are seen.
     pub seen: PackageSet,
@@ -105,12 +108,12 @@ impl Scene<'_> {
         ensures { IfOk result (λ o. option_map (λ s. s.now) o ≡ find (decides (map declaration_view row.now) (scene_sees everywhere self.now) name.now)
             (scopes_from scope.now)) }
     {
-        let mut around = Some(scope);
-        while let Some(scope) = around {
+        let mut lens = self.words.scopes_with(alloc, scope, first_part(name))?;
+        while let Some(len) = lens.pop() {
+            let scope = beginning(scope, len);
             if self.decides(alloc, row, everywhere, name, scope)? {
                 return Ok(Some(scope));
             }
-            around = outer(scope);
         }
         Ok(None)
     }
@@ -216,12 +219,12 @@ impl Scene<'_> {
         ensures { IfOk result (λ b. b ≡ list_any (λ s. is_taken (map declaration_view row.now) (scene_sees false self.now) (in_scope s name.now))
             (scopes_from scope.now)) }
     {
-        let mut around = Some(scope);
-        while let Some(scope) = around {
+        let mut lens = self.words.scopes_with(alloc, scope, first_part(name))?;
+        while let Some(len) = lens.pop() {
+            let scope = beginning(scope, len);
             if self.is_taken_in(alloc, row, scope, name)? {
                 return Ok(true);
             }
-            around = outer(scope);
         }
         Ok(false)
     }

@@ -1,8 +1,7 @@
 //! Parts of names, and scopes.
 
-ghost use Rattle.std.specs.Prelude.{◌≡◌, option_map};
+ghost use Rattle.std.specs.Prelude.{◌≡◌, take, drop};
 ghost use Rattle.pb_link_names.specs.Lookup.{has_dot, first_part};
-ghost use Rattle.pb_link_names.specs.Scopes.{IsOuter};
 
 pub(crate) fn has_dot(name: &[u8]) -> bool
     ensures { result ≡ has_dot name.now }
@@ -22,19 +21,29 @@ pub(crate) fn first_part(name: &[u8]) -> &[u8]
     name
 }
 
-/// The scope around one.
-pub(crate) fn outer(scope: &[u8]) -> Option<&[u8]>
-    ensures { IsOuter scope.now (option_map (λ s. s.now) result) }
+/// The beginning of a length, or all.
+pub(crate) fn beginning(bytes: &[u8], len: usize) -> &[u8]
+    ensures { result.now ≡ take len bytes.now }
 {
-    if scope.is_empty() {
-        return None;
+    if len < bytes.len() {
+        return &bytes[..len];
     }
-    let mut index = scope.len();
-    while index > 0 {
-        index -= 1;
-        if scope[index] == b'.' {
-            return Some(&scope[..index]);
-        }
+    bytes
+}
+
+/// What follows a beginning of a length.
+fn rest(bytes: &[u8], len: usize) -> &[u8]
+    ensures { result.now ≡ drop len bytes.now }
+{
+    if len < bytes.len() {
+        return &bytes[len..];
     }
-    Some(&scope[..0])
+    &bytes[bytes.len()..]
+}
+
+/// The bytes from one index up to another.
+pub(crate) fn part(bytes: &[u8], start: usize, end: usize) -> &[u8]
+    ensures { result.now ≡ drop start (take end bytes.now) }
+{
+    rest(beginning(bytes, end), start)
 }

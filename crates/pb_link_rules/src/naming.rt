@@ -26,6 +26,7 @@ use pb_link_names::places::Places;
 use pb_link_names::scene::Scene;
 use pb_link_names::sight::Sight;
 use pb_link_names::type_refs::{TypeRefs, refs_of};
+use pb_link_names::words::words_of;
 use std::alloc::{AllocError, Global};
 
 fn front(bytes: &[u8], len: usize) -> &[u8]
@@ -141,11 +142,13 @@ fn scene_of<'a>(
 {
     let places = Places::new(alloc, row)?;
     let packages = all_packages(alloc, files)?;
+    let words = words_of(alloc, row)?;
     let sight = Sight::new(alloc, imports)?;
     let seen = seen_packages(alloc, files, &sight)?;
     Ok(Scene {
         places,
         packages,
+        words,
         sight,
         seen,
     })

@@ -1,4 +1,4 @@
-use Rattle.std.proofs.Common.{◌≡◌, ◌∙◌, ◌==◌, [], ap, sym, Some, take, get_or, subst}
+use Rattle.std.proofs.Common.{◌≡◌, ◌∙◌, ◌==◌, [], ap, Some, take, get_or}
 use Rattle.std.proofs.lemmas.List.{take_more}
 use Rattle.pb_schema.specs.Names.{with_front}
 use Rattle.pb_tries.specs.Tries.{node_of}

@@ -1,4 +1,4 @@
-use Rattle.std.proofs.Common.{◌≡◌, ◌||◌, ◌==◌, ◌∙◌, Bool, length, ap, arith}
+use Rattle.std.proofs.Common.{◌||◌, ◌==◌, ◌∙◌, Bool, ap, arith}
 use Rattle.pb_link_names.proofs.NameSetsLemmas.{marked_now}
 use Rattle.pb_link_names.proofs.package_set.PackageSet.mark.Goals as goal
 

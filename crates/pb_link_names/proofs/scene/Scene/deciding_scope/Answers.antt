@@ -1,14 +1,32 @@
-use Rattle.std.proofs.Common.{◌∙◌, List, ℕ, Option, Bor, map, sym, ap}
-use Rattle.std.specs.Prelude.{find, option_map}
+use Rattle.std.proofs.Common.{◌∙◌, Some, map, take, cond, sym, ap}
 use Rattle.pb_link_names.specs.View.{declaration_view}
 use Rattle.pb_link_names.specs.Lookup.{decides}
-use Rattle.pb_link_names.specs.Scopes.{scopes_of}
 use Rattle.pb_link_names.specs.Scene.{scene_sees}
-use Rattle.pb_link_names.proofs.ScopeSteps.{scopes_outer}
+use Rattle.pb_link_names.specs.Words.{may_hold}
+use Rattle.pb_link_names.proofs.WordLemmas.{found_last, scopes_enough, scope_popped, none_found, none_left, decides_may}
 use Rattle.pb_link_names.proofs.scene.Scene.deciding_scope.Goals as goal
 
-pub loop-around-preserved : goal.loop-around-preserved
-loop-around-preserved c =
+pub loop-len-init : goal.loop-len-init
+loop-len-init c =
+    let ds = map declaration_view c.args.row.now in
+    let sees = scene_sees c.args.everywhere c.args.self.now in
+    scopes_enough (decides ds sees c.args.name.now) (may_hold c.args.self.now.words c.first_part.result.now) c.args.scope.now (map (λ n. take n c.args.scope.now) c.in_ok-lens.lens.items)
+    (λ r is. ap (λ w. may_hold c.args.self.now.words w r) c.first_part.ensures ∙ decides_may ds sees c.args.self.now.words c.args.name.now c.requires.words r is) c.in_ok-lens.ensures
+
+pub returns-then-branch : goal.returns-then-branch
+returns-then-branch c =
     let t = decides (map declaration_view c.args.row.now) (scene_sees c.args.everywhere c.args.self.now) c.args.name.now in
-    let at = ap (λ (o : Option (Bor (List ℕ))). find t (scopes_of (option_map (λ s. s.now) o))) c.in-Some.is in
-    c.loop-around.invariant ∙ at ∙ scopes_outer t c.in-Some.scope.now (option_map (λ s. s.now) c.outer-around.result) c.outer-around.ensures (sym c.in_ok-decides.ensures ∙ c.if-branch.false)
+    let here = take c.in-Some.len c.args.scope.now in
+    ap Some c.beginning-scope.ensures
+    ∙ sym (c.loop-len.invariant ∙ scope_popped t c.args.scope.now c.loop-len.lens.items c.pop.new.self.items c.in-Some.len c.in-Some.ensures.items ∙ ap (λ b. cond b (Some here) (found_last t (map (λ n. take n c.args.scope.now) c.pop.new.self.items))) (ap t (sym c.beginning-scope.ensures) ∙ sym c.in_ok-decides.ensures ∙ c.if-branch.true))
+
+pub loop-len-preserved : goal.loop-len-preserved
+loop-len-preserved c =
+    let t = decides (map declaration_view c.args.row.now) (scene_sees c.args.everywhere c.args.self.now) c.args.name.now in
+    let here = take c.in-Some.len c.args.scope.now in
+    c.loop-len.invariant ∙ scope_popped t c.args.scope.now c.loop-len.lens.items c.pop.new.self.items c.in-Some.len c.in-Some.ensures.items ∙ ap (λ b. cond b (Some here) (found_last t (map (λ n. take n c.args.scope.now) c.pop.new.self.items))) (ap t (sym c.beginning-scope.ensures) ∙ sym c.in_ok-decides.ensures ∙ c.if-branch.false)
+
+pub returns : goal.returns
+returns c =
+    let t = decides (map declaration_view c.args.row.now) (scene_sees c.args.everywhere c.args.self.now) c.args.name.now in
+    sym (c.loop-len.invariant ∙ none_found t c.args.scope.now c.loop-len.lens.items (none_left c.loop-len.lens c.in_default.ensures.cases.0))
