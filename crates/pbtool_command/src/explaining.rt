@@ -10,7 +10,7 @@ use crate::cleanup::Cleanup;
 use crate::command::{Command, Source};
 use crate::executing::perform;
 use pb_output::Sink;
-use pb_wire::{FailurePlan, MemOutput, Output};
+use pb_wire::Output;
 use pbtool_files::{Files, Refusal};
 use pbtool_hints::{Subject, TypeOf, explain};
 use std::alloc::Global;
@@ -96,9 +96,8 @@ fn write_reasons<F: Files, E: Output>(
 )
     ensures { (more : List ℕ) × SentOrCut E.written E.failures err.old err.new more }
 {
-    let mut lines = MemOutput::new(alloc, usize::MAX, FailurePlan::NEVER);
-    explain(alloc, subject_of(command), refusal, files, &mut lines);
-    write_bytes(lines.bytes(), err);
+    let lines = explain(alloc, subject_of(command), refusal, files);
+    write_bytes(lines.as_slice(), err);
 }
 
 fn write_bytes<E: Output>(bytes: &[u8], err: &mut E)

@@ -1,5 +1,6 @@
 //! Bytes that are refused, read again.
 
+use crate::sets::put_format;
 use crate::subject::{Subject, TypeOf};
 use pb_descr::descriptor_pool;
 use pb_frames::pass_frames;
@@ -98,7 +99,7 @@ pub(crate) fn explain_frame<F: Files>(
     put_part(types, file, part, at, lines);
 }
 
-/// Writes the lines about bytes of a descriptor set that are refused.
+/// Writes the lines about bytes of a descriptor set that are refused, first what its file looks like.
 pub(crate) fn explain_set_bytes<F: Files>(
     alloc: Global,
     subject: Subject<'_>,
@@ -109,6 +110,7 @@ pub(crate) fn explain_set_bytes<F: Files>(
     let Some(set) = subject.set() else {
         return;
     };
+    put_format(alloc, set.file, files, lines);
     let part = part_of(alloc, set.file, at.byte, files);
     put_part(set_types(alloc), set.file, part, at, lines);
 }

@@ -1,20 +1,38 @@
 //! The lines for a person about a refusal.
 
+ghost use Rattle.pbtool_hints.specs.Lines.{AreLines};
+
 use crate::bytes::{At, explain_frame, explain_message, explain_set_bytes};
 use crate::declared::Unlinked;
 use crate::frames::explain_frames;
-use crate::lines::put;
+use crate::lines::{lines_of, put};
 use crate::sets::{explain_set_file, explain_unlinked_set};
 use crate::sources::{explain_source, explain_unlinked_source, put_source};
 use crate::subject::Subject;
+use crate::unknown::explain_unknown_type;
 use pb_source::SourceFault;
-use pb_wire::{Limits, MemOutput};
+use pb_wire::{FailurePlan, Limits, MemOutput};
 use pbtool_files::{Files, Refusal, read_file};
 use std::alloc::Global;
 use std::io;
 
-/// Writes the lines about a refusal. Files are read again, up to the bytes that are shown; one that cannot be read again is left out.
+/// The lines about a refusal, which follow its own line. Files are read again, up to the bytes that are shown; one that cannot be read again is
+/// left out.
 pub fn explain<F: Files>(
+    alloc: Global,
+    subject: Subject<'_>,
+    refusal: &Refusal<'_>,
+    files: &mut F,
+) -> Vec<u8>
+    ensures { AreLines result.items }
+{
+    let mut lines = MemOutput::new(alloc, usize::MAX, FailurePlan::NEVER);
+    explain_refusal(alloc, subject, refusal, files, &mut lines);
+    lines_of(alloc, lines.bytes())
+}
+
+/// Writes the lines about a refusal.
+fn explain_refusal<F: Files>(
     alloc: Global,
     subject: Subject<'_>,
     refusal: &Refusal<'_>,
@@ -34,8 +52,8 @@ pub fn explain<F: Files>(
         ),
         Refusal::Device(path) => explain_device(alloc, path, files, lines),
         Refusal::File(path) => explain_device(alloc, path.as_str(), files, lines),
-        Refusal::UnknownType(_)
-        | Refusal::TooLarge
+        Refusal::UnknownType(name) => explain_unknown_type(alloc, subject, name, files, lines),
+        Refusal::TooLarge
         | Refusal::FrameJson { .. }
         | Refusal::Json { .. }
         | Refusal::Breaks
@@ -129,15 +147,9 @@ fn explain_unlinked<F: Files>(
     files: &mut F,
     lines: &mut MemOutput,
 ) {
-    if let Subject::Sources {
-        reading,
-        root,
-        others,
-    } = subject
-    {
-        explain_unlinked_source(alloc, reading, root, others, unlinked, files, lines);
-    } else if let Some(set) = subject.set() {
-        explain_unlinked_set(alloc, set, unlinked, files, lines);
+    match subject.set() {
+        Some(set) => explain_unlinked_set(alloc, set, unlinked, files, lines),
+        None => explain_unlinked_source(alloc, subject, unlinked, files, lines),
     }
 }
 

@@ -1,14 +1,18 @@
 //! Descriptor sets that are refused, and declarations that do not link.
 
-use crate::declared::{Unlinked, put_missing, put_unlinked};
-use crate::lines::put;
+use crate::declared::{Unlinked, file_named, put_missing, put_unlinked};
+use crate::formats::Format;
+use crate::lines::put_line;
 use crate::set_causes::put_shown;
 use crate::subject::{SetAt, Subject};
 use pb_descr::{DeclCause, FileDecl, LenientSet, read_set, read_set_lenient};
 use pb_link::LinkCause;
-use pb_wire::{Limits, MemOutput};
+use pb_wire::{Limits, MemOutput, read_up_to};
 use pbtool_files::{Files, Reading, read_file};
 use std::alloc::Global;
+
+/// How many bytes of a file are looked at to say what it looks like.
+const FIRST: usize = 4096;
 
 /// Writes the lines about a file of a descriptor set that is refused: its name, and the declaration that shows the cause.
 pub(crate) fn explain_set_file<F: Files>(
@@ -42,18 +46,41 @@ pub(crate) fn explain_unlinked_set<F: Files>(
     let Some(declared) = files_of(alloc, set.reading, &bytes) else {
         return;
     };
-    let Some(file) = file_named(&declared, unlinked.file) else {
+    if unlinked.cause == LinkCause::MissingImport {
+        put_missing_file(declared.as_slice(), unlinked.file, lines);
+    } else {
+        put_unlinked(alloc, declared.as_slice(), unlinked, lines);
+    }
+}
+
+/// Writes which import of a file the set does not have.
+fn put_missing_file(files: &[FileDecl], name: &str, lines: &mut MemOutput) {
+    let Some(file) = file_named(files, name) else {
         return;
     };
-    put_unlinked(file, unlinked, lines);
-    if unlinked.cause != LinkCause::MissingImport {
-        return;
-    }
     for import in file.imports.as_slice() {
-        if file_named(&declared, import.as_str()).is_none() {
-            put_missing(import.as_str(), b" is not in the set\n", lines);
+        if file_named(files, import.as_str()).is_none() {
+            put_missing(import.as_str(), b" is not in the set", lines);
             return;
         }
+    }
+}
+
+/// Writes what a file looks like that is given as a descriptor set, if it is of a form that is known.
+pub(crate) fn put_format<F: Files>(
+    alloc: Global,
+    path: &str,
+    files: &mut F,
+    lines: &mut MemOutput,
+) {
+    let Ok(Some(mut input)) = files.open(path) else {
+        return;
+    };
+    let Ok(first) = read_up_to(alloc, &mut input, FIRST) else {
+        return;
+    };
+    if let Some(format) = Format::of(&first) {
+        put_line(lines, b"  ", path.as_bytes(), format.advice());
     }
 }
 
@@ -69,14 +96,4 @@ fn files_of(alloc: Global, reading: Reading, set: &[u8]) -> Option<Vec<FileDecl>
             Err(_) => None,
         },
     }
-}
-
-/// The file of a name.
-fn file_named<'f>(files: &'f [FileDecl], name: &str) -> Option<&'f FileDecl> {
-    for file in files {
-        if file.name.as_str() == name {
-            return Some(file);
-        }
-    }
-    None
 }

@@ -53,11 +53,11 @@ frames --explain s M frames|frame 2 byte 4 path 2[0] cause PastEnd|  at byte 8 o
 check --explain none M cut|set byte 1 path 1[0] cause Truncated|  at byte 1 of none|  1[0] file, google.protobuf.FileDescriptorProto: from byte 0 on|  expected: more bytes: the input ends inside a record|  0a|     ^^ the end
 frames --keep-going --explain s M several|frame 1 byte 2 path 2[0] cause PastEnd|frame 3 byte 2 path 1[0] cause Truncated|frames refused 2 of 4|  at byte 5 of several: byte 2 of frame 1, which begins at byte 3|  2[0] b, string: bytes 4 to 10|  expected: a record that ends no later than its parent|  02 12 05 00 02 08|        ^^|  at byte 9 of several: byte 2 of frame 3, which begins at byte 7|  1[0] a, int32: from byte 8 on|  expected: more bytes: the input ends inside a record|  02 08|        ^^ the end
 compile --explain ROOT x bad.proto|source bad.proto byte 40 cause BadToken|  line 3 column 10|    string ü = 1;|           ^|  expected: a word, a number, a string, a sign or a comment
-compile --explain ROOT x alone.proto|link alone.proto at - cause MissingImport|  the import gone.proto is under no folder that was given
-compile --explain ROOT x lost.proto|link lost.proto at p.M.N.g cause NotFound|  looked for the type Gone
-compile --explain ROOT x twice.proto|link twice.proto at M.c cause NumberTaken|  the number is that of b
+compile --explain ROOT x alone.proto|link alone.proto at - cause MissingImport|  line 1 column 27|  syntax = "proto3"; import "gone.proto"; message M { Gone g = 1; }|                            ^|  the import gone.proto is under no folder that was given|  looked for ROOT/gone.proto
+compile --explain ROOT x lost.proto|link lost.proto at p.M.N.g cause NotFound|  line 1 column 73|  syntax = "proto3"; package p; message M { message N { int32 a = 1; Gone g = 2; } }|                                                                          ^|  looked for the type Gone
+compile --explain ROOT x twice.proto|link twice.proto at M.c cause NumberTaken|  line 1 column 64|  syntax = "proto3"; message M { int32 a = 1; int32 b = 2; int32 c = 2; }|                                                                 ^|  the number is that of b
 raw --explain nowhere|device nowhere|  no file has this path
-check --explain s N cut|type N unknown
+check --explain s N cut|type N unknown|  the set has one message type: M
 from-json --explain s M json x|json byte 17 cause BadValue|  line 3 column 7|   "b": 2|        ^
 "#;
 

@@ -1,0 +1,4 @@
+-- lines, one after another
+pub mod Lines
+-- names that are near another one
+pub mod Near
