@@ -16,11 +16,11 @@ use std::fs;
 const PLACED_ON: u32 = 2;
 
 fn main(rt: HostRuntime) -> Result<()> {
-    // The allocator: what takes memory is passed it, and answers an error where there is no memory.
+    // Each call that allocates takes the allocator, and returns an error if memory runs out.
     let alloc = rt.alloc();
     let set = fs::read(&rt, "shop.set").context("shop.set")?;
     let bytes = fs::read(&rt, "shop_order.bin").context("shop_order.bin")?;
-    // The pool owns the types. Messages borrow it, so it is made here and lent to what makes messages.
+    // The pool owns the types, and messages borrow it: `main` keeps it and lends it to `change`.
     let pool = read_pool(alloc, &set)?;
     let changed = change(&rt, alloc, &pool, &bytes)?;
     fs::write(&rt, "changed_order.bin", changed.as_slice())?;
