@@ -95,8 +95,27 @@ impl Scene<'_> {
         Ok(self.type_named(row, everywhere, &full_name).is_some())
     }
 
-    /// The innermost scope that decides.
+    /// The innermost scope that decides. Most names are found in the innermost one, which is asked before the words of the others.
     fn deciding_scope<'a>(
+        &self,
+        alloc: Global,
+        row: &[Declaration],
+        everywhere: bool,
+        name: &[u8],
+        scope: &'a [u8],
+    ) -> Result<Option<&'a [u8]>, AllocError>
+        requires { IsScene (map declaration_view row.now) self.now }
+        ensures { IfOk result (λ o. option_map (λ s. s.now) o ≡ find (decides (map declaration_view row.now) (scene_sees everywhere self.now) name.now)
+            (scopes_from scope.now)) }
+    {
+        if self.decides(alloc, row, everywhere, name, scope)? {
+            return Ok(Some(scope));
+        }
+        self.deciding_scope_by_words(alloc, row, everywhere, name, scope)
+    }
+
+    /// The innermost scope that decides, of those in which the words allow the name.
+    fn deciding_scope_by_words<'a>(
         &self,
         alloc: Global,
         row: &[Declaration],

@@ -4,7 +4,7 @@ use Rattle.pb_link_names.specs.View.{declaration_view}
 use Rattle.pb_link_names.specs.Lookup.{decides, scopes_from}
 use Rattle.pb_link_names.specs.Scene.{scene_sees}
 use Rattle.pb_link_names.proofs.WordLemmas.{found_last}
-use Rattle.pb_link_names.proofs.scene.Scene.deciding_scope.Given as goal
+use Rattle.pb_link_names.proofs.scene.Scene.deciding_scope_by_words.Given as goal
 
 abbrev pub invariant-loop-len : goal.invariant-loop-len
 invariant-loop-len l =

@@ -4,7 +4,7 @@ use Rattle.pb_link_names.specs.Lookup.{decides}
 use Rattle.pb_link_names.specs.Scene.{scene_sees}
 use Rattle.pb_link_names.specs.Words.{may_hold}
 use Rattle.pb_link_names.proofs.WordLemmas.{found_last, scopes_enough, scope_popped, none_found, none_left, decides_may}
-use Rattle.pb_link_names.proofs.scene.Scene.deciding_scope.Goals as goal
+use Rattle.pb_link_names.proofs.scene.Scene.deciding_scope_by_words.Goals as goal
 
 pub loop-len-init : goal.loop-len-init
 loop-len-init c =
