@@ -1,7 +1,9 @@
 //! Chains and circles of types: each pair is compared once, and the stack stays bounded.
 
 use super::fields::{compare_first, file_of, message_of};
-use pb_compat::{ComparedTypes, Severity, compare_all, namesake};
+use pb_compat::{
+    ComparedTypes, Severity, compare_all, compare_all_within, compare_within, namesake,
+};
 use pb_schema::{Field, Kind, MessageId, Pool, Shape};
 use std::alloc::Global;
 use std::test::Fail;
@@ -135,5 +137,42 @@ fn by_names(alloc: Global) -> Result<bool, Fail> {
 #[test]
 fn names(rt: HostRuntime) -> Result<(), Fail> {
     assert!(rt; by_names(rt.alloc())?);
+    Ok(())
+}
+
+/// Whether the six pairs of both circles are compared where six may be reached, and none where five may.
+fn goes_within(alloc: Global, two: &Pool, three: &Pool) -> Result<bool, Fail> {
+    let six = compare_all_within(alloc, two, three, 6)?;
+    let five = compare_all_within(alloc, two, three, 5)?;
+    Ok(is_some_of(six.as_ref(), PAIRS) && five.is_none())
+}
+
+fn is_some_of(compared: Option<&Vec<ComparedTypes>>, pairs: &[(usize, usize)]) -> bool {
+    match compared {
+        Some(compared) => are_pairs(compared, pairs),
+        None => false,
+    }
+}
+
+/// The same of the six pairs that are reached from the first types.
+fn goes_within_from(alloc: Global, two: &Pool, three: &Pool) -> Result<bool, Fail> {
+    if two.messages().is_empty() || three.messages().is_empty() {
+        return Ok(false);
+    }
+    let first = MessageId(0);
+    let six = compare_within(alloc, two, three, (first, first), 6)?;
+    let five = compare_within(alloc, two, three, (first, first), 5)?;
+    Ok(is_some_of(six.as_ref(), PAIRS) && five.is_none())
+}
+
+fn within(alloc: Global) -> Result<bool, Fail> {
+    let two = chain(alloc, 2, Kind::Int32)?;
+    let three = chain(alloc, 3, Kind::Int32)?;
+    Ok(goes_within(alloc, &two, &three)? && goes_within_from(alloc, &two, &three)?)
+}
+
+#[test]
+fn bounds(rt: HostRuntime) -> Result<(), Fail> {
+    assert!(rt; within(rt.alloc())?);
     Ok(())
 }
