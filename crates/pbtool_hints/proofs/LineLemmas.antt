@@ -1,6 +1,5 @@
 -- Lines, one after another.
-use Rattle.std.proofs.Common.{◌≡◌, ◌≢◌, ℕ, List, [], ◌∷◌, ◌++◌, Bool, true, false, cond, codes, subst, sym}
-use Rattle.std.specs.List.{AllByRecursion}
+use Rattle.std.proofs.Common.{◌≡◌, ℕ, List, [], ◌++◌, Bool, true, false, cond, subst, sym}
 use Rattle.pbtool_hints.specs.Lines.{AreLines, IsLine}
 use Rattle.pbtool_hints.specs.Lines.AreLines.{none, then}
 

@@ -1,10 +1,10 @@
 -- What lines and near names are, by examples.
-use Rattle.std.proofs.Common.{◌≡◌, ◌≢◌, ◌≤◌, ℕ, List, [], ◌∷◌, ◌++◌, codes, refl, subst, lit≤, arith}
+use Rattle.std.proofs.Common.{◌≡◌, ◌≢◌, ℕ, [], ◌++◌, codes, refl, subst, lit≤, arith}
 use Rattle.std.proofs.lemmas.List.{append_cancel_right}
 use Rattle.std.specs.List.{AllByRecursion}
 use Rattle.pbtool_hints.specs.Lines.{AreLines, IsLine}
 use Rattle.pbtool_hints.specs.Lines.AreLines.{none, then}
-use Rattle.pbtool_hints.specs.Near.{DifferInOnePlace, IsNear}
+use Rattle.pbtool_hints.specs.Near.{IsNear}
 use Rattle.pbtool_hints.proofs.NearLemmas.{Share, near_only_if}
 
 line_a : IsLine (codes "  a\n")

@@ -1,5 +1,5 @@
 -- Lines for a person.
-use Rattle.std.specs.Prelude.{◌≡◌, ◌≢◌, ℕ, List, [], ◌∷◌, ◌++◌, codes}
+use Rattle.std.specs.Prelude.{◌≡◌, ◌≢◌, ℕ, List, [], ◌++◌, codes}
 use Rattle.std.specs.List.{AllByRecursion}
 
 -- a line: two blanks, bytes that are no line feed, and a line feed

@@ -1,4 +1,4 @@
-use Rattle.std.proofs.Common.{◌+◌, ◌≡◌, ℕ, length, map, subst, IsTrue}
+use Rattle.std.proofs.Common.{ℕ, map, subst, IsTrue}
 use Rattle.std.specs.Char.{to_ascii_lowercase}
 use Rattle.pbtool_hints.specs.Near.{DifferInOnePlace}
 use Rattle.pbtool_hints.proofs.NearLemmas.{Share, near_by, shared}
