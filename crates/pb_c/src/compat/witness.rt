@@ -72,7 +72,7 @@ fn witness_of(
 /// The difference is one that `mb_compat` reports of these two types; its severity is not read.
 ///
 /// Answers DONE; EMPTY where a handle of a pool holds nothing; NO_TYPE where a pool has no such type; ABSENT where the comparison leads to no such
-/// types, nothing breaks at the field of that number, or more than 99 fields lead to the types; or MEMORY. The handle of the message is changed at
+/// types, nothing breaks at the field of that number, or only more than 99 fields lead to the types; or MEMORY. The handle of the message is changed at
 /// DONE alone.
 #[unsafe(no_mangle)]
 pub extern "C" fn mb_compat_witness(
