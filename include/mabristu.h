@@ -10,7 +10,7 @@
  * - A call that puts something into a handle frees what the handle held before.
  * - Do not copy a handle that holds something. mb_pool_share and mb_message_copy fill a second one.
  * - A message and a decoder hold the types that they need, so their pool may be freed before them.
- * - One call at a time uses a handle. A pool may go to another thread; a message and a decoder stay on theirs.
+ * - One call at a time uses a handle, on any thread.
  * - A buffer that is too small is filled, and the whole length is reported: call again with a buffer of that length.
  * - Each call returns MB_DONE, or a number that says why it did not do what was asked. It then reports what its comment says, and writes nothing else.
  * - Memory comes from malloc. After MB_MEMORY nothing has changed, except that a decoder has lost its message.
@@ -24,7 +24,8 @@
  * - The bytes that a call reads do not change during the call: no other thread writes them, and if they are a mapped file, nobody writes or shortens
  *   that file.
  * - A handle is all zeros, or as a call left it; it is not copied while it holds something, and nothing but these calls writes it. One call at
- *   a time uses a handle: for another thread share it (mb_pool_share).
+ *   a time uses a handle. A handle goes to another thread by what orders the calls, as a lock, or the start or the end of a thread; two threads use one
+ *   pool at once by two handles (mb_pool_share).
  * - malloc, realloc and free come from one allocator, and it may be called (so no call of this library from a signal handler, nor in the child of a
  *   fork of a process with threads). They align a block to each power of two up to 16 that divides its size.
  *
@@ -43,7 +44,7 @@ extern "C" {
 #endif
 
 /* What this header says. A library that answers another number has other calls. */
-#define MB_INTERFACE 7
+#define MB_INTERFACE 8
 uint32_t mb_interface(void);
 
 /* What a call answers. Numbers from 50 on are the causes why a set, a source or declarations are refused, as docs/ERRORS.md lists them. */
@@ -155,7 +156,7 @@ uint32_t mb_pool_compile_lenient(const struct mb_bytes *names, size_t names_len,
                                  struct mb_refusal *refusal, uint8_t *text, size_t text_len);
 
 /* Puts the pool that one handle holds into another one too, in place of what that held: both hold one pool, which is freed with the last of them.
- * The other handle may go to another thread. Where the answer is another than MB_DONE the other handle is as it was. */
+ * Threads may use the two at once. Where the answer is another than MB_DONE the other handle is as it was. */
 uint32_t mb_pool_share(struct mb_pool *pool, struct mb_pool *other);
 
 /* Writes a descriptor set that declares the pool's types, as mb_raw_short writes an encoding: linking it makes the same types again. Services, options
@@ -343,7 +344,7 @@ uint32_t mb_frames(struct mb_pool *pool, uint32_t type, const uint8_t *bytes, si
 
 /* ---- A message that stays with the library ---- */
 
-/* A message with the pool of its type, or nothing: all zeros hold nothing. It stays on the thread that made it. */
+/* A message with the pool of its type, or nothing: all zeros hold nothing. */
 struct mb_message {
     void *at;
     bool full;
@@ -440,6 +441,19 @@ uint32_t mb_message_fields(struct mb_message *message, const struct mb_value *pl
 uint32_t mb_message_key(struct mb_message *message, const struct mb_value *place, size_t place_len, const struct mb_bytes *keys, size_t keys_len,
                         size_t index, struct mb_value *key, uint8_t *out, size_t out_len);
 
+/* How many keys a map has from an index on. */
+struct mb_keys {
+    size_t keys;   /* how many there are */
+    size_t bytes;  /* how many bytes the strings among them have */
+};
+
+/* Writes the keys of the map at a place from an index on, in the order of mb_message_key, as many as the buffer for keys holds; and the strings among them,
+ * one after another, as much of them as the other buffer holds: the number of a key that is a string is its length. For MB_DONE it is reported how many keys
+ * there are from the index on, 0 where it is past the last one, and how many bytes their strings have. For all keys that takes time in proportion to the
+ * map, and mb_message_key walks to its index at each call. */
+uint32_t mb_message_keys(struct mb_message *message, const struct mb_value *place, size_t place_len, const struct mb_bytes *keys, size_t keys_len,
+                         size_t first, struct mb_value *found, size_t found_len, uint8_t *out, size_t out_len, struct mb_keys *counts);
+
 /* Reports the number of the member that is set of a oneof of the message at a place. The oneof is the one at this index of the message's type, as
  * mb_pool_oneof has it. MB_ABSENT: no message is there, its type has no such oneof, or no member of it is set. */
 uint32_t mb_message_oneof(struct mb_message *message, const struct mb_value *place, size_t place_len, const struct mb_bytes *keys, size_t keys_len,
@@ -490,7 +504,7 @@ void mb_message_free(struct mb_message *message);
 
 /* ---- A message that arrives in pieces ---- */
 
-/* A decoder of a message that arrives in pieces, or nothing: all zeros hold nothing. It stays on the thread that made it. */
+/* A decoder of a message that arrives in pieces, or nothing: all zeros hold nothing. */
 struct mb_decoder {
     void *at;
     bool full;

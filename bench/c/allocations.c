@@ -48,7 +48,8 @@ struct outputs {
     struct mb_refusal refusal;
     struct mb_frame frame;
     struct mb_field field;
-    struct mb_value value;
+    struct mb_value value, found[4];
+    struct mb_keys keys;
     struct mb_counts counts;
     struct mb_type type_report;
     struct mb_enum enum_report;
@@ -203,6 +204,16 @@ static uint32_t message_read(struct outputs *outputs) { return mb_message_read(&
 static uint32_t message_fields(struct outputs *outputs) { return mb_message_fields(&held, article, 2, NULL, 0, outputs->numbers, 16, &outputs->size); }
 static uint32_t message_key(struct outputs *outputs) { return mb_message_key(&held, entry, 1, NULL, 0, 1, &outputs->value, outputs->out, sizeof outputs->out); }
 static uint32_t message_no_key(struct outputs *outputs) { return mb_message_key(&held, entry, 1, NULL, 0, 2, &outputs->value, outputs->out, sizeof outputs->out); }
+/* The keys of the map at a place that is this many steps long, from the second one on: one key, the six bytes of spring. */
+static uint32_t keys_at(struct outputs *outputs, size_t steps)
+{
+    uint32_t answer = mb_message_keys(&held, entry, steps, NULL, 0, 1, outputs->found, 4, outputs->out, sizeof outputs->out, &outputs->keys);
+    bool is_spring = outputs->keys.keys == 1 && outputs->keys.bytes == 6 && outputs->found[0].kind == MB_STRING && outputs->found[0].number == 6 &&
+                     memcmp(outputs->out, spring.at, spring.len) == 0;
+    return answer == MB_DONE && !is_spring ? 99 : answer;
+}
+static uint32_t message_keys(struct outputs *outputs) { return keys_at(outputs, 1); }
+static uint32_t message_no_keys(struct outputs *outputs) { return keys_at(outputs, 0); }
 /* Makes a change in a message that was decoded for it with ample memory. A change that is refused has to leave the message as it was: then it answers 99. */
 static uint32_t changed(uint32_t (*change)(struct mb_message *))
 {
@@ -315,6 +326,7 @@ static const struct { const char *name; uint32_t (*call)(struct outputs *outputs
     {"mb_message_get", message_get, MB_DONE}, {"mb_message_get of no place", message_get_bad, MB_BAD_PLACE},
     {"mb_message_read", message_read, MB_DONE}, {"mb_message_fields", message_fields, MB_DONE},
     {"mb_message_key", message_key, MB_DONE}, {"mb_message_key of no key", message_no_key, MB_ABSENT},
+    {"mb_message_keys", message_keys, MB_DONE}, {"mb_message_keys of no map", message_no_keys, MB_ABSENT},
     {"mb_message_set of a string", message_set, MB_DONE}, {"mb_message_set of bytes", message_set_bytes, MB_DONE},
     {"mb_message_set of another kind", message_set_wrong, 22}, {"mb_message_clear", message_clear, MB_DONE}, {"mb_message_push", message_push, MB_DONE},
     {"mb_message_insert", message_insert, MB_DONE}, {"mb_message_insert of no place", message_insert_none, MB_BAD_PLACE},
@@ -325,7 +337,7 @@ static const struct { const char *name; uint32_t (*call)(struct outputs *outputs
     {"mb_message_merge", message_merge, MB_DONE}, {"mb_message_merge of a cut message", message_merge_cut, MB_FAULT},
     {"mb_find", find_address, MB_DONE}, {"mb_find in a cut message", find_address_cut, MB_FAULT},
 };
-#define OF_SHOP 28
+#define OF_SHOP 30
 
 static struct mb_bytes read_file(const char *path)
 {

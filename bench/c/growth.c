@@ -76,14 +76,13 @@ static void decode(void)
     must(mb_message_decode(&pool, type, bytes, bytes_len, LIMITS, &message, FAULT), "mb_message_decode");
 }
 
-#if MB_INTERFACE >= 8
 /* A message of a map with n keys that are strings. */
 static void make_map(size_t n)
 {
     sprintf(text, "syntax = \"proto3\"; message T { map<string, int32> m = 1; }");
     compile();
     for (size_t i = 0; i < n; i++) {
-        char key[16];
+        char key[32];
         int len = sprintf(key, "key-%08zu", i);
         put_length(1, (size_t)len + 4);
         put_bytes(1, key, (size_t)len);
@@ -98,10 +97,11 @@ static void read_keys(size_t n)
     const struct mb_value place[] = {{MB_FIELD, 1}};
     struct mb_keys counts;
     must(mb_message_keys(&message, place, 1, NULL, 0, 0, keys, MOST, out, sizeof out, &counts), "mb_message_keys");
-    if (counts.keys != n)
+    if (counts.keys != n || counts.bytes != 12 * n || keys[n - 1].kind != MB_STRING || keys[n - 1].number != 12 || memcmp(out, "key-00000000", 12) != 0) {
+        fprintf(stderr, "growth: mb_message_keys writes other keys\n");
         exit(2);
+    }
 }
-#endif
 
 /* A type of n fields of numbers, named like f_1_x. */
 static void make_fields(size_t n)
@@ -290,9 +290,7 @@ static const struct {
     void (*make)(size_t n);
     void (*call)(size_t n);
 } rows[] = {
-#if MB_INTERFACE >= 8
     {"keys", make_map, read_keys},
-#endif
     {"scalars", make_scalars, get_scalars}, {"push", make_empty, push}, {"insert", make_empty, insert}, {"declared", make_declared, read_json},
     {"camel", make_camel, read_json}, {"given", make_given, read_json}, {"enum_names", make_enum_names, read_json},
     {"enum_values", make_enum_values, show}, {"package", make_package, link_one}, {"public_imports", make_chain, link_all},

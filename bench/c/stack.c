@@ -40,6 +40,7 @@ static struct mb_step path[MB_MAX_STEPS];
 static struct mb_refusal refusal;
 static struct mb_frame frame;
 static struct mb_value value, found[4];
+static struct mb_keys keys;
 static struct mb_difference differences[4];
 static struct mb_field field;
 static uint32_t numbers[256], mark;
@@ -76,6 +77,7 @@ static uint32_t message_get(struct job *job) { return mb_message_get(&job->messa
 static uint32_t message_read(struct job *job) { return mb_message_read(&job->message, PLACE, WRITTEN); }
 static uint32_t message_fields(struct job *job) { return mb_message_fields(&job->message, PLACE, numbers, 256, &count); }
 static uint32_t message_key(struct job *job) { return mb_message_key(&job->message, PLACE, 0, found, out, OUT); }
+static uint32_t message_keys(struct job *job) { return mb_message_keys(&job->message, PLACE, 0, found, 4, out, OUT, &keys); }
 static uint32_t message_oneof(struct job *job) { return mb_message_oneof(&job->message, PLACE, 0, &mark); }
 static uint32_t message_unknown(struct job *job) { return mb_message_unknown(&job->message, PLACE, WRITTEN); }
 static uint32_t message_set(struct job *job) { return mb_message_set(&job->message, PLACE, &empty); }
@@ -139,6 +141,7 @@ static const struct {
     {"mb_message_encoded_length", encoded_length}, {"mb_message_show", message_show}, {"mb_message_show_decimal", message_show_decimal},
     {"mb_message_json", message_json}, {"mb_message_copy", message_copy}, {"mb_message_equal", message_equal}, {"mb_message_merge", message_merge},
     {"mb_message_get", message_get}, {"mb_message_read", message_read}, {"mb_message_fields", message_fields}, {"mb_message_key", message_key},
+    {"mb_message_keys", message_keys},
     {"mb_message_oneof", message_oneof}, {"mb_message_unknown", message_unknown}, {"mb_message_set", message_set}, {"mb_message_push", message_push},
     {"mb_message_insert", message_insert}, {"mb_message_remove", message_remove}, {"mb_message_clear", message_clear},
     {"mb_message_drop_unknown", drop_unknown}, {"mb_message_new", message_new}, {"mb_message_free", message_free}, {"mb_decoder_new", decoder_new},

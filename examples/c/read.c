@@ -13,7 +13,6 @@
 struct place {
     struct mb_value steps[MAX_PLACE];
     struct mb_bytes keys[MAX_PLACE];
-    struct buffer strings[MAX_PLACE]; /* what the keys point to */
     size_t len, keys_len;
 };
 
@@ -87,33 +86,38 @@ static uint32_t print_list(struct mb_message *message, struct place *place, uint
     return answer;
 }
 
-/* Prints what is under the key of an index. A string among the keys has to stay where it is while a place names it. */
-static uint32_t print_entry(struct mb_message *message, struct place *place, size_t index)
+/* Prints what is under a key, of which a string has these bytes. They stay where they are while a place names them. */
+static uint32_t print_entry(struct mb_message *message, struct place *place, struct mb_value key, const uint8_t *string)
 {
-    struct buffer *string = &place->strings[place->keys_len];
-    struct mb_value key;
-    uint32_t answer;
-
-    do {
-        grow(string, string->len + 16);
-        answer = mb_message_key(message, place->steps, place->len, place->keys, place->keys_len, index, &key, string->bytes, string->capacity);
-        string->len = answer == MB_DONE && key.kind == MB_STRING ? key.number : 0;
-    } while (string->len > string->capacity);
-    if (answer != MB_DONE || key.kind != MB_STRING)
-        return answer == MB_DONE ? print_after(message, place, key) : answer;
-    key.number = place->keys_len;
-    place->keys[place->keys_len++] = (struct mb_bytes){string->bytes, string->len};
-    answer = print_after(message, place, key);
+    if (key.kind != MB_STRING)
+        return print_after(message, place, key);
+    place->keys[place->keys_len] = (struct mb_bytes){string, key.number};
+    key.number = place->keys_len++;
+    uint32_t answer = print_after(message, place, key);
     place->keys_len--;
     return answer;
 }
 
-static uint32_t print_map(struct mb_message *message, struct place *place, uint64_t count)
+/* Prints the entries of a map. A first call for its keys reports how many there are, and a second one writes them. */
+static uint32_t print_map(struct mb_message *message, struct place *place)
 {
-    uint32_t answer = MB_DONE;
+    struct mb_keys counts;
+    uint32_t answer = mb_message_keys(message, place->steps, place->len, place->keys, place->keys_len, 0, NULL, 0, NULL, 0, &counts);
 
-    for (uint64_t i = 0; answer == MB_DONE && i < count; i++)
-        answer = print_entry(message, place, i);
+    if (answer != MB_DONE)
+        return answer;
+    struct mb_value *found = malloc(counts.keys * sizeof *found);
+    uint8_t *strings = malloc(counts.bytes + 1), *string = strings;
+    if (found == NULL || strings == NULL)
+        answer = MB_MEMORY;
+    else
+        answer = mb_message_keys(message, place->steps, place->len, place->keys, place->keys_len, 0, found, counts.keys, strings, counts.bytes, &counts);
+    for (size_t i = 0; answer == MB_DONE && i < counts.keys; i++) {
+        answer = print_entry(message, place, found[i], string);
+        string += found[i].kind == MB_STRING ? found[i].number : 0;
+    }
+    free(strings);
+    free(found);
     return answer;
 }
 
@@ -150,7 +154,7 @@ static uint32_t print_at(struct mb_message *message, struct place *place)
     case MB_LIST:
         return print_list(message, place, value.number);
     case MB_MAP:
-        return print_map(message, place, value.number);
+        return print_map(message, place);
     default:
         return MB_DONE;
     }
@@ -175,8 +179,6 @@ int main(int argc, char **argv)
     mb_pool_free(&pool);
     if (answer == MB_DONE)
         answer = print_at(&message, &place);
-    for (size_t i = 0; i < MAX_PLACE; i++)
-        free(place.strings[i].bytes);
     mb_message_free(&message);
     return answer == MB_DONE ? 0 : print_refusal(answer, &report);
 }

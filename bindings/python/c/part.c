@@ -11,8 +11,8 @@ struct writer {
     size_t len, capacity;
 };
 
-/* Entries of a map and fields of a message that are written by calls: a call for a key goes through those before it. */
-enum { MOST_ENTRIES = 16, MOST_FIELDS = 64, LONGEST_KEY = 256 };
+/* Fields of a message that is written by calls. */
+enum { MOST_FIELDS = 64 };
 
 static bool write_message(struct writer *writer, MessageType *type);
 
@@ -160,45 +160,55 @@ static bool write_list(struct writer *writer, Field *field)
     return is_done && (!is_packed || put_length(writer, from));
 }
 
-/* Writes the entry under the key at an index of the map at the place. */
-static bool write_entry(struct writer *writer, const Field *field, uint64_t index)
+/* Writes the key of an entry, of a string with these bytes, and goes a step further in, to what is under the key. */
+static bool write_key(struct writer *writer, const Field *field, struct mb_value key, const uint8_t *string)
 {
-    struct mb_value key = {0, 0};
-    uint8_t name[LONGEST_KEY];
-    bool is_text = field->is.key == MB_STRING;
-
-    if (!may_call(writer) || mb_message_key(writer->handle, PLACE(writer), index, &key, name, sizeof name) != MB_DONE ||
-        (is_text && key.number > sizeof name) || writer->keys_len == sizeof writer->keys / sizeof *writer->keys)
+    if (!write_tag(writer, 1, wire_of(field->is.key)))
         return false;
+    if (key.kind != MB_STRING)
+        return write_number(writer, field->is.key, key.number) && enter(writer, key.kind, key.number);
+    size_t len = (size_t)key.number;
+    if (writer->keys_len == sizeof writer->keys / sizeof *writer->keys || !write_varint(writer, len) || !reserve(writer, len))
+        return false;
+    if (len > 0)
+        memcpy(writer->bytes + writer->len, string, len);
+    writer->len += len;
+    writer->keys[writer->keys_len++] = (struct mb_bytes){string, len};
+    return enter(writer, MB_STRING, writer->keys_len - 1);
+}
+
+/* Writes the entry of a key of the map at the place. */
+static bool write_entry(struct writer *writer, const Field *field, struct mb_value key, const uint8_t *string)
+{
+    size_t place_len = writer->place_len, keys_len = writer->keys_len;
+
     if (!write_tag(writer, field->is.number, WIRE_BYTES))
         return false;
-    size_t from = writer->len, len = (size_t)key.number;
-    bool is_done = write_tag(writer, 1, wire_of(field->is.key));
-    if (is_text) {
-        is_done = is_done && write_varint(writer, len) && reserve(writer, len);
-        if (!is_done)
-            return false;
-        memcpy(writer->bytes + writer->len, name, len);
-        writer->len += len;
-        writer->keys[writer->keys_len] = (struct mb_bytes){name, len};
-        key.number = writer->keys_len++;
-    } else {
-        is_done = is_done && write_number(writer, field->is.key, key.number);
-    }
-    is_done = is_done && enter(writer, key.kind, key.number);
-    is_done = is_done && write_value(writer, field, 2);
-    writer->place_len--;
-    writer->keys_len -= is_text;
+    size_t from = writer->len;
+    bool is_done = write_key(writer, field, key, string) && write_value(writer, field, 2);
+    writer->place_len = place_len;
+    writer->keys_len = keys_len;
     return is_done && put_length(writer, from);
 }
 
+/* Writes the entries of the map at the place, whose keys are read at once. */
 static bool write_map(struct writer *writer, const Field *field)
 {
-    uint64_t count = 0;
-    bool is_done = count_values(writer, &count) && count <= MOST_ENTRIES;
+    struct mb_keys counts = {0, 0};
 
-    for (uint64_t i = 0; is_done && i < count; i++)
-        is_done = write_entry(writer, field, i);
+    if (!may_call(writer) || mb_message_keys(writer->handle, PLACE(writer), 0, NULL, 0, NULL, 0, &counts) != MB_DONE || counts.keys > writer->calls)
+        return false;
+    struct mb_value *keys = PyMem_Malloc(counts.keys * sizeof *keys);
+    uint8_t *strings = PyMem_Malloc(counts.bytes), *string = strings;
+    bool is_done = keys != NULL && strings != NULL && may_call(writer) &&
+                   mb_message_keys(writer->handle, PLACE(writer), 0, keys, counts.keys, strings, counts.bytes, &counts) == MB_DONE;
+
+    for (size_t i = 0; is_done && i < counts.keys; i++) {
+        is_done = write_entry(writer, field, keys[i], string);
+        string += keys[i].kind == MB_STRING ? keys[i].number : 0;
+    }
+    PyMem_Free(strings);
+    PyMem_Free(keys);
     return is_done;
 }
 

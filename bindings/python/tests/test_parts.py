@@ -243,6 +243,18 @@ class Whole(Types):
         self.assertEqual([m["wheels"][0].encode().hex(), m["named"]["a"].encode().hex(), m["named"]["a"].unknown.hex()], ["a00607", "a00608", "a00608"])
         self.assertEqual(m["wheels"][0].copy().unknown.hex(), "a00607")
 
+    def test_bytes_of_a_small_part_with_maps(self):
+        """The bytes of a part of a large message, which are written by calls, are those of the part alone, with more keys than a few, and long ones."""
+        inner = {"k" * it: {"pressure": it, "by_name": {"": {}, "é": {"label": "y"}}} for it in range(0, 600, 13)}
+        m = self.m(position={"label": "x", "by_name": inner}, previous={"numbered": {it: {"pressure": 1} for it in (5, -7, 0)}, "truths": {True: 3, False: -1}},
+                   raw=bytes(400_000))
+        m["vin"] = "changed"
+        for part, alone in ((m["position"], self.wheel(label="x", by_name=inner)), (m["previous"], self.m(**m["previous"].to_dict()))):
+            self.assertEqual(part.encode(), alone.encode())
+            self.assertEqual(part.to_dict(), alone.to_dict())
+        self.assertEqual([len(m["position"]["by_name"]), m["position"]["by_name"].keys()], [47, sorted(inner)])
+        self.assertEqual([m["previous"]["numbered"].keys(), m["previous"]["truths"].items()], [[-7, 0, 5], [(False, -1), (True, 3)]])
+
     def test_assignment(self):
         m, other = self.m(), self.m(position={"pressure": 4, "worn": [1]}, wheels=[{"label": "a"}, {"label": "b"}])
         m["position"] = other["position"]

@@ -1,9 +1,9 @@
 //! The numbers and calls of mabristu.h.
 use crate::structs::{
-    Bytes, Counts, DecoderHandle, Difference, Enum, Fault, Field, File, Frame, Handle, MessageHandle, Refusal, Step, Type, Value,
+    Bytes, Counts, DecoderHandle, Difference, Enum, Fault, Field, File, Frame, Handle, Keys, MessageHandle, Refusal, Step, Type, Value,
 };
 
-pub const INTERFACE: u32 = 7;
+pub const INTERFACE: u32 = 8;
 // What a call answers. Numbers from 50 on are the causes why declarations are refused.
 pub const DONE: u32 = 0;
 pub const BAD_LIMITS: u32 = 1;
@@ -113,6 +113,8 @@ extern "C" {
         numbers: *mut u32, numbers_len: usize, count: &mut usize) -> u32;
     pub fn mb_message_key(message: Message, place: *const Value, place_len: usize, keys: *const Bytes, keys_len: usize,
         index: usize, key: &mut Value, out: Out, out_len: usize) -> u32;
+    pub fn mb_message_keys(message: Message, place: *const Value, place_len: usize, keys: *const Bytes, keys_len: usize,
+        first: usize, found: *mut Value, found_len: usize, out: Out, out_len: usize, counts: &mut Keys) -> u32;
     pub fn mb_message_set(message: Message, place: *const Value, place_len: usize, strings: *const Bytes, strings_len: usize, value: &Value) -> u32;
     pub fn mb_message_clear(message: Message, place: *const Value, place_len: usize, strings: *const Bytes, strings_len: usize) -> u32;
     pub fn mb_message_push(message: Message, place: *const Value, place_len: usize, strings: *const Bytes, strings_len: usize, value: &Value) -> u32;

@@ -24,18 +24,21 @@ use std::{fmt, ptr};
 ///
 /// Bytes can be written to it too, as by [`io::copy`]. An error of such a write has the [`Error`] inside.
 ///
-/// It stays on its thread, as a [`Message`] does.
+/// It may go to another thread. It is not `Sync`, as a [`Message`] is not.
 ///
 /// ```compile_fail
-/// fn sent<T: Send>() {}
-/// sent::<mabristu::Decoder>();
+/// fn shared<T: Sync>() {}
+/// shared::<mabristu::Decoder>();
 /// ```
 pub struct Decoder {
     handle: UnsafeCell<DecoderHandle>,
     message_type: MessageType,
 }
 
-// SAFETY, of each call: as in pool.rs. The handle has a pointer, so a decoder is neither Send nor Sync.
+// SAFETY: a decoder owns what its handle holds, but for the types, which are counted and never changed. By UnsafeCell it is not Sync.
+unsafe impl Send for Decoder {}
+
+// SAFETY, of each call: as in pool.rs.
 impl Decoder {
     pub(crate) fn new(message_type: &MessageType) -> Result<Decoder, Error> {
         let handle = UnsafeCell::new(DecoderHandle { at: ptr::null_mut(), full: false });

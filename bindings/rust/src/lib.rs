@@ -16,7 +16,8 @@
 //! splits streams, and decodes a [`Message`], which is read by places ([`Part`]) and changed at places ([`PartMut`]); a
 //! [`Decoder`] does so with a message that arrives in pieces. What is refused is an [`Error`] with the byte, the path and the cause.
 //!
-//! A [`Pool`] and a [`MessageType`] may go to another thread, and a clone of them is cheap; a [`Message`] and a [`Decoder`] stay on their threads.
+//! A [`Pool`], a [`MessageType`], a [`Message`] and a [`Decoder`] may go to another thread, and one thread at a time uses them. A clone of the first two is
+//! cheap.
 mod calls;
 mod change;
 mod compat;

@@ -17,18 +17,21 @@ pub struct JsonForm {
 
 /// A message, and its type. It prints as its listing, with floats in decimal.
 ///
-/// It stays on its thread: that it may go to another is not proved.
+/// It may go to another thread. It is not `Sync`: one thread at a time uses a message.
 ///
 /// ```compile_fail
-/// fn sent<T: Send>() {}
-/// sent::<mabristu::Message>();
+/// fn shared<T: Sync>() {}
+/// shared::<mabristu::Message>();
 /// ```
 pub struct Message {
     handle: UnsafeCell<MessageHandle>,
     message_type: MessageType,
 }
 
-// SAFETY, of each call: as in pool.rs. The handle has a pointer, so a message is neither Send nor Sync.
+// SAFETY: a message owns what its handle holds, but for the types, which are counted and never changed. By UnsafeCell it is not Sync.
+unsafe impl Send for Message {}
+
+// SAFETY, of each call: as in pool.rs.
 impl Message {
     pub(crate) fn none(message_type: &MessageType) -> Message {
         Message { handle: UnsafeCell::new(MessageHandle { at: ptr::null_mut(), full: false }), message_type: message_type.clone() }

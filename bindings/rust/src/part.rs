@@ -1,7 +1,7 @@
 //! Parts of a message.
 use crate::given::{integer_kind, integer_of};
 use crate::report::{written_alone, Report};
-use crate::structs::{Bytes, Value as Reported};
+use crate::structs::{Bytes, Keys, Value as Reported};
 use crate::value::{scalar, size};
 use crate::{calls, Error, Message, MessageType, Value};
 use std::fmt;
@@ -31,6 +31,11 @@ impl Key {
         };
         let value = declared.and_then(integer_kind).and_then(|kind| integer_of(kind, number));
         value.and_then(Key::of_value).unwrap_or(self)
+    }
+
+    /// A reported key, of a string with these bytes.
+    fn reported(key: &Reported, bytes: Vec<u8>) -> Result<Key, Error> {
+        scalar(key, bytes).and_then(Key::of_value).ok_or(Error::Answer(key.kind))
     }
 
     fn of_value(value: Value) -> Option<Key> {
@@ -171,8 +176,13 @@ impl<'a> Part<'a> {
         }
     }
 
+    /// The strings among the keys of the place, as a call takes them.
+    fn strings(&self) -> Vec<Bytes> {
+        self.keys.iter().map(|key| Bytes { at: key.as_ptr(), len: key.len() }).collect()
+    }
+
     fn call(&self, call: impl FnOnce(*const Reported, usize, *const Bytes, usize) -> u32) -> Result<(), Error> {
-        let keys: Vec<Bytes> = self.keys.iter().map(|key| Bytes { at: key.as_ptr(), len: key.len() }).collect();
+        let keys = self.strings();
         Report::new().judge(call(self.steps.as_ptr(), self.steps.len(), keys.as_ptr(), keys.len()))
     }
 
@@ -264,8 +274,7 @@ impl<'a> Part<'a> {
 
     /// The unknown records of the message that is here, but not of messages in it, as their shortest encoding.
     pub fn unknown(&self) -> Result<Vec<u8>, Error> {
-        let keys: Vec<Bytes> = self.keys.iter().map(|key| Bytes { at: key.as_ptr(), len: key.len() }).collect();
-        let (place, steps) = (self.steps.as_ptr(), self.steps.len());
+        let (place, steps, keys) = (self.steps.as_ptr(), self.steps.len(), self.strings());
         written_alone(|out, capacity, size| unsafe {
             calls::mb_message_unknown(self.message.handle(), place, steps, keys.as_ptr(), keys.len(), out, capacity, size)
         })
@@ -278,20 +287,55 @@ impl<'a> Part<'a> {
 
     /// The keys of the map that is here, in order.
     pub fn keys(&self) -> Result<Vec<Key>, Error> {
-        (0..self.len()?).map(|index| self.nth_key(index)).collect()
-    }
-
-    fn nth_key(&self, index: usize) -> Result<Key, Error> {
-        let mut key = Reported::default();
-        let keys: Vec<Bytes> = self.keys.iter().map(|key| Bytes { at: key.as_ptr(), len: key.len() }).collect();
-        let (place, steps) = (self.steps.as_ptr(), self.steps.len());
-        let out = written_alone(|out, capacity, size| unsafe {
-            let answer =
-                calls::mb_message_key(self.message.handle(), place, steps, keys.as_ptr(), keys.len(), index, &mut key, out, capacity);
-            *size = crate::value::size(&key);
+        let mut found = vec![Reported::default(); self.len()?];
+        if found.is_empty() {
+            return Ok(vec![]);
+        }
+        let (place, steps, keys) = (self.steps.as_ptr(), self.steps.len(), self.strings());
+        let strings = written_alone(|out, capacity, bytes| {
+            let (message, count, mut counts) = (self.message.handle(), found.len(), Keys::default());
+            let answer = unsafe {
+                calls::mb_message_keys(
+                    message,
+                    place,
+                    steps,
+                    keys.as_ptr(),
+                    keys.len(),
+                    0,
+                    found.as_mut_ptr(),
+                    count,
+                    out,
+                    capacity,
+                    &mut counts,
+                )
+            };
+            *bytes = counts.bytes;
             answer
         })?;
-        scalar(&key, out).and_then(Key::of_value).ok_or(Error::Answer(key.kind))
+        let mut rest = &strings[..];
+        let next = |key: &Reported| {
+            let (bytes, after) = rest.split_at(size(key));
+            rest = after;
+            Key::reported(key, bytes.to_vec())
+        };
+        found.iter().map(next).collect()
+    }
+
+    /// The key at an index, counted from 0, of the map that is here, or None. The library walks there from the first key, so for all keys [`Part::keys`]
+    /// takes less time.
+    pub fn nth_key(&self, index: usize) -> Result<Option<Key>, Error> {
+        let (place, steps, keys, mut key) = (self.steps.as_ptr(), self.steps.len(), self.strings(), Reported::default());
+        let string = written_alone(|out, capacity, bytes| unsafe {
+            let answer =
+                calls::mb_message_key(self.message.handle(), place, steps, keys.as_ptr(), keys.len(), index, &mut key, out, capacity);
+            *bytes = size(&key);
+            answer
+        });
+        match string {
+            Ok(string) => Key::reported(&key, string).map(Some),
+            Err(ABSENT) => Ok(None),
+            Err(error) => Err(error),
+        }
     }
 
     /// The key that a step is, if it is one.

@@ -86,6 +86,14 @@ pub struct Difference {
     pub severity: u32,
 }
 
+/// How many keys there are, and how many bytes their strings have.
+#[repr(C)]
+#[derive(Clone, Copy, Debug, Default, PartialEq, Eq)]
+pub struct Keys {
+    pub keys: usize,
+    pub bytes: usize,
+}
+
 #[repr(C)]
 pub struct MessageHandle {
     pub at: *mut u8,

@@ -48,6 +48,39 @@ fn reads_lists_maps_and_messages() -> Result<(), Error> {
 }
 
 #[test]
+fn reads_keys_in_order() -> Result<(), Error> {
+    let source = "syntax = \"proto3\"; message M { map<string, int32> s = 1; map<sint32, M> i = 2; map<fixed64, M> u = 3; map<bool, M> b = 4; int32 n = 5; }";
+    let mut m = Pool::of_sources([("m.proto", source)])?.message_type("M")?.empty()?;
+    assert_eq!((m.field("s")?.keys()?, m.field("s")?.nth_key(0)?), (vec![], None));
+    // 300 strings of 0 to 299 bytes, which are more than a first call writes, put in from the longest one on.
+    let strings: Vec<Key> = (0..300).map(|len| Key::from("k".repeat(len))).collect();
+    for key in strings.iter().rev() {
+        m.insert("s", key.clone(), 1)?;
+    }
+    assert_eq!(m.field("s")?.keys()?, strings);
+    assert_eq!((m.field("s")?.nth_key(299)?, m.field("s")?.nth_key(300)?), (strings.last().cloned(), None));
+    for key in [1, -1, 0] {
+        m.insert("i", key, Value::Message(0))?;
+    }
+    assert_eq!(m.field("i")?.keys()?, [-1, 0, 1].map(Key::Int32));
+    assert_eq!(m.field("i")?.nth_key(1)?, Some(Key::Int32(0)));
+    for key in [u64::MAX, 0] {
+        m.field_mut("i")?.key(-1).field("u")?.insert(key, Value::Message(0))?;
+    }
+    assert_eq!(m.field("i")?.key(-1).field("u")?.keys()?, [0, u64::MAX].map(Key::Uint64));
+    for key in [true, false] {
+        m.insert("b", key, Value::Message(0))?;
+    }
+    assert_eq!(
+        m.field("b")?.entries()?.map(|(key, it)| (key, it.to_string())).collect::<Vec<_>>(),
+        [(Key::Bool(false), "b[false]".to_owned()), (Key::Bool(true), "b[true]".to_owned())]
+    );
+    // No map has keys there.
+    assert_eq!((m.field("n")?.keys()?, m.field("n")?.nth_key(0)?), (vec![], None));
+    Ok(())
+}
+
+#[test]
 fn finds_in_bytes() {
     let (order, bytes) = (order(), example("shop_order.bin"));
     let order = order.message_type();

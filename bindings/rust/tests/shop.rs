@@ -1,5 +1,5 @@
 //! The order of the shop: its bytes, listing and types are those of examples/, and the records written here are made by hand.
-use mabristu::{raw_check, raw_short, Error, JsonForm, JsonInput, Limits, MessageType, Pool, Shape, Step, StreamError};
+use mabristu::{raw_check, raw_short, Error, JsonForm, JsonInput, Limits, MessageType, Pool, Shape, Step, StreamError, Value};
 use std::{fs, thread};
 
 fn example(name: &str) -> Vec<u8> {
@@ -273,4 +273,29 @@ fn goes_to_threads() {
         .collect();
     drop(order);
     assert!(threads.into_iter().all(|it| it.join().unwrap()));
+}
+
+#[test]
+fn messages_and_decoders_change_threads() {
+    let (order, bytes) = (order(), example("shop_order.bin"));
+    let wanted = order.decode(&bytes).unwrap().encode().unwrap();
+    for at in [0, 60, bytes.len()] {
+        // Each of the two is made on one thread, used on a second one, and freed on a third.
+        let (mut message, mut decoder) = (order.decode(&bytes).unwrap(), order.decoder().unwrap());
+        let piece = bytes[..at].to_vec();
+        decoder.feed(&piece).unwrap();
+        let rest = bytes[at..].to_vec();
+        let second = thread::spawn(move || {
+            message.set("number", 7).unwrap();
+            message.insert("discounts", "new", 1).unwrap();
+            decoder.feed(&rest).unwrap();
+            (message, decoder.finish().unwrap())
+        });
+        let (message, decoded) = second.join().unwrap();
+        let third = thread::spawn(move || {
+            assert_eq!((message.get("number").unwrap(), message.field("discounts").unwrap().len().unwrap()), (Some(Value::Uint64(7)), 3));
+            decoded.encode().unwrap()
+        });
+        assert_eq!(third.join().unwrap(), wanted);
+    }
 }

@@ -40,6 +40,7 @@ pub use message::get::mb_message_get;
 pub use message::handle::MessageHandle;
 pub use message::json::mb_message_json;
 pub use message::key::mb_message_key;
+pub use message::keys::mb_message_keys;
 pub use message::make::mb_message_new;
 pub use message::merge::mb_message_merge;
 pub use message::oneof::mb_message_oneof;

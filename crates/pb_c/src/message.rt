@@ -13,6 +13,7 @@ pub(crate) mod get;
 pub(crate) mod handle;
 pub(crate) mod json;
 pub(crate) mod key;
+pub(crate) mod keys;
 pub(crate) mod make;
 pub(crate) mod merge;
 pub(crate) mod miss;

@@ -8,3 +8,5 @@ pub mod Answered
 mod Filled
 -- rows for what is said of a decoder
 mod Rows
+-- what a decoder has read so far may go to another thread
+mod PartsSend

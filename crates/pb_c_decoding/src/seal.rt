@@ -53,3 +53,6 @@ impl DecoderSeal {
         }
     }
 }
+
+// A decoder owns what it has read, and a pool in an `Arc` may be read by any thread, so what is sealed may go to one.
+unsafe impl Send for DecoderSeal {}

@@ -53,3 +53,6 @@ impl MessageSeal {
         }
     }
 }
+
+// A message owns what it holds, and a pool in an `Arc` may be read by any thread, so what is sealed may go to one.
+unsafe impl Send for MessageSeal {}

@@ -1,7 +1,7 @@
 //! The unknown records of the message at a place.
 
-ghost use Rattle.std.specs.Prelude.{◌≡◌, ◌≢◌, ◌↔◌, ◌⊎◌, None, Some};
-ghost use Rattle.pb_c_values.specs.Answers.{unknown_in};
+ghost use Rattle.std.specs.Prelude.{◌≡◌, ◌≢◌, ◌↔◌, ◌⊎◌, None, Some, MatchResult};
+ghost use Rattle.pb_c_values.specs.Answers.{Answers, IsMissed, unknown_in};
 ghost use Rattle.pb_c_reports.specs.Reporting.{IsLaid};
 ghost use Rattle.pb_c.specs.Message.Places.{IsAnswered};
 
@@ -10,52 +10,27 @@ use super::miss::miss_number;
 use super::own::OwnMessage;
 use pb_c_held::{Held, take_body};
 use pb_c_reports::{ABSENT, BAD_PLACE, DONE, EMPTY, MEMORY, write_out};
-use pb_c_values::{PlainValue, unknown_at};
-use pb_value::DynamicMessage;
+use pb_c_values::{Miss, PlainValue, unknown_at};
 use pb_value::bodies::from_well_formed;
 use std::alloc::Global;
 
-/// Writes the unknown records at a place.
-fn write_unknown(
-    alloc: Global,
-    message: &DynamicMessage<'_>,
-    place: &[PlainValue],
-    keys: &[&[u8]],
-    out: &mut [u8],
-    size: &mut usize,
-) -> u32
-    ensures answered { IsAnswered unknown_in keys.now place.now (Some message.now) result (λ b. IsLaid b out.old out.new size.new) }
-    ensures unwritten { result ≢ DONE → (out.new ≡ out.old) × (size.new ≡ size.old) }
-    ensures answers { (result ≡ DONE) ⊎ (result ≡ ABSENT) ⊎ (result ≡ BAD_PLACE) ⊎ (result ≡ MEMORY) }
-{
-    match unknown_at(alloc, message.view(), place, keys) {
-        Ok(bytes) => {
-            write_out(&bytes, out, size);
-            DONE
-        }
-        Err(miss) => miss_number(miss),
-    }
-}
-
-/// Writes the unknown records at a place of a message that is owned.
+/// The unknown records at a place of a message that is owned, as their shortest encoding.
 fn unknown_own(
     alloc: Global,
     own: &mut OwnMessage,
     place: &[PlainValue],
     keys: &[&[u8]],
-    out: &mut [u8],
-    size: &mut usize,
-) -> u32
-    ensures answered { IsAnswered unknown_in keys.now place.now (Some own.old) result (λ b. IsLaid b out.old out.new size.new) }
-    ensures unwritten { result ≢ DONE → (out.new ≡ out.old) × (size.new ≡ size.old) }
-    ensures answers { (result ≡ DONE) ⊎ (result ≡ ABSENT) ⊎ (result ≡ BAD_PLACE) ⊎ (result ≡ MEMORY) }
+) -> Result<Vec<u8>, Miss>
+    ensures answer { MatchResult result
+        (λ b. Answers unknown_in keys.now place.now own.old (Some b.items))
+        (IsMissed (Answers unknown_in keys.now place.now own.old None) keys.now place.now) }
     ensures same { own.new ≡ own.old }
 {
     let Some(body) = take_body(alloc, &own.pool, own.message_type, &mut own.held) else {
-        return MEMORY;
+        return Err(Miss::Memory);
     };
     let message = from_well_formed(alloc, &own.pool, own.message_type, body);
-    let answer = write_unknown(alloc, &message, place, keys, out, size);
+    let answer = unknown_at(alloc, message.view(), place, keys);
     own.held = Held::Fields(message.into_body());
     answer
 }
@@ -83,7 +58,13 @@ pub extern "C" fn mb_message_unknown(
     let Some(mut own) = take(alloc, message) else {
         return EMPTY;
     };
-    let answer = unknown_own(alloc, &mut own, place, keys, out, size);
+    let answer = unknown_own(alloc, &mut own, place, keys);
     put(message, own);
-    answer
+    match answer {
+        Ok(bytes) => {
+            write_out(&bytes, out, size);
+            DONE
+        }
+        Err(miss) => miss_number(miss),
+    }
 }
