@@ -1,7 +1,7 @@
 /* Mabristu for C: Protocol Buffers bytes checked, rewritten and shown by proved code, by types that are known only at run time.
  *
- * Link a pool of types once, from a descriptor set or from sources, and find the number of a type by its name. Then check, rewrite or show as many
- * messages of it as there are. Free the pool. Names and sources are bytes with a length, and no zero byte ends them. docs/C.md has it in examples.
+ * Link a pool of types once, from a descriptor set or from sources, and find the number of a type by its name. Then check, rewrite or show messages of
+ * it. Free the pool at the end. Names and sources are bytes with a length, and no zero byte ends them. docs/C.md has examples.
  *
  * Who owns what:
  * - You own each buffer, name and struct that you pass. No call keeps a pointer to one.
@@ -24,13 +24,13 @@
  * - The bytes that a call reads do not change during the call: no other thread writes them, and if they are a mapped file, nobody writes or shortens
  *   that file.
  * - A handle is all zeros, or as a call left it; it is not copied while it holds something, and nothing but these calls writes it. One call at
- *   a time uses a handle. A handle goes to another thread by what orders the calls, as a lock, or the start or the end of a thread; two threads use one
- *   pool at once by two handles (mb_pool_share).
+ *   a time uses a handle. A lock, or the start or the end of a thread, orders the calls of two threads on one handle. Two threads use one pool at once
+ *   by two handles (mb_pool_share).
  * - malloc, realloc and free come from one allocator, and it may be called (so no call of this library from a signal handler, nor in the child of a
  *   fork of a process with threads). They align a block to each power of two up to 16 that divides its size.
  *
- * A call prints nothing, has no state but what its handles hold, and always returns: it never aborts. It needs up to 500 KB of stack, for what nests
- * 100 deep (docs/C.md). An output that a call does not report keeps the value that it had before the call.
+ * A call prints nothing, keeps no state outside its handles, and always returns: it never aborts. It needs up to 500 KB of stack, for messages that
+ * nest 100 deep (docs/C.md). An output that a call does not report keeps the value that it had before the call.
  */
 #ifndef MABRISTU_H
 #define MABRISTU_H
@@ -43,7 +43,7 @@
 extern "C" {
 #endif
 
-/* What this header says. A library that answers another number has other calls. */
+/* The version of the calls in this header. A library whose mb_interface returns another number has other calls. */
 #define MB_INTERFACE 8
 uint32_t mb_interface(void);
 
@@ -122,53 +122,54 @@ struct mb_refusal {
     size_t name_len;  /* of linking: the length of the declaration's full name, which follows it there */
 };
 
-/* Links the types of a descriptor set, as `protoc --include_imports --descriptor_set_out` or `pbtool compile` writes one, into a handle, in place of
- * what it held, and keeps the names that the set gives fields in JSON (the option json_name). Where the answer is another than MB_DONE the handle holds
- * nothing. For MB_FAULT (the bytes are no set) the fault is reported, for 52 to
- * 60 (a file of the set) and for 71 to 89 (linking) the refusal, with as much of its text as the buffer holds: the two names. */
+/* Links the types of a descriptor set, as `protoc --include_imports --descriptor_set_out` or `pbtool compile` writes one, into a handle, and frees
+ * what the handle held before. The pool keeps the names that the set gives fields in JSON (the option json_name). If the call does not return
+ * MB_DONE, the handle holds nothing. For MB_FAULT (the bytes are no set) the call reports the fault. For 52 to 60 (a file of the set) and 71 to 89
+ * (linking) it reports the refusal, and writes the file's name and the declaration's name as far as the buffer holds them. */
 uint32_t mb_pool_link(const uint8_t *set, size_t set_len, struct mb_pool *pool,
                       struct mb_fault *fault, struct mb_step *path, size_t path_len,
                       struct mb_refusal *refusal, uint8_t *text, size_t text_len);
 
-/* As mb_pool_link, of the set without what that refuses in sets of proto2 and what it can't take of them: an extension and a range of them are left
- * out, a required field counts as optional, a default value is left out, and a map of a closed enum loses its mark, so it is the list of its entries.
- * For MB_DONE it is reported how many such parts were left out. Records of what is left out are unknown records of a message, and stay there. */
+/* Links a set as mb_pool_link does, but leaves out the parts that mb_pool_link refuses: extensions, ranges of extensions and default values. A
+ * required field counts as optional. A map whose values are of a closed enum becomes a list of its entries. For MB_DONE the call reports how many
+ * parts it left out. In a message, the records of a field that was left out are unknown records, and stay there. */
 uint32_t mb_pool_link_lenient(const uint8_t *set, size_t set_len, struct mb_pool *pool, size_t *left_out,
                               struct mb_fault *fault, struct mb_step *path, size_t path_len,
                               struct mb_refusal *refusal, uint8_t *text, size_t text_len);
 
-/* Bytes of the caller's: a name, a source or a string. */
+/* Bytes that belong to the caller: a name, a source or a string. */
 struct mb_bytes {
     const uint8_t *at;
     size_t len;
 };
 
-/* Links the types of sources of proto3. The name of each (as imports name it) is in one list, and the source itself at the same index of the other. What
- * a source imports has to be among them, google/protobuf/timestamp.proto too. As mb_pool_link, but that for 50 and 61 to 69 (a source) the refusal has
- * the source's index and the byte, and that an option json_name is left out: link the compiled set where such names are wanted in JSON. */
+/* Links the types of sources of proto3. One list has the name of each source, as imports name it. The other list has the source itself at the same
+ * index. Each file that a source imports has to be among them, google/protobuf/timestamp.proto too. The call answers as mb_pool_link does, with two
+ * differences. For 50 and 61 to 69 (a source) the refusal has the source's index and the byte. And the option json_name is left out: if you want
+ * these names in JSON, link a compiled set. */
 uint32_t mb_pool_compile(const struct mb_bytes *names, size_t names_len, const struct mb_bytes *texts, size_t texts_len, struct mb_pool *pool,
                          struct mb_refusal *refusal, uint8_t *text, size_t text_len);
 
-/* As mb_pool_compile, of sources of all of proto3, and of proto2: what declares no message, enum or service is read and left out, as parts
- * of an option's name in parentheses, constants in braces, default values, blocks of extend and ranges of extensions. A map in a file of
- * proto2 whose values are of an enum is the list of its entries. */
+/* Links sources as mb_pool_compile does, but takes all of proto3, and proto2. The call reads and leaves out what declares no message, enum or
+ * service: custom options, constants in braces, default values, blocks of extend and ranges of extensions. In a file of proto2, a map whose values
+ * are of an enum becomes a list of its entries. */
 uint32_t mb_pool_compile_lenient(const struct mb_bytes *names, size_t names_len, const struct mb_bytes *texts, size_t texts_len, struct mb_pool *pool,
                                  struct mb_refusal *refusal, uint8_t *text, size_t text_len);
 
-/* Puts the pool that one handle holds into another one too, in place of what that held: both hold one pool, which is freed with the last of them.
- * Threads may use the two at once. Where the answer is another than MB_DONE the other handle is as it was. */
+/* Puts the pool of one handle into another handle too, and frees what the other handle held before. Both hold one pool, which is freed with the last
+ * of them. Two threads may use the two handles at once. If the call does not return MB_DONE, the other handle does not change. */
 uint32_t mb_pool_share(struct mb_pool *pool, struct mb_pool *other);
 
-/* Writes a descriptor set that declares the pool's types, as mb_raw_short writes an encoding: linking it makes the same types again. Services, options
- * and what else a pool does not hold are not in it. MB_TOO_LARGE: it would have more than MB_MAX_BYTES bytes; 27: it would nest more than 100 levels
- * deep. */
+/* Writes a descriptor set that declares the pool's types, as mb_raw_short writes an encoding: linking it makes the same types again. The set has no
+ * services, no options, and nothing else that a pool does not hold. MB_TOO_LARGE: the set would have more than MB_MAX_BYTES bytes. 27: it would nest
+ * more than 100 levels deep. */
 uint32_t mb_pool_set(struct mb_pool *pool, uint8_t *out, size_t out_len, size_t *size);
 
-/* Frees what a handle holds. One that holds nothing stays as it is. */
+/* Frees what a handle holds. A handle that holds nothing does not change. */
 void mb_pool_free(struct mb_pool *pool);
 
-/* Reports the number of a message type by its full name, as in shop.Order. It is the number of that type in each handle that shares the pool, and says
- * nothing of other pools. */
+/* Reports the number of a message type by its full name, as in shop.Order. The type has this number in each handle that shares the pool. In another
+ * pool the number may mean another type. */
 uint32_t mb_pool_type(struct mb_pool *pool, const uint8_t *name, size_t name_len, uint32_t *type);
 
 /* What a field is. The numbers of kinds are those of types in descriptor.proto: 5 for int32, 9 for string, 11 for a message, 14 for an enum. */
@@ -185,9 +186,9 @@ uint32_t mb_pool_field(struct mb_pool *pool, uint32_t type, const uint8_t *name,
 
 /* ---- What a pool declares ----
  *
- * Files, message types and enums each have the numbers below their count, in the order of the set, fields, oneofs and values the indexes below theirs,
- * in the order of their declarations. A name is written as far as the buffer holds it, and its whole length is reported. Entry messages of maps are no
- * message types. */
+ * Files, message types and enums have numbers from 0 on, in the order of the set. Fields, oneofs and values have indexes from 0 on, in the order of
+ * their declarations. A call writes a name as far as the buffer holds it, and reports its whole length. Entry messages of maps do not count as message
+ * types. */
 
 struct mb_counts {
     size_t files;
@@ -210,8 +211,8 @@ struct mb_type {
 /* Reports the message type of a number, with its full name. */
 uint32_t mb_pool_message(struct mb_pool *pool, uint32_t type, struct mb_type *report, uint8_t *name, size_t name_len, size_t *size);
 
-/* Reports the field at an index of a message type, with its name, and with what its shape says beside: of a member of a oneof the index of the oneof,
- * of a list 1 where it is packed, else 0. MB_ABSENT: the type has fewer fields. */
+/* Reports the field at an index of a message type, with its name, and with a detail of its shape: the index of the oneof for a member of a oneof, 1
+ * for a packed list, else 0. MB_ABSENT: the type has fewer fields. */
 uint32_t mb_pool_field_at(struct mb_pool *pool, uint32_t type, size_t index, struct mb_field *report, uint32_t *detail,
                           uint8_t *name, size_t name_len, size_t *size);
 
@@ -263,17 +264,18 @@ struct mb_difference {
 };
 
 /* Reports the differences between a message type of an old pool and one of a new pool, and between each two types that fields of the same number lead
- * to: these types first, and of each two by rising field number. As many are written as the buffer holds, and it is reported how many there are. The
- * two handles are different ones: share a pool to compare types of it. */
+ * to: these types first, and of each two by rising field number. The call writes as many as the buffer holds, and reports how many there are. The two
+ * handles must differ: share a pool to compare two types of it. */
 uint32_t mb_compat(struct mb_pool *old_pool, uint32_t old_type, struct mb_pool *new_pool, uint32_t new_type,
                    struct mb_difference *out, size_t out_len, size_t *count);
 
 struct mb_message;
 
-/* Makes a message that shows that a difference breaks reading, in place of what the handle of the message held (mb_message_new below): one of the old type
- * whose canonical bytes are refused by the new type, or read as a message that does not agree with it. The types are those that mb_compat compared, and
- * the difference is one that it reported, whose severity is not read. MB_ABSENT: nothing breaks at this field of these types, the comparison does not lead
- * to them, or more than 99 fields, one in another, lead there. Where the answer is another than MB_DONE the handle of the message is as it was. */
+/* Makes a message that shows that a difference breaks reading, and frees what the handle of the message held before (mb_message_new below). The
+ * message is of the old type. The new type refuses its canonical bytes, or reads them as a message that does not agree with it. The types are those
+ * that mb_compat compared, and the difference is one that it reported, whose severity is not read. MB_ABSENT: nothing breaks at this field of these
+ * types, the comparison does not lead to them, or more than 99 fields, one in another, lead there. If the call does not return MB_DONE, the handle of
+ * the message does not change. */
 uint32_t mb_compat_witness(struct mb_pool *old_pool, uint32_t old_type, struct mb_pool *new_pool, uint32_t new_type,
                            const struct mb_difference *difference, struct mb_message *message);
 
@@ -350,31 +352,32 @@ struct mb_message {
     bool full;
 };
 
-/* Makes an empty message of the type, in place of what the handle of the message held. The message holds the pool too: the pool is freed with the last
- * handle that holds it. Where the answer is another than MB_DONE the handle of the message is as it was. */
+/* Makes an empty message of the type, and frees what the handle of the message held before. The message holds the pool too: the pool is freed with
+ * the last handle that holds it. If the call does not return MB_DONE, the handle of the message does not change. */
 uint32_t mb_message_new(struct mb_pool *pool, uint32_t type, struct mb_message *message);
 
-/* Decodes the bytes as a message of the type, as mb_check checks them, in place of what the handle of the message held. Of bytes that are canonical
- * already, as most in a pipeline are, a copy is held, and fields are built of it by the first call that needs them, which may answer MB_MEMORY. */
+/* Decodes the bytes as a message of the type, as mb_check checks them, and frees what the handle of the message held before. If the bytes are
+ * canonical already, as most in a pipeline are, the handle holds a copy of them. The first call that needs the fields builds them, and may answer
+ * MB_MEMORY. */
 uint32_t mb_message_decode(struct mb_pool *pool, uint32_t type, const uint8_t *bytes, size_t bytes_len, uint32_t max_bytes, uint8_t max_depth,
                            struct mb_message *message, struct mb_fault *fault, struct mb_step *path, size_t path_len);
 
-/* Puts a copy of the message that one handle holds into another one, in place of what that held. Where the answer is another than MB_DONE the other
- * handle is as it was. MB_TOO_LARGE: the message has more than MB_MAX_BYTES canonical bytes. */
+/* Puts a copy of the message of one handle into another handle, and frees what the other handle held before. If the call does not return MB_DONE, the
+ * other handle does not change. MB_TOO_LARGE: the message has more than MB_MAX_BYTES canonical bytes. */
 uint32_t mb_message_copy(struct mb_message *message, struct mb_message *other);
 
-/* Reports whether two messages are equal: 1 where they are of the same type, by pools that hold the same, and have the same fields and the same unknown
- * records in the same order; else 0. Floats are compared by their bits. The two handles are different ones: a message is equal to itself, so compare the pointers first where they may be
- * the same. MB_TOO_LARGE as mb_message_copy has it. */
+/* Reports 1 if two messages are equal, else 0. Equal messages are of the same type, of pools that hold the same, and have the same fields and the
+ * same unknown records in the same order. Floats are compared by their bits. The two handles must differ: if they may be one, compare the pointers
+ * first. MB_TOO_LARGE as mb_message_copy has it. */
 uint32_t mb_message_equal(struct mb_message *message, struct mb_message *other, uint32_t *equal);
 
-/* Decodes the bytes onto the message: then it is what its canonical bytes followed by these bytes decode to. A scalar is replaced, a message in a
- * field is merged, a list grows, and entries of a map are put over those of the same keys. Where the answer is another than MB_DONE the message is as
- * it was. MB_TOO_LARGE as mb_message_copy has it. */
+/* Merges the bytes into the message. The result is the message that its canonical bytes, followed by these bytes, decode to: a scalar is replaced, a
+ * message in a field is merged, a list gets more elements, and an entry of a map replaces the entry of the same key. If the call does not return
+ * MB_DONE, the message does not change. MB_TOO_LARGE as mb_message_copy has it. */
 uint32_t mb_message_merge(struct mb_message *message, const uint8_t *bytes, size_t bytes_len, uint32_t max_bytes, uint8_t max_depth,
                           struct mb_fault *fault, struct mb_step *path, size_t path_len);
 
-/* Writes the canonical bytes of the message. For MB_DONE their number is reported, and as many of them are written as the buffer holds. */
+/* Writes the canonical bytes of the message. For MB_DONE the call reports how many there are, and writes as many as the buffer holds. */
 uint32_t mb_message_encode(struct mb_message *message, uint8_t *out, size_t out_len, size_t *size);
 
 /* Writes the message as a frame of a stream, as mb_message_encode writes its bytes: their number as a varint, and then the canonical bytes. */
@@ -389,41 +392,43 @@ uint32_t mb_message_show(struct mb_message *message, uint8_t *out, size_t out_le
 /* Writes the listing as mb_message_show does, but with each float as the shortest decimal that reads back to the same bits, or nan, inf or -inf. */
 uint32_t mb_message_show_decimal(struct mb_message *message, uint8_t *out, size_t out_len, size_t *size);
 
-/* Why a part of a message has no JSON form: a google.protobuf.Value holds nothing, or a NaN or an infinity; a Timestamp or a Duration is out of its
- * range; a path of a FieldMask would not be read back; an Any that holds no message of a type of its pool. */
+/* Why a part of a message has no JSON form. In this order: a google.protobuf.Value holds nothing; it holds a NaN or an infinity; a Timestamp or a
+ * Duration is out of its range; a path of a FieldMask would not be read back; an Any holds no message of a type of its pool. */
 enum { MB_JSON_NO_KIND = 91, MB_JSON_NOT_FINITE = 92, MB_JSON_OUT_OF_RANGE = 93, MB_JSON_BAD_PATH = 94, MB_JSON_UNSUPPORTED = 95 };
 
-/* Writes the message as JSON (ProtoJSON), as mb_message_encode writes its bytes, indented or on one line. Field names are as declared; or else each is
- * the one that the pool's set gives the field, and in lowerCamelCase where it gives none. The pool is that of the message's type, or another one of the
- * same set: a message holds its types, but not these names. For MB_JSON_NO_KIND and the numbers after it, the first part that has no JSON form is
- * reported: the numbers of the fields that lead to it, as many as the buffer holds, and how many there are. */
+/* Writes the message as JSON (ProtoJSON), as mb_message_encode writes its bytes, indented or on one line. Field names are as declared, if that is
+ * asked. Else each field has the name that the pool's set gives it (json_name), and if the set gives none, its name in lowerCamelCase. The pool is
+ * that of the message's type, or another one of the same set: a message holds its types, but not these names. For MB_JSON_NO_KIND and the numbers
+ * after it, the call reports the first part that has no JSON form: it writes the numbers of the fields that lead there, as many as the buffer holds,
+ * and reports how many there are. */
 uint32_t mb_message_json(struct mb_pool *pool, struct mb_message *message, bool declared_names, bool indented,
                          uint8_t *out, size_t out_len, size_t *size, uint32_t *path, size_t path_len, size_t *steps);
 
-/* Why a JSON text is not read as a message: at a byte no JSON text goes on so, or the bytes only begin one; they are not UTF-8; the text, or the message,
- * nests too deep; a member has a name that no field has; a second one names the same field or key, or sets a field of the same oneof; a name is no key of
- * the map; a value is none of the field. */
+/* Why a JSON text is not read as a message. In this order: a byte does not continue a JSON text; the text ends too early; it is not UTF-8; the text
+ * or the message nests too deep; a member has a name that no field has; a second member names the same field or key; a second member sets a field of
+ * the same oneof; a name is no key of the map; a value does not fit the field. */
 enum {
     MB_JSON_UNEXPECTED_BYTE = 101, MB_JSON_UNEXPECTED_END = 102, MB_JSON_BAD_UTF8 = 103, MB_JSON_TOO_DEEP = 104, MB_JSON_UNKNOWN_NAME = 105,
     MB_JSON_REPEATED_NAME = 106, MB_JSON_SECOND_MEMBER = 107, MB_JSON_BAD_KEY = 108, MB_JSON_BAD_VALUE = 109
 };
 
-/* Reads a message from JSON (ProtoJSON), in place of what its handle held. It holds the types too, so the pool may be freed before. A member is the
- * field that the pool's set gives its name, or else that which is declared by it, or else that which is given none and has it in lowerCamelCase.
- * `lenient` passes over members that no field has, and over strings that an enum does not declare. For MB_JSON_UNEXPECTED_BYTE and the numbers after
- * it, the byte is reported where what is refused begins, counted from 0; the message is changed for MB_DONE alone. */
+/* Reads a message from JSON (ProtoJSON), and frees what the handle of the message held before. The message holds its types too, so the pool may be
+ * freed before it. A member names the field to which the pool's set gives this name (json_name). If there is none, it names the field that is
+ * declared by this name. If there is none, it names the field without a given name that has this name in lowerCamelCase. `lenient` skips members that
+ * no field has, and strings that an enum does not declare. For MB_JSON_UNEXPECTED_BYTE and the numbers after it, the call reports the byte, counted
+ * from 0, where the refused part begins. Only MB_DONE changes the message. */
 uint32_t mb_message_from_json(struct mb_pool *pool, uint32_t type, const uint8_t *json, size_t json_len, bool lenient, struct mb_message *message,
                               size_t *byte);
 
-/* Reads a message from JSON, as mb_message_from_json does, and writes its canonical bytes, as mb_message_encode writes them: no message stays with the
- * library. For MB_JSON_UNEXPECTED_BYTE and the numbers after it, the byte is reported. */
+/* Reads a message from JSON, as mb_message_from_json does, and writes its canonical bytes, as mb_message_encode writes them. The library keeps no
+ * message. For MB_JSON_UNEXPECTED_BYTE and the numbers after it, the call reports the byte. */
 uint32_t mb_from_json(struct mb_pool *pool, uint32_t type, const uint8_t *json, size_t json_len, bool lenient,
                       uint8_t *out, size_t out_len, size_t *size, size_t *byte);
 
-/* Reports what the message has at a place: a scalar, or the kind and the size of what else is there. A place is a list of steps from the message, which
- * is itself at the place of no steps. MB_ABSENT: a field is not set, a list is shorter, a map has no such key, or a step does not fit. A list or map
- * that is empty is not set, nor is a field without presence that has its default value. MB_BAD_PLACE: a step is of no kind above, its number is too
- * large for that, or its string is not among the keys or not UTF-8. */
+/* Reports what the message has at a place: a scalar, or the kind and the size of what else is there. A place is a list of steps from the message,
+ * which is itself at the place of no steps. MB_ABSENT: a field is not set, a list is shorter, a map has no such key, or a step does not fit. An empty
+ * list or map counts as not set, and so does a field without presence that has its default value. MB_BAD_PLACE: a step has a kind that is not listed
+ * above, its number is too large for its kind, or its string is not among the keys or not UTF-8. */
 uint32_t mb_message_get(struct mb_message *message, const struct mb_value *place, size_t place_len, const struct mb_bytes *keys, size_t keys_len,
                         struct mb_value *value);
 
@@ -431,13 +436,13 @@ uint32_t mb_message_get(struct mb_message *message, const struct mb_value *place
 uint32_t mb_message_read(struct mb_message *message, const struct mb_value *place, size_t place_len, const struct mb_bytes *keys, size_t keys_len,
                          uint8_t *out, size_t out_len, size_t *size);
 
-/* Writes the numbers of the fields that are set in the message at a place, in rising order, as many as the buffer holds. For MB_DONE it is reported how
- * many there are. */
+/* Writes the numbers of the fields that are set in the message at a place, in rising order, as many as the buffer holds. For MB_DONE the call reports
+ * how many there are. */
 uint32_t mb_message_fields(struct mb_message *message, const struct mb_value *place, size_t place_len, const struct mb_bytes *keys, size_t keys_len,
                            uint32_t *numbers, size_t numbers_len, size_t *count);
 
-/* Reports the key at an index, counted from 0, of the map at a place, where keys rise and strings are ordered by their bytes. Of a string as much is
- * written as the buffer holds. */
+/* Reports the key at an index, counted from 0, of the map at a place, where keys rise and strings are ordered by their bytes. A key that is a string
+ * is written as far as the buffer holds it. */
 uint32_t mb_message_key(struct mb_message *message, const struct mb_value *place, size_t place_len, const struct mb_bytes *keys, size_t keys_len,
                         size_t index, struct mb_value *key, uint8_t *out, size_t out_len);
 
@@ -464,23 +469,22 @@ uint32_t mb_message_oneof(struct mb_message *message, const struct mb_value *pla
 uint32_t mb_message_unknown(struct mb_message *message, const struct mb_value *place, size_t place_len, const struct mb_bytes *keys, size_t keys_len,
                             uint8_t *out, size_t out_len, size_t *size);
 
-/* Changes at a place. The value is given as mb_message_get reports one: of the kind of the field's values, or also of the kind that struct mb_field has.
- * A string, or bytes, are those of the index that the number says, among the strings, where keys of the place are too. MB_MESSAGE is an empty message,
- * whose number is not read: set, push or insert it, and then change what is in it. For example lines[2].price = 9: {MB_FIELD, 3}, {MB_INDEX, 2},
- * {MB_FIELD, 1}, and the value {MB_INT32, 9}; and name = "pen": {MB_FIELD, 2}, and the value {MB_STRING, 0}, with the one string "pen".
- *
- * MB_ABSENT: the message whose field is to be changed is not there, or the place does not end as the call wants it. MB_BAD_PLACE as mb_message_get has
- * it. MB_BAD_VALUE: the value is of no kind, too large for its kind, or its string is not among the strings or not UTF-8. And the numbers of causes why
- * the message refuses a change: 21, the type has no such field; 22, the value or the key is of another kind; 23, the call is for a field of another
- * shape, as a push to a field of one value; 27, the message would nest more than 100 levels deep; 30, a closed enum has no such value. Where the answer
- * is another than MB_DONE the message is as it was. */
+/* Changes at a place. The value is given as mb_message_get reports one: of the kind of the field's values, or also of the kind that struct mb_field
+ * has. A string, or bytes, are those of the index that the number says, among the strings, where keys of the place are too. MB_MESSAGE is an empty
+ * message, whose number is not read: set, push or insert it, and then change what is in it. For example lines[2].price = 9: {MB_FIELD, 3}, {MB_INDEX,
+ * 2}, {MB_FIELD, 1}, and the value {MB_INT32, 9}; and name = "pen": {MB_FIELD, 2}, and the value {MB_STRING, 0}, with the one string "pen". 
+ * MB_ABSENT: the message whose field is to be changed is not there, or the place does not end as the call wants it. MB_BAD_PLACE as mb_message_get
+ * has it. MB_BAD_VALUE: the value is of no kind, too large for its kind, or its string is not among the strings or not UTF-8. And the numbers of
+ * causes why the message refuses a change: 21, the type has no such field; 22, the value or the key is of another kind; 23, the call is for a field
+ * of another shape, as a push to a field of one value; 27, the message would nest more than 100 levels deep; 30, a closed enum has no such value. If
+ * the call does not return MB_DONE, the message does not change. */
 
-/* Sets a field of one value, or an element of a list, which the place ends at. Another member of the field's oneof is cleared. The default value clears a
- * field without presence. MB_ABSENT also where the list has no element at the index. */
+/* Sets the field of one value, or the element of a list, that the place ends at. Another member of the field's oneof is cleared. The default value
+ * clears a field without presence. MB_ABSENT also if the list has no element at the index. */
 uint32_t mb_message_set(struct mb_message *message, const struct mb_value *place, size_t place_len, const struct mb_bytes *strings, size_t strings_len,
                         const struct mb_value *value);
 
-/* Clears the field that the place ends at, of whichever shape. One that is not set stays so. */
+/* Clears the field that the place ends at, of any shape. A field that is not set stays so. */
 uint32_t mb_message_clear(struct mb_message *message, const struct mb_value *place, size_t place_len, const struct mb_bytes *strings, size_t strings_len);
 
 /* Puts a value at the end of the list that the place ends at, which may be empty. */
@@ -491,15 +495,15 @@ uint32_t mb_message_push(struct mb_message *message, const struct mb_value *plac
 uint32_t mb_message_insert(struct mb_message *message, const struct mb_value *place, size_t place_len, const struct mb_bytes *strings,
                            size_t strings_len, const struct mb_value *value);
 
-/* Removes the entry of the key that the place ends at, after the map: where there is none nothing changes. Or removes the element of a list that the place
- * ends at, and the elements after it move up: MB_ABSENT where the list has none at the index. */
+/* If the place ends at a key after a map, removes the entry of this key. If there is none, nothing changes. If the place ends at an index after a
+ * list, removes the element, and the elements after it move up. MB_ABSENT: the list has no element at the index. */
 uint32_t mb_message_remove(struct mb_message *message, const struct mb_value *place, size_t place_len, const struct mb_bytes *strings, size_t strings_len);
 
-/* Drops the unknown records of the message at the place, but not of messages in it. */
+/* Drops the unknown records of the message at the place, but keeps those of messages in it. */
 uint32_t mb_message_drop_unknown(struct mb_message *message, const struct mb_value *place, size_t place_len, const struct mb_bytes *strings,
                                  size_t strings_len);
 
-/* Frees what a handle holds. One that holds nothing stays as it is. */
+/* Frees what a handle holds. A handle that holds nothing does not change. */
 void mb_message_free(struct mb_message *message);
 
 /* ---- A message that arrives in pieces ---- */
@@ -510,28 +514,29 @@ struct mb_decoder {
     bool full;
 };
 
-/* Makes a decoder of a message of the type, which has received no byte, in place of what its handle held. The limits are those of the whole message. It
- * holds the pool too: the pool is freed with the last handle that holds it. Where the answer is another than MB_DONE the handle of the decoder is as it
- * was. */
+/* Makes a decoder of a message of the type, and frees what its handle held before. The decoder has received no byte. The limits are those of the
+ * whole message. The decoder holds the pool too: the pool is freed with the last handle that holds it. If the call does not return MB_DONE, the
+ * handle of the decoder does not change. */
 uint32_t mb_decoder_new(struct mb_pool *pool, uint32_t type, uint32_t max_bytes, uint8_t max_depth, struct mb_decoder *decoder);
 
-/* Gives the decoder the next piece, of any length; it keeps no pointer to it. MB_DONE: all bytes received are a message, or have the fault MB_TRUNCATED.
- * For MB_FAULT they have another one, which no further bytes change: it is reported as mb_check does, and its byte counts from the first piece on. After
- * MB_FAULT and MB_MEMORY the decoder holds nothing of the message any more: this call and mb_decoder_finish then answer MB_FINISHED. */
+/* Gives the decoder the next piece, of any length. The decoder keeps no pointer to it. MB_DONE: all bytes received are a message, or the beginning of
+ * one (fault MB_TRUNCATED). MB_FAULT: they have another fault, which no further bytes change. The call reports it as mb_check does, and its byte
+ * counts from the first piece on. After MB_FAULT and MB_MEMORY the decoder holds nothing of the message any more: this call and mb_decoder_finish
+ * then answer MB_FINISHED. */
 uint32_t mb_decoder_feed(struct mb_decoder *decoder, const uint8_t *piece, size_t piece_len, struct mb_fault *fault, struct mb_step *path,
                          size_t path_len);
 
-/* Puts the message of all bytes received, as mb_message_decode decodes them, into the handle of the message, in place of what that held. For MB_FAULT the
- * fault of these bytes is reported. Where the answer is another than MB_DONE the handle of the message is as it was. Whatever the answer, the decoder
- * holds nothing of the message any more: this call and mb_decoder_feed then answer MB_FINISHED. */
+/* Puts the message of all bytes received into the handle of the message, as mb_message_decode does, and frees what the handle held before. For
+ * MB_FAULT the call reports the fault of these bytes. If the call does not return MB_DONE, the handle of the message does not change. Whatever the
+ * answer, the decoder holds nothing of the message any more: this call and mb_decoder_feed then answer MB_FINISHED. */
 uint32_t mb_decoder_finish(struct mb_decoder *decoder, struct mb_message *message, struct mb_fault *fault, struct mb_step *path, size_t path_len);
 
-/* Reports how many bytes of the pieces the decoder holds as they came: those of a tag, a length or a number that is not complete, at most ten, or those of
- * the payload of a string, of bytes or of an unknown record, at most as many as its length says. The rest is in the message under construction. 0 of a
- * decoder that answers MB_FINISHED. */
+/* Reports how many bytes of the pieces the decoder still holds as they came. They belong to a tag, a length or a number that is not complete (at most
+ * ten bytes), or to the payload of a string, of bytes or of an unknown record (at most its length). The decoder has put all other bytes into the
+ * message. It reports 0 if it answers MB_FINISHED. */
 uint32_t mb_decoder_pending(struct mb_decoder *decoder, size_t *pending);
 
-/* Frees what a handle holds. One that holds nothing stays as it is. */
+/* Frees what a handle holds. A handle that holds nothing does not change. */
 void mb_decoder_free(struct mb_decoder *decoder);
 
 #ifdef __cplusplus
