@@ -13,7 +13,8 @@
  * - One call at a time uses a handle, on any thread.
  * - A buffer that is too small is filled, and the whole length is reported: call again with a buffer of that length.
  * - Each call returns MB_DONE, or a number that says why it did not do what was asked. It then reports what its comment says, and writes nothing else.
- * - Memory comes from malloc. After MB_MEMORY nothing has changed, except that a decoder has lost its message.
+ * - Memory comes from malloc. After MB_MEMORY nothing has changed, with two exceptions: a decoder has lost its message, and a handle into which a
+ *   pool was linked holds nothing.
  *
  * What a caller owes, and nothing checks:
  * - A pointer and the length after it describe one stretch of memory. It may be read, and written where it is not const, during the whole call.
