@@ -3,19 +3,23 @@ _pbtool() {
     local current=${COMP_WORDS[COMP_CWORD]} before=${COMP_WORDS[COMP_CWORD - 1]} command=${COMP_WORDS[1]} words=() flags names at
     COMPREPLY=()
     if [ "$COMP_CWORD" -eq 1 ]; then
-        COMPREPLY=($(compgen -W "raw check show canon json frames types compile compat from-json --help --version -h -V" -- "$current"))
+        COMPREPLY=($(compgen -W "raw check show canon json frames types compile compat from-json help version --help --version -h -V" -- "$current"))
         return
     fi
     case $command in
         raw) flags="--short --nested --explain --help -h" ;;
-        show) flags="--decimal --explain --lenient --help -h" ;;
-        frames) flags="--decimal --json --keep-going --explain --lenient --help -h" ;;
+        show) flags="-d --decimal --explain --lenient --help -h" ;;
+        frames) flags="-d --decimal --json --keep-going --explain --lenient --help -h" ;;
         check | from-json) flags="--explain --lenient --help -h" ;;
         types) flags="--lenient --help -h" ;;
         canon) flags="--out --explain --lenient --help -h" ;;
         json) flags="--pretty --explain --lenient --help -h" ;;
-        compile) flags="-I --explain --lenient --help -h" ;;
+        compile) flags="-I -o --descriptor_set_out --explain --lenient --help -h" ;;
         compat) flags="--lenient --both --help -h" ;;
+        help)
+            [ "$COMP_CWORD" -eq 2 ] && COMPREPLY=($(compgen -W "raw check show canon json frames types compile compat from-json help version" -- "$current"))
+            return
+            ;;
         *) return ;;
     esac
     case $before in
@@ -24,7 +28,7 @@ _pbtool() {
             COMPREPLY=($(compgen -d -- "$current"))
             return
             ;;
-        --out)
+        --out | -o | --descriptor_set_out)
             compopt -o filenames
             COMPREPLY=($(compgen -f -- "$current"))
             return
@@ -37,7 +41,7 @@ _pbtool() {
     # The words before this one that are no flags nor their values.
     for ((at = 2; at < COMP_CWORD; at++)); do
         case ${COMP_WORDS[at]} in
-            -I | --out) at=$((at + 1)) ;;
+            -I | --out | -o | --descriptor_set_out) at=$((at + 1)) ;;
             -*) ;;
             *) words+=("${COMP_WORDS[at]}") ;;
         esac

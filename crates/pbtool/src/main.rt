@@ -1,8 +1,8 @@
 //! The program: does the command that its words name, over the files and outputs of its process.
 #![tactic(auto)]
 
-use pb_wire::{Output, WriteOutput, write_all};
-use pbtool_cli::{Cleanup, HostFiles, Refusal, run_then};
+use pb_wire::{Output, ReadInput, WriteOutput, write_all};
+use pbtool_cli::{Cleanup, HostFiles, Refusal, StandardFiles, run_then};
 use std::io::ErrorKind;
 use std::process::ExitCode;
 use std::{env, io};
@@ -13,7 +13,9 @@ fn main(rt: HostRuntime) -> ExitCode {
         Ok(args) => args,
         Err(error) => return ExitCode::from(tell_unread(&error, &mut err)),
     };
-    let mut files = HostFiles::new(&rt);
+    let input = ReadInput::new(rt.stdin());
+    let output = WriteOutput::new(rt.stdout());
+    let mut files = StandardFiles::new(HostFiles::new(&rt), input, output);
     let mut out = WriteOutput::new(rt.stdout());
     let status = run_then(
         rt.alloc(),

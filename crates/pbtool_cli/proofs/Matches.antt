@@ -1,7 +1,6 @@
 -- What clap's matches name.
 use Rattle.std.proofs.Common.{◌≡◌, ◌<◌, ℕ, Bool, true, false, List, [], ◌∷◌, ◌⊎◌, Option, Some, None, option_map, inl, inr, zero, suc, length, codes, arith, refl, sym, ap, ◌∙◌, slice_index_or, subst}
-use Rattle.std.specs.Prelude.{Any, find, is_some, map, unwrap_or, if◌then◌else◌}
-use Rattle.std.specs.Borrow.{Bor}
+use Rattle.std.specs.Prelude.{◌≢◌, Any, find, is_some, map, if◌then◌else◌}
 use Rattle.clap.specs.Walk.{stop_after, rows_of}
 use Rattle.clap.specs.Walk.{answers_to}
 use Rattle.clap.specs.Words.{Row, Text, Shape, subcommand_name_of, subcommand_rows_of}
@@ -14,9 +13,7 @@ use Rattle.std.specs.Box.{box_value}
 use Rattle.std.specs.declared.boxed.Box.{Box}
 use Rattle.std.specs.declared.alloc.Global.{Global}
 use Rattle.pbtool_command.specs.declared.command.Command.{Command}
-use Rattle.pbtool_command.specs.CompileAnswer.{texts_of}
-use Rattle.pbtool_cli.specs.Running.{DoesBy}
-use Rattle.pbtool_cli.specs.Words.{IsMatched, IsNamed, is_explained, tool, tool_names}
+use Rattle.pbtool_cli.specs.Words.{IsMatched, IsNamed, tool, tool_names}
 
 pairs_matched : (s : Option (Text × List Row)) (name : Text) (rows : List Row) (command : Command)
     → option_map (λ p. p.0) s ≡ Some name → option_map (λ p. p.1) s ≡ Some rows → IsNamed name rows command → IsMatched s command
@@ -34,21 +31,6 @@ matched_named m name rows command n r named = pairs_matched (subcommand_rows_of 
     names : (o : Option (Box SubCommand Global)) → option_map (λ b. (out-SubCommand (box_value b)).name.now) o ≡ Some name → option_map (λ p. p.0) (subcommand_rows o) ≡ Some name
     names None e = e
     names (Some b) e = e
-
--- what is done of a subcommand's command is done of what these words name
-pub named_done :
-    (P Q : Command → Type 0) (s t : Option (Text × List Row)) → s ≡ t
-    → (command : Command) × IsMatched s command × DoesBy (is_explained s) (P command) (Q command)
-    → (command : Command) × IsMatched t command × DoesBy (is_explained t) (P command) (Q command)
-named_done P Q s t same done =
-    subst (λ (u : Option (Text × List Row)). (command : Command) × IsMatched u command × DoesBy (is_explained u) (P command) (Q command)) same done
-
--- values, or none where there are none
-pub texts_or_none :
-    (o : Option (Bor (List (Bor (List ℕ))))) (d : Bor (List (Bor (List ℕ)))) → d.now ≡ []
-    → texts_of (unwrap_or o d).now ≡ unwrap_or (option_map (λ s. map (λ v. v.now) s.now) o) []
-texts_or_none None d none = ap texts_of none
-texts_or_none (Some s) d none = refl
 
 -- WHICH SUBCOMMAND WAS MET
 
@@ -121,8 +103,8 @@ pub no_name_left :
     (s : Option Text) → (s ≡ Some (codes "raw") → false ≡ true) → (s ≡ Some (codes "check") → false ≡ true) → (s ≡ Some (codes "show") → false ≡ true)
     → (s ≡ Some (codes "canon") → false ≡ true) → (s ≡ Some (codes "json") → false ≡ true) → (s ≡ Some (codes "frames") → false ≡ true)
     → (s ≡ Some (codes "types") → false ≡ true) → (s ≡ Some (codes "compile") → false ≡ true) → (s ≡ Some (codes "from-json") → false ≡ true)
-    → (s ≡ Some (codes "compat") → false ≡ true) → Any (λ n. s ≡ Some n) tool_names → ⊥
-no_name_left s raw check show canon json frames types compile from_json compat has = by (at_index s tool_names has.0 has.1 has.2 has.3 has.4)
+    → (s ≡ Some (codes "compat") → false ≡ true) → s ≢ Some (codes "help") → s ≢ Some (codes "version") → Any (λ n. s ≡ Some n) tool_names → ⊥
+no_name_left s raw check show canon json frames types compile from_json compat help version has = by (at_index s tool_names has.0 has.1 has.2 has.3 has.4)
   where
     by : IsOneOf s tool_names → ⊥
     by (inl is) = never (raw is)
@@ -135,4 +117,6 @@ no_name_left s raw check show canon json frames types compile from_json compat h
     by (inr (inr (inr (inr (inr (inr (inr (inl is)))))))) = never (compile is)
     by (inr (inr (inr (inr (inr (inr (inr (inr (inl is))))))))) = never (compat is)
     by (inr (inr (inr (inr (inr (inr (inr (inr (inr (inl is)))))))))) = never (from_json is)
-    by (inr (inr (inr (inr (inr (inr (inr (inr (inr (inr nothing)))))))))) = nothing
+    by (inr (inr (inr (inr (inr (inr (inr (inr (inr (inr (inl is))))))))))) = help is
+    by (inr (inr (inr (inr (inr (inr (inr (inr (inr (inr (inr (inl is)))))))))))) = version is
+    by (inr (inr (inr (inr (inr (inr (inr (inr (inr (inr (inr (inr nothing)))))))))))) = nothing

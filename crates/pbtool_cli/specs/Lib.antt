@@ -1,2 +1,4 @@
+pub mod Misuse
 pub mod Running
+pub mod StandardFiles
 pub mod Words

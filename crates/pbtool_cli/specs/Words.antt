@@ -1,5 +1,6 @@
 -- The command line, and the commands that its words name.
 use Rattle.std.specs.Prelude.{◌≡◌, List, [], ◌∷◌, Bool, true, false, Option, Some, codes, unwrap_or, string_bytes, map, option_map, IsSomeAnd}
+use Rattle.std.specs.Prelude.{drop, is_some, if◌then◌else◌}
 use Rattle.std.specs.Str.{bytes_eq}
 use Rattle.std.specs.Option.{option_map_or}
 use Rattle.std.specs.declared.string.String.{String}
@@ -58,9 +59,9 @@ abbrev pub check_command : App
 check_command = of_source (new_app (codes "check"))
 
 abbrev pub decimal_rule : Rule
-decimal_rule = record (new_rule (codes "decimal")) { long = Some (codes "decimal"); action = Some SetTrue }
+decimal_rule = record (new_rule (codes "decimal")) { short = Some 100; long = Some (codes "decimal"); action = Some SetTrue }
 
--- `show [--decimal] [--explain] [--lenient] SET TYPE FILE`
+-- `show [-d] [--explain] [--lenient] SET TYPE FILE`
 abbrev pub show_command : App
 show_command = of_source (with_rule (new_app (codes "show")) decimal_rule)
 
@@ -84,7 +85,7 @@ keep_going_rule = record (new_rule (codes "keep-going")) { long = Some (codes "k
 abbrev pub json_rule : Rule
 json_rule = record (new_rule (codes "json")) { long = Some (codes "json"); action = Some SetTrue }
 
--- `frames [--decimal] [--json] [--keep-going] [--explain] [--lenient] SET TYPE FILE`
+-- `frames [-d] [--json] [--keep-going] [--explain] [--lenient] SET TYPE FILE`
 abbrev pub frames_command : App
 frames_command = of_source (with_rule (with_rule (with_rule (new_app (codes "frames")) decimal_rule) json_rule) keep_going_rule)
 
@@ -96,11 +97,16 @@ types_command = with_rule (with_rule (with_rule (new_app (codes "types")) lenien
 abbrev pub directory_rule : Rule
 directory_rule = record (new_rule (codes "DIR")) { short = Some 73; action = Some Append }
 
--- `compile [--explain] [--lenient] [-I DIR].. ROOT OUT FILE..`
+-- `-o OUT`, or `--descriptor_set_out OUT`
+abbrev pub output_rule : Rule
+output_rule =
+    record (new_rule (codes "out")) { short = Some 111; long = Some (codes "descriptor_set_out"); action = Some Set; value_names = 1 }
+
+-- `compile [--explain] [--lenient] [-I DIR].. [-o OUT] ROOT FILE..`, where without `-o` the first FILE is OUT
 abbrev pub compile_command : App
 compile_command =
     with_rule (with_rule (with_rule (with_rule (with_rule (with_rule (new_app (codes "compile")) explain_rule) lenient_rule) directory_rule)
-    (wanted (codes "ROOT"))) (wanted (codes "OUT")))
+    output_rule) (wanted (codes "ROOT")))
     (record (wanted (codes "FILE")) { action = Some Append })
 
 abbrev pub both_rule : Rule
@@ -133,14 +139,26 @@ other_tool =
     with_subcommand (with_subcommand (with_subcommand (with_subcommand (with_subcommand (with_subcommand (with_subcommand (with_subcommand tool_top raw_command.top)
     check_command.top) show_command.top) canon_command.top) json_command.top) frames_command.top) types_command.top) compile_command.top
 
+-- all commands over files
+abbrev pub commands_tool : App
+commands_tool = with_subcommand (with_subcommand other_tool compat_command.top) from_json_command.top
+
+-- `help [COMMAND]`
+abbrev pub help_command : App
+help_command = with_rule (new_app (codes "help")) (new_rule (codes "COMMAND"))
+
+-- `version`
+abbrev pub version_command : App
+version_command = new_app (codes "version")
+
 -- the whole command line
 abbrev pub tool : App
-tool = with_subcommand (with_subcommand other_tool compat_command.top) from_json_command.top
+tool = with_subcommand (with_subcommand commands_tool help_command.top) version_command.top
 
 abbrev pub tool_names : List Text
 tool_names =
     codes "raw" ∷ codes "check" ∷ codes "show" ∷ codes "canon" ∷ codes "json" ∷ codes "frames" ∷ codes "types" ∷ codes "compile" ∷ codes "compat"
-    ∷ codes "from-json" ∷ []
+    ∷ codes "from-json" ∷ codes "help" ∷ codes "version" ∷ []
 
 abbrev pub words_of : List (String Global) → List Text
 words_of = map string_bytes
@@ -164,6 +182,19 @@ values_of id rows = unwrap_or (all_of id rows) []
 -- the value of an option
 abbrev pub option_of : Text → List Row → Option Text
 option_of id rows = first_of id rows
+
+-- the first of several values
+abbrev pub first_text : List Text → Text
+first_text [] = []
+first_text (t ∷ ts) = t
+
+-- the file that `compile` writes: that of the option, or else the first word after the root
+abbrev pub output_of : List Row → Text
+output_of rows = unwrap_or (option_of (codes "out") rows) (first_text (values_of (codes "FILE") rows))
+
+-- the sources that `compile` reads: the words after the root, or those after the file that is written
+abbrev pub sources_of : List Row → List Text
+sources_of rows = if is_some (option_of (codes "out") rows) then values_of (codes "FILE") rows else drop 1 (values_of (codes "FILE") rows)
 
 -- how a set or sources are read, by whether the flag is given
 abbrev pub reading_of : Bool → Reading
@@ -242,8 +273,7 @@ IsNamed name rows (Types reading set type_name) =
     (name ≡ codes "types") × IsReading rows reading × (set.now ≡ value_of (codes "SET") rows)
     × (option_map (λ n. n.now) type_name ≡ option_of (codes "NAME") rows)
 IsNamed name rows (Compile roots out names) =
-    (name ≡ codes "compile") × AreRoots rows roots × (out.now ≡ value_of (codes "OUT") rows)
-    × (texts_of names.now ≡ values_of (codes "FILE") rows)
+    (name ≡ codes "compile") × AreRoots rows roots × (out.now ≡ output_of rows) × (texts_of names.now ≡ sources_of rows)
 IsNamed name rows (FromJson out source) = (name ≡ codes "from-json") × (out.now ≡ value_of (codes "OUT") rows) × IsSource rows source
 IsNamed name rows (Compat comparison) = (name ≡ codes "compat") × IsComparison rows comparison
 

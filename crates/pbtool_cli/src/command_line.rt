@@ -1,18 +1,20 @@
 //! From the words of the command line to the exit status.
 
-ghost use Rattle.std.specs.Prelude.{◌≡◌, ◌≢◌, ◌⊎◌, ℕ, List, [], codes, true, false, Any, Some};
-ghost use Rattle.clap.specs.Words.{fault_of, found_of, is_simple_and_free, kind_of, rows_of, subcommand_name_of, subcommand_of, subcommand_rows_of, takes};
+ghost use Rattle.std.specs.Prelude.{◌≡◌, ◌≢◌, ◌⊎◌, ℕ, List, [], codes, true, false, Any, IfSome, IsSome, None, Some};
+ghost use Rattle.clap.specs.Words.{fault_of, found_of, is_simple_and_free, kind_of, rows_of, subcommand_name_of, subcommand_of, subcommand_rows_of};
 ghost use Rattle.pbtool_command.specs.Answers.{Does};
 ghost use Rattle.pbtool_command.specs.CompileAnswer.{texts_of};
 ghost use Rattle.pbtool_files.specs.FileMap.{IsHonest, IsSaved, IsUnsaved};
 ghost use Rattle.pbtool_files.specs.Report.{device_line, memory_line};
 ghost use Rattle.pb_output.specs.Sending.{Cut, Sent, SentOrCut};
-ghost use Rattle.pbtool_cli.specs.Running.{DoesBy, DoesNamed, RefusesWords};
+ghost use Rattle.pbtool_cli.specs.Misuse.{report_of};
+ghost use Rattle.pbtool_cli.specs.Running.{DoesBy, DoesNamed, IsNoCommand, RefusesWords, ReportsMisuse};
 ghost use Rattle.pbtool_command.specs.Explained.{DoesExplained};
-ghost use Rattle.pbtool_cli.specs.Words.{AreRoots, IsFrameForm, IsMatched, IsRawForm, IsSource, ShowsFrames, flag_of, floats_of, layout_of, reading_of};
+ghost use Rattle.pbtool_cli.specs.Words.{AreRoots, IsFrameForm, IsMatched, IsRawForm, IsSource, ShowsFrames, flag_of, floats_of, layout_of, output_of, reading_of, sources_of};
 ghost use Rattle.pbtool_cli.specs.Words.{IsComparison, is_explained, readers_of, value_of, values_of, tool, tool_names, words_of};
-ghost use Rattle.pbtool_command.specs.declared.command.Command.{Command as Told};
 
+use crate::misuse::misuse_of;
+use crate::pages::{print_page, print_version};
 use crate::words::definition;
 use clap::error::ErrorKind;
 use clap::{ArgMatches, Error};
@@ -32,27 +34,36 @@ pub fn run<F: Files, O: Output, E: Output>(
     out: &mut O,
     err: &mut E,
 ) -> u8
-    // Where the words are taken, the command that they name is done, unless memory runs out before.
+    // Where clap takes the words and nothing else is wrong with them, what they name is done, unless memory runs out before.
     ensures taken { fault_of tool (words_of args.now) ≡ []
+        → report_of (subcommand_of tool (words_of args.now)) ≡ None
         → DoesNamed (Sent O.written O.failures out.old out.new) (Cut O.written O.failures out.old out.new)
         (SentOrCut E.written E.failures err.old err.new) (IsSaved F.contents files.old files.new)
         (IsUnsaved F.contents F.failures files.old files.new) result (IsHonest F.contents F.is_steady files.old)
         (DoesExplained F.contents F.failures files.old (Sent O.written O.failures out.old out.new)
         (Cut O.written O.failures out.old out.new) (SentOrCut E.written E.failures err.old err.new) result (IsHonest F.contents F.is_steady files.old))
-        (words_of args.now) }
+        (subcommand_of tool (words_of args.now)) }
+
+    // Where something else is wrong with them, it is reported.
+    ensures misused { fault_of tool (words_of args.now) ≡ []
+        → IfSome (report_of (subcommand_of tool (words_of args.now)))
+        (ReportsMisuse (Sent O.written O.failures out.old out.new) (SentOrCut E.written E.failures err.old err.new)
+        (IsSaved F.contents files.old files.new) result) }
 
     // Where they are not taken, nothing goes to standard output.
     ensures refused { fault_of tool (words_of args.now) ≢ []
         → RefusesWords (Sent O.written O.failures out.old out.new) (SentOrCut E.written E.failures err.old err.new)
         (IsSaved F.contents files.old files.new) result }
-    ensures usage { result ≡ 2 → (fault_of tool (words_of args.now) ≢ []) × (takes tool (words_of args.now) ≡ false) }
-    // The command line is one whose words are judged as clap says, so that the three clauses above are not empty.
+    ensures usage { result ≡ 2 → IsNoCommand (words_of args.now) }
+    // The command line is one whose words are judged as clap says, so that the clauses above are not empty.
     ensures simple { is_simple_and_free tool ≡ true }
 
     // Where opening or writing a file failed, the status is 3 and the line names a device. Inputs count
     // their failed reads themselves, of which these clauses do not speak.
-    ensures kept { is_explained (subcommand_of tool (words_of args.now)) ≡ false → result ≢ 3 → F.failures files.new ≡ F.failures files.old }
-    ensures failed { is_explained (subcommand_of tool (words_of args.now)) ≡ false → F.failures files.new ≢ F.failures files.old
+    ensures kept { is_explained (subcommand_of tool (words_of args.now)) ≡ false
+        → result ≢ 3 → F.failures files.new ≡ F.failures files.old }
+    ensures failed { is_explained (subcommand_of tool (words_of args.now)) ≡ false
+        → F.failures files.new ≢ F.failures files.old
         → (path : List ℕ) × SentOrCut E.written E.failures err.old err.new (device_line path) }
 
     // Steady files that take writes do not fail.
@@ -72,27 +83,36 @@ pub fn run_then<F: Files, O: Output, E: Output>(
     out: &mut O,
     err: &mut E,
 ) -> u8
-    // Where the words are taken, the command that they name is done, unless memory runs out before.
+    // Where clap takes the words and nothing else is wrong with them, what they name is done, unless memory runs out before.
     ensures taken { fault_of tool (words_of args.now) ≡ []
+        → report_of (subcommand_of tool (words_of args.now)) ≡ None
         → DoesNamed (Sent O.written O.failures out.old out.new) (Cut O.written O.failures out.old out.new)
         (SentOrCut E.written E.failures err.old err.new) (IsSaved F.contents files.old files.new)
         (IsUnsaved F.contents F.failures files.old files.new) result (IsHonest F.contents F.is_steady files.old)
         (DoesExplained F.contents F.failures files.old (Sent O.written O.failures out.old out.new)
         (Cut O.written O.failures out.old out.new) (SentOrCut E.written E.failures err.old err.new) result (IsHonest F.contents F.is_steady files.old))
-        (words_of args.now) }
+        (subcommand_of tool (words_of args.now)) }
+
+    // Where something else is wrong with them, it is reported.
+    ensures misused { fault_of tool (words_of args.now) ≡ []
+        → IfSome (report_of (subcommand_of tool (words_of args.now)))
+        (ReportsMisuse (Sent O.written O.failures out.old out.new) (SentOrCut E.written E.failures err.old err.new)
+        (IsSaved F.contents files.old files.new) result) }
 
     // Where they are not taken, nothing goes to standard output.
     ensures refused { fault_of tool (words_of args.now) ≢ []
         → RefusesWords (Sent O.written O.failures out.old out.new) (SentOrCut E.written E.failures err.old err.new)
         (IsSaved F.contents files.old files.new) result }
-    ensures usage { result ≡ 2 → (fault_of tool (words_of args.now) ≢ []) × (takes tool (words_of args.now) ≡ false) }
-    // The command line is one whose words are judged as clap says, so that the three clauses above are not empty.
+    ensures usage { result ≡ 2 → IsNoCommand (words_of args.now) }
+    // The command line is one whose words are judged as clap says, so that the clauses above are not empty.
     ensures simple { is_simple_and_free tool ≡ true }
 
     // Where opening or writing a file failed, the status is 3 and the line names a device. Inputs count
     // their failed reads themselves, of which these clauses do not speak.
-    ensures kept { is_explained (subcommand_of tool (words_of args.now)) ≡ false → result ≢ 3 → F.failures files.new ≡ F.failures files.old }
-    ensures failed { is_explained (subcommand_of tool (words_of args.now)) ≡ false → F.failures files.new ≢ F.failures files.old
+    ensures kept { is_explained (subcommand_of tool (words_of args.now)) ≡ false
+        → result ≢ 3 → F.failures files.new ≡ F.failures files.old }
+    ensures failed { is_explained (subcommand_of tool (words_of args.now)) ≡ false
+        → F.failures files.new ≢ F.failures files.old
         → (path : List ℕ) × SentOrCut E.written E.failures err.old err.new (device_line path) }
 
     // Steady files that take writes do not fail.
@@ -100,12 +120,20 @@ pub fn run_then<F: Files, O: Output, E: Output>(
         → F.is_steady files.old ≡ true → F.takes_writes files.old ≡ true → F.failures files.new ≡ F.failures files.old }
 {
     let Ok(definition) = definition(alloc) else {
-        return Refusal::Memory.tell(err);
+        return out_of_memory(err);
     };
     match definition.try_get_matches_from(args) {
-        Ok(matches) => dispatch(alloc, cleanup, &matches, files, out, err),
+        Ok(matches) => answer(alloc, cleanup, &matches, files, out, err),
         Err(error) => usage(alloc, &error, err),
     }
+}
+
+/// Reports that memory ran out, and answers the exit status.
+pub(crate) fn out_of_memory<E: Output>(err: &mut E) -> u8
+    ensures status { result ≡ 3 }
+    ensures line { SentOrCut E.written E.failures err.old err.new memory_line }
+{
+    Refusal::Memory.tell(err)
 }
 
 /// Shows what is wrong with the words.
@@ -115,17 +143,17 @@ fn usage<E: Output>(alloc: Global, error: &Error, err: &mut E) -> u8
     ensures out_of_memory { kind_of error.now ≡ ErrorKind.OutOfMemory → result ≡ 3 }
 {
     if error.kind() == ErrorKind::OutOfMemory {
-        return Refusal::Memory.tell(err);
+        return out_of_memory(err);
     }
     let Ok(text) = error.to_string(alloc) else {
-        return Refusal::Memory.tell(err);
+        return out_of_memory(err);
     };
     let _ = write_all(err, text.as_bytes());
     2
 }
 
-/// Does the command that the words named, and explains its refusal if they say so.
-fn dispatch<F: Files, O: Output, E: Output>(
+/// Does what the words say that clap took, or reports what is wrong with them all the same.
+fn answer<F: Files, O: Output, E: Output>(
     alloc: Global,
     cleanup: Cleanup,
     matches: &ArgMatches<'_>,
@@ -134,21 +162,35 @@ fn dispatch<F: Files, O: Output, E: Output>(
     err: &mut E,
 ) -> u8
     requires { Any (λ name. subcommand_name_of matches.now ≡ Some name) tool_names }
-    ensures done { (command : Told) × IsMatched (subcommand_rows_of matches.now) command
-        × DoesBy (is_explained (subcommand_rows_of matches.now))
-        (Does (Sent O.written O.failures out.old out.new) (Cut O.written O.failures out.old out.new)
+    ensures done { report_of (subcommand_rows_of matches.now) ≡ None
+        → DoesNamed (Sent O.written O.failures out.old out.new) (Cut O.written O.failures out.old out.new)
         (SentOrCut E.written E.failures err.old err.new) (IsSaved F.contents files.old files.new)
-        (IsUnsaved F.contents F.failures files.old files.new) result (IsHonest F.contents F.is_steady files.old) command)
+        (IsUnsaved F.contents F.failures files.old files.new) result (IsHonest F.contents F.is_steady files.old)
         (DoesExplained F.contents F.failures files.old (Sent O.written O.failures out.old out.new)
-        (Cut O.written O.failures out.old out.new) (SentOrCut E.written E.failures err.old err.new) result
-        (IsHonest F.contents F.is_steady files.old) command) }
-    ensures status { result ≢ 2 }
-    ensures kept { is_explained (subcommand_rows_of matches.now) ≡ false → result ≢ 3 → F.failures files.new ≡ F.failures files.old }
-    ensures failed { is_explained (subcommand_rows_of matches.now) ≡ false → F.failures files.new ≢ F.failures files.old
+        (Cut O.written O.failures out.old out.new) (SentOrCut E.written E.failures err.old err.new) result (IsHonest F.contents F.is_steady files.old))
+        (subcommand_rows_of matches.now) }
+    ensures misused { IfSome (report_of (subcommand_rows_of matches.now))
+        (ReportsMisuse (Sent O.written O.failures out.old out.new) (SentOrCut E.written E.failures err.old err.new)
+        (IsSaved F.contents files.old files.new) result) }
+    ensures usage { result ≡ 2 → IsSome (report_of (subcommand_rows_of matches.now)) }
+    ensures kept { is_explained (subcommand_rows_of matches.now) ≡ false
+        → result ≢ 3 → F.failures files.new ≡ F.failures files.old }
+    ensures failed { is_explained (subcommand_rows_of matches.now) ≡ false
+        → F.failures files.new ≢ F.failures files.old
         → (path : List ℕ) × SentOrCut E.written E.failures err.old err.new (device_line path) }
     ensures unfailing { is_explained (subcommand_rows_of matches.now) ≡ false
         → F.is_steady files.old ≡ true → F.takes_writes files.old ≡ true → F.failures files.new ≡ F.failures files.old }
 {
+    if let Some(misuse) = misuse_of(matches) {
+        misuse.report(err);
+        return 2;
+    }
+    if let Some(inner) = matches.subcommand_matches("help") {
+        return print_page(alloc, inner.get_str("COMMAND"), out, err);
+    }
+    if let Some(_inner) = matches.subcommand_matches("version") {
+        return print_version(out, err);
+    }
     let command = command_of(matches);
     if explains(matches) {
         execute_explained(alloc, cleanup, &command, files, out, err)
@@ -169,7 +211,9 @@ fn explains(matches: &ArgMatches<'_>) -> bool
 
 /// The command that the words named.
 fn command_of<'m>(matches: &'m ArgMatches<'_>) -> Command<'m>
-    requires { Any (λ name. subcommand_name_of matches.now ≡ Some name) tool_names }
+    requires names { Any (λ name. subcommand_name_of matches.now ≡ Some name) tool_names }
+    requires no_help { subcommand_name_of matches.now ≢ Some (codes "help") }
+    requires no_version { subcommand_name_of matches.now ≢ Some (codes "version") }
     ensures { IsMatched (subcommand_rows_of matches.now) result }
 {
     if let Some(inner) = matches.subcommand_matches("raw") {
@@ -212,10 +256,11 @@ fn command_of<'m>(matches: &'m ArgMatches<'_>) -> Command<'m>
         };
     }
     if let Some(inner) = matches.subcommand_matches("compile") {
+        let Target { out, names } = target_of(inner);
         return Command::Compile {
             roots: roots(inner),
-            out: value(inner, "OUT"),
-            names: values(inner, "FILE"),
+            out,
+            names,
         };
     }
     if let Some(inner) = matches.subcommand_matches("from-json") {
@@ -346,6 +391,31 @@ fn roots<'m>(matches: &'m ArgMatches<'_>) -> Roots<'m>
         reading: reading(matches),
         root: value(matches, "ROOT"),
         others: values(matches, "DIR"),
+    }
+}
+
+/// What `compile` writes, and of which sources.
+#[derive(Clone, Copy)]
+pub(crate) struct Target<'m> {
+    pub(crate) out: &'m str,
+    pub(crate) names: &'m [&'m str],
+}
+
+/// What `compile` writes: the file of the option, and all words after the root are sources; or that of the first of these words.
+pub(crate) fn target_of<'m>(matches: &'m ArgMatches<'_>) -> Target<'m>
+    ensures out { result.out.now ≡ output_of (rows_of (found_of matches.now)) }
+    ensures names { texts_of result.names.now ≡ sources_of (rows_of (found_of matches.now)) }
+{
+    let words = values(matches, "FILE");
+    if let Some(out) = matches.get_str("out") {
+        return Target { out, names: words };
+    }
+    match words.split_first() {
+        Some((out, names)) => Target { out, names },
+        None => Target {
+            out: "",
+            names: words,
+        },
     }
 }
 

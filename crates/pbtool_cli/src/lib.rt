@@ -1,8 +1,8 @@
 //! The words of the command line, and the command that they name. A program that calls commands itself finds them here too.
 //!
 //! ```rust
-//! use pb_wire::{Output, WriteOutput, write_all};
-//! use pbtool_cli::{Cleanup, HostFiles, Refusal, run_then};
+//! use pb_wire::{Output, ReadInput, WriteOutput, write_all};
+//! use pbtool_cli::{Cleanup, HostFiles, Refusal, StandardFiles, run_then};
 //! use std::io::ErrorKind;
 //! use std::process::ExitCode;
 //! use std::{env, io};
@@ -13,7 +13,9 @@
 //!         Ok(args) => args,
 //!         Err(error) => return ExitCode::from(tell_unread(&error, &mut err)),
 //!     };
-//!     let mut files = HostFiles::new(&rt);
+//!     let input = ReadInput::new(rt.stdin());
+//!     let output = WriteOutput::new(rt.stdout());
+//!     let mut files = StandardFiles::new(HostFiles::new(&rt), input, output);
 //!     let mut out = WriteOutput::new(rt.stdout());
 //!     let status = run_then(
 //!         rt.alloc(),
@@ -35,6 +37,9 @@
 #![tactic(auto)]
 
 mod command_line;
+mod misuse;
+mod pages;
+mod standard_files;
 mod words;
 
 pub use command_line::{run, run_then};
@@ -42,3 +47,4 @@ pub use pbtool_command::{
     Cleanup, Command, Comparison, Files, FloatForm, FrameForm, HostFiles, Layout, MemFiles,
     RawForm, Readers, Reading, Refusal, Roots, Source, execute, execute_explained, execute_then,
 };
+pub use standard_files::{StandardFiles, StandardInput};

@@ -2,7 +2,7 @@
 ghost use Rattle.std.specs.Prelude.{◌≡◌, false, IfOk};
 ghost use Rattle.clap.specs.Words.{app_of, rule_of};
 ghost use Rattle.clap.specs.declared.builder.command.Command.TheViews.{out-Command};
-ghost use Rattle.pbtool_cli.specs.Words.{both_rule, compat_command, from_json_command, other_tool};
+ghost use Rattle.pbtool_cli.specs.Words.{both_rule, commands_tool, compat_command, from_json_command, help_command, other_tool, output_rule, version_command};
 ghost use Rattle.pbtool_cli.specs.Words.{canon_command, check_command, compile_command, frames_command, json_command, raw_command, show_command, types_command};
 ghost use Rattle.pbtool_cli.specs.Words.{decimal_rule, directory_rule, explain_rule, json_rule, keep_going_rule, lenient_rule, nested_rule, of_source, wanted};
 ghost use Rattle.pbtool_cli.specs.Words.{tool, tool_top};
@@ -10,8 +10,11 @@ ghost use Rattle.pbtool_cli.specs.Words.{tool, tool_top};
 use clap::{Arg, ArgAction, Command};
 use std::alloc::{AllocError, Global};
 
-/// What `--version` prints.
-const VERSION: &str = "0.1.0";
+/// The name of the program.
+pub(crate) const PROGRAM: &str = "pbtool";
+
+/// Its version.
+pub(crate) const VERSION: &str = "0.1.0";
 
 /// What the help says of a file with a message.
 const BYTES: &str = "The file with the bytes of the message";
@@ -22,9 +25,29 @@ const STREAM: &str = "The file with the bytes of the stream";
 /// What the help says of a file with a message as JSON.
 const JSON: &str = "The file with the JSON of the message";
 
+/// How `compile` is used.
+const COMPILE_USAGE: &str =
+    "pbtool compile [OPTIONS] <ROOT> <OUT> <FILE>...\n       pbtool compile [OPTIONS] -o <OUT> <ROOT> <FILE>...";
+
+/// What the help says of the words after the root of sources.
+const COMPILED: &str =
+    "The file to write, unless -o names it, and then the sources, by their names below the folder";
+
 /// The definition of the command line.
 pub fn definition<'a>(alloc: Global) -> Result<Command<'a>, AllocError>
     ensures app { IfOk result (λ c. app_of c ≡ tool) }
+    ensures local { IfOk result (λ c. (out-Command c).has_globals ≡ false) }
+    ensures closed { IfOk result (λ c. (out-Command c).allow_external_subcommands ≡ false) }
+{
+    let commands = commands(alloc)?;
+    let with_help = commands.subcommand(help(alloc)?)?;
+    let whole = with_help.subcommand(version(alloc))?;
+    Ok(whole)
+}
+
+/// All commands but `help` and `version`.
+fn commands<'a>(alloc: Global) -> Result<Command<'a>, AllocError>
+    ensures app { IfOk result (λ c. app_of c ≡ commands_tool) }
     ensures local { IfOk result (λ c. (out-Command c).has_globals ≡ false) }
     ensures closed { IfOk result (λ c. (out-Command c).allow_external_subcommands ≡ false) }
 {
@@ -34,7 +57,7 @@ pub fn definition<'a>(alloc: Global) -> Result<Command<'a>, AllocError>
     Ok(whole)
 }
 
-/// All commands but `compat` and `from-json`.
+/// Of them all but `compat` and `from-json`.
 fn other_commands<'a>(alloc: Global) -> Result<Command<'a>, AllocError>
     ensures app { IfOk result (λ c. app_of c ≡ other_tool) }
     ensures local { IfOk result (λ c. (out-Command c).has_globals ≡ false) }
@@ -56,9 +79,10 @@ fn top<'a>(alloc: Global) -> Command<'a>
     ensures local { (out-Command result).has_globals ≡ false }
     ensures closed { (out-Command result).allow_external_subcommands ≡ false }
 {
-    Command::new(alloc, "pbtool")
+    Command::new(alloc, PROGRAM)
         .version(VERSION)
         .about("Reads and shows Protocol Buffers messages")
+        .after_help("Of a command, with an example: pbtool help COMMAND")
         .subcommand_required(true)
         .disable_help_subcommand(true)
 }
@@ -76,7 +100,7 @@ fn raw<'a>(alloc: Global) -> Result<Command<'a>, AllocError>
         .help("The file with the bytes of one message");
     let command = Command::new(alloc, "raw")
         .about("Print the records of a message, without its schema")
-        .after_help("From a pipe: curl -s URL | ./pbtool raw /dev/stdin");
+        .after_help("Example: pbtool raw order.bin");
     let with_short = command.arg(short)?;
     let nested = nested_option(alloc);
     let with_nested = with_short.arg(nested)?;
@@ -90,7 +114,9 @@ fn check<'a>(alloc: Global) -> Result<Command<'a>, AllocError>
     ensures app { IfOk result (λ c. app_of c ≡ check_command) }
     ensures local { IfOk result (λ c. (out-Command c).has_globals ≡ false) }
 {
-    let command = Command::new(alloc, "check").about("Say that a file is a message of a type");
+    let command = Command::new(alloc, "check")
+        .about("Say that a file is a message of a type")
+        .after_help("Example: pbtool check shop.set shop.Order order.bin");
     let whole = with_source(alloc, command, BYTES)?;
     Ok(whole)
 }
@@ -99,7 +125,9 @@ fn show<'a>(alloc: Global) -> Result<Command<'a>, AllocError>
     ensures app { IfOk result (λ c. app_of c ≡ show_command) }
     ensures local { IfOk result (λ c. (out-Command c).has_globals ≡ false) }
 {
-    let command = Command::new(alloc, "show").about("Print the fields of a message");
+    let command = Command::new(alloc, "show")
+        .about("Print the fields of a message")
+        .after_help("Example: pbtool show -d shop.set shop.Order order.bin");
     let decimal = decimal_option(alloc);
     let with_decimal = command.arg(decimal)?;
     let whole = with_source(alloc, with_decimal, BYTES)?;
@@ -114,9 +142,9 @@ fn canon<'a>(alloc: Global) -> Result<Command<'a>, AllocError>
         .long("out")
         .action(ArgAction::Set)
         .help("Write the bytes to this file instead");
-    let command = Command::new(alloc, "canon").about(
-        "Print the canonical bytes of a message as one line of hexadecimal",
-    );
+    let command = Command::new(alloc, "canon")
+        .about("Print the canonical bytes of a message as one line of hexadecimal")
+        .after_help("Example: pbtool canon shop.set shop.Order order.bin");
     let with_out = command.arg(out)?;
     let whole = with_source(alloc, with_out, BYTES)?;
     Ok(whole)
@@ -130,7 +158,9 @@ fn json<'a>(alloc: Global) -> Result<Command<'a>, AllocError>
         .long("pretty")
         .action(ArgAction::SetTrue)
         .help("Put each member and each element on its own line");
-    let command = Command::new(alloc, "json").about("Print a message as JSON");
+    let command = Command::new(alloc, "json")
+        .about("Print a message as JSON")
+        .after_help("Example: pbtool json shop.set shop.Order order.bin");
     let with_pretty = command.arg(pretty)?;
     let whole = with_source(alloc, with_pretty, BYTES)?;
     Ok(whole)
@@ -140,9 +170,9 @@ fn frames<'a>(alloc: Global) -> Result<Command<'a>, AllocError>
     ensures app { IfOk result (λ c. app_of c ≡ frames_command) }
     ensures local { IfOk result (λ c. (out-Command c).has_globals ≡ false) }
 {
-    let command = Command::new(alloc, "frames").about(
-        "Print the messages of a stream, each after its length",
-    );
+    let command = Command::new(alloc, "frames")
+        .about("Print the messages of a stream, each after its length")
+        .after_help("Example: pbtool frames shop.set shop.Order orders.bin");
     let decimal = decimal_option(alloc);
     let with_decimal = command.arg(decimal)?;
     let json = json_option(alloc);
@@ -157,9 +187,9 @@ fn types<'a>(alloc: Global) -> Result<Command<'a>, AllocError>
     ensures app { IfOk result (λ c. app_of c ≡ types_command) }
     ensures local { IfOk result (λ c. (out-Command c).has_globals ≡ false) }
 {
-    let command = Command::new(alloc, "types").about(
-        "Print what a descriptor set declares, a line each",
-    );
+    let command = Command::new(alloc, "types")
+        .about("Print what a descriptor set declares, a line each")
+        .after_help("Example: pbtool types shop.set shop.Order");
     let lenient = lenient_option(alloc);
     let with_lenient = command.arg(lenient)?;
     let set = wanted(alloc, "SET", "The file with the descriptor set");
@@ -173,23 +203,22 @@ fn compile<'a>(alloc: Global) -> Result<Command<'a>, AllocError>
     ensures app { IfOk result (λ c. app_of c ≡ compile_command) }
     ensures local { IfOk result (λ c. (out-Command c).has_globals ≡ false) }
 {
-    let command = Command::new(alloc, "compile").about(
-        "Write the descriptor set of sources and their imports",
-    );
+    let command = Command::new(alloc, "compile")
+        .about("Write the descriptor set of sources and their imports")
+        .override_usage(COMPILE_USAGE)
+        .after_help("Example: pbtool compile -o shop.set . shop.proto");
     let explain = explain_option(alloc);
     let with_explain = command.arg(explain)?;
     let lenient = lenient_sources_option(alloc);
     let with_lenient = with_explain.arg(lenient)?;
     let directory = directory_option(alloc);
     let with_directory = with_lenient.arg(directory)?;
+    let output = output_option(alloc);
+    let with_output = with_directory.arg(output)?;
     let root = wanted(alloc, "ROOT", "The folder of the sources");
-    let with_root = with_directory.arg(root)?;
-    let out = wanted(alloc, "OUT", "The file to write");
-    let with_out = with_root.arg(out)?;
-    let file = wanted(alloc, "FILE", "A source, by its name below the folder").action(
-        ArgAction::Append,
-    );
-    let whole = with_out.arg(file)?;
+    let with_root = with_output.arg(root)?;
+    let file = wanted(alloc, "FILE", COMPILED).action(ArgAction::Append);
+    let whole = with_root.arg(file)?;
     Ok(whole)
 }
 
@@ -197,9 +226,9 @@ fn compat<'a>(alloc: Global) -> Result<Command<'a>, AllocError>
     ensures app { IfOk result (λ c. app_of c ≡ compat_command) }
     ensures local { IfOk result (λ c. (out-Command c).has_globals ≡ false) }
 {
-    let command = Command::new(alloc, "compat").about(
-        "Print what a change of a schema does to messages, a line for each field",
-    );
+    let command = Command::new(alloc, "compat")
+        .about("Print what a change of a schema does to messages, a line for each field")
+        .after_help("Example: pbtool compat old.set new.set shop.Order");
     let lenient = lenient_option(alloc);
     let with_lenient = command.arg(lenient)?;
     let both = both_option(alloc);
@@ -225,13 +254,34 @@ fn from_json<'a>(alloc: Global) -> Result<Command<'a>, AllocError>
     ensures app { IfOk result (λ c. app_of c ≡ from_json_command) }
     ensures local { IfOk result (λ c. (out-Command c).has_globals ≡ false) }
 {
-    let command = Command::new(alloc, "from-json").about(
-        "Write the canonical bytes of a message that is given as JSON",
-    );
+    let command = Command::new(alloc, "from-json")
+        .about("Write the canonical bytes of a message that is given as JSON")
+        .after_help("Example: pbtool from-json shop.set shop.Order order.json order.bin");
     let with_source = with_source(alloc, command, JSON)?;
     let out = wanted(alloc, "OUT", "The file to write");
     let whole = with_source.arg(out)?;
     Ok(whole)
+}
+
+fn help<'a>(alloc: Global) -> Result<Command<'a>, AllocError>
+    ensures app { IfOk result (λ c. app_of c ≡ help_command) }
+    ensures local { IfOk result (λ c. (out-Command c).has_globals ≡ false) }
+{
+    let command = Command::new(alloc, "help")
+        .about("Print the page of the program or of a command")
+        .after_help("Example: pbtool help compile");
+    let topic = Arg::new(alloc, "COMMAND").help("The command");
+    let whole = command.arg(topic)?;
+    Ok(whole)
+}
+
+fn version<'a>(alloc: Global) -> Command<'a>
+    ensures app { app_of result ≡ version_command }
+    ensures local { (out-Command result).has_globals ≡ false }
+{
+    Command::new(alloc, "version")
+        .about("Print the version of the program")
+        .after_help("Example: pbtool version")
 }
 
 /// The flag for both directions.
@@ -256,6 +306,19 @@ fn directory_option<'a>(alloc: Global) -> Arg<'a>
         .help("Look here for a source or an import that is not under ROOT; may be repeated")
 }
 
+/// The file that is written, by an option.
+fn output_option<'a>(alloc: Global) -> Arg<'a>
+    ensures rule { rule_of result ≡ output_rule }
+    ensures local { result.global ≡ false }
+{
+    Arg::new(alloc, "out")
+        .short('o')
+        .long("descriptor_set_out")
+        .action(ArgAction::Set)
+        .value_name("OUT")
+        .help("Write this file, so that all words after ROOT are sources")
+}
+
 /// The flag for payloads that are listed as messages.
 fn nested_option<'a>(alloc: Global) -> Arg<'a>
     ensures rule { rule_of result ≡ nested_rule }
@@ -273,6 +336,7 @@ fn decimal_option<'a>(alloc: Global) -> Arg<'a>
     ensures local { result.global ≡ false }
 {
     Arg::new(alloc, "decimal")
+        .short('d')
         .long("decimal")
         .action(ArgAction::SetTrue)
         .help("Print floats in decimal, and not by their bits")

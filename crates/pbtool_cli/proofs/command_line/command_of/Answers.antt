@@ -29,4 +29,4 @@ unreachable-requires c =
     no_name_left (subcommand_name_of c.args.matches.now) c.in_default.ensures.found.1 c.in_default-subcommand_matches.ensures.found.1
     c.in_default-subcommand_matches-2.ensures.found.1 c.in_default-subcommand_matches-3.ensures.found.1 c.in_default-subcommand_matches-4.ensures.found.1
     c.in_default-subcommand_matches-5.ensures.found.1 c.in_default-subcommand_matches-6.ensures.found.1 c.in_default-subcommand_matches-7.ensures.found.1
-    c.in_default-subcommand_matches-8.ensures.found.1 c.in_default-subcommand_matches-9.ensures.found.1 c.requires
+    c.in_default-subcommand_matches-8.ensures.found.1 c.in_default-subcommand_matches-9.ensures.found.1 c.requires.no_help c.requires.no_version c.requires.names

@@ -1,6 +1,5 @@
 use Rattle.std.proofs.Common.{ap, codes, false, ◌∙◌}
 use Rattle.std.specs.Option.{option_map_or}
-use Rattle.clap.specs.Words.{Row}
 use Rattle.pbtool_cli.specs.Words.{flag_of}
 use Rattle.pbtool_cli.proofs.command_line.explains.Goals as goal
 

@@ -3,7 +3,7 @@ use Rattle.std.specs.Prelude.{unwrap_or}
 use Rattle.clap.specs.Words.{found_of}
 use Rattle.clap.proofs.WalkLemmas.{raw_values-rows}
 use Rattle.pbtool_command.specs.CompileAnswer.{texts_of}
-use Rattle.pbtool_cli.proofs.Matches.{texts_or_none}
+use Rattle.pbtool_cli.proofs.TextLists.{texts_or_none}
 use Rattle.pbtool_cli.proofs.command_line.values.Goals as goal
 
 pub returns : goal.returns

@@ -12,6 +12,6 @@ returns-clause-app c =
     (c.in_ok-with_json.ensures.shape (search rules)
     ∙ ap₂ with_rule
     (c.in_ok-with_decimal.ensures.shape (search rules)
-    ∙ ap₂ with_rule (ap app_of_fields c.about-command.ensures ∙ c.new.ensures.app) c.decimal_option-decimal.ensures.rule)
+    ∙ ap₂ with_rule (ap app_of_fields c.after_help-command.ensures ∙ ap app_of_fields c.about.ensures ∙ c.new.ensures.app) c.decimal_option-decimal.ensures.rule)
     c.json_option-json.ensures.rule)
     c.keep_going_option-keep_going.ensures.rule)

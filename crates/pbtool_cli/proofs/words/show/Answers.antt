@@ -8,4 +8,4 @@ pub returns-clause-app : goal.returns-clause-app
 returns-clause-app c =
     c.in_ok-whole.ensures.app (search rules)
     ∙ ap of_source (c.in_ok-with_decimal.ensures.shape (search rules)
-    ∙ ap₂ with_rule (ap app_of_fields c.about-command.ensures ∙ c.new.ensures.app) c.decimal_option-decimal.ensures.rule)
+    ∙ ap₂ with_rule (ap app_of_fields c.after_help-command.ensures ∙ ap app_of_fields c.about.ensures ∙ c.new.ensures.app) c.decimal_option-decimal.ensures.rule)

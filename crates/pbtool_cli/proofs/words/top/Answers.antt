@@ -8,4 +8,4 @@ pub returns-clause-app : goal.returns-clause-app
 returns-clause-app c =
     ap app_of_fields (c.disable_help_subcommand.ensures ∙ ap (λ (f : Command-F Command). record f { disable_help_subcommand = true }) c.subcommand_required.ensures)
     ∙ ap (on_top wants_subcommand)
-    (ap app_of_fields c.about.ensures ∙ ap app_of_fields c.version.ensures ∙ ap (on_top with_version) c.new.ensures.app)
+    (ap app_of_fields c.after_help.ensures ∙ ap app_of_fields c.about.ensures ∙ ap app_of_fields c.version.ensures ∙ ap (on_top with_version) c.new.ensures.app)
