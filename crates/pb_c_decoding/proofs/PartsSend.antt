@@ -22,14 +22,25 @@ use Rattle.pb_decode.specs.contracts.push.Reading as Reading
 use Rattle.pb_decode.specs.contracts.reader.state.State as State
 
 entry : IsSend (Entry.the_field).row
-entry = struct_send (Struct.shape Entry.the_type) (kind.the_field_send, (kind.the_field_send,
-    (search (crosses, key.the_send, sendable) depth 60 fits 20000,
-    (search (maps.crosses, crosses, content.crosses, unknown.crosses, sendable) depth 60 fits 20000, tt))))
+entry = struct_send (Struct.shape Entry.the_type) (
+  kind.the_field_send,
+  (
+    kind.the_field_send,
+    (
+      search (crosses, key.the_send, sendable) depth 60 fits 20000,
+      (search (maps.crosses, crosses, content.crosses, unknown.crosses, sendable) depth 60 fits 20000, tt),
+    ),
+  ),
+)
 
 part : IsSend (Part.the_field).row
-part = enum_send (Enum.shape Part.the_type)
-    ((id.the_field_send, (search (maps.crosses, crosses, content.crosses, unknown.crosses, sendable) depth 60 fits 20000, tt)), ((entry, tt),
-    ((search (maps.crosses, crosses, content.crosses, unknown.crosses, sendable) depth 60 fits 20000, tt), tt)))
+part = enum_send (Enum.shape Part.the_type) (
+  (id.the_field_send, (search (maps.crosses, crosses, content.crosses, unknown.crosses, sendable) depth 60 fits 20000, tt)),
+  (
+    (entry, tt),
+    ((search (maps.crosses, crosses, content.crosses, unknown.crosses, sendable) depth 60 fits 20000, tt), tt),
+  ),
+)
 
 parent : IsSend (Parent.the_field).row
 parent = struct_send (Struct.shape Parent.the_type) (part, (plain_send _ _ _ _ _, (slot.the_field_send, (search sendable, (scope.the_field_send, tt)))))

@@ -33,9 +33,10 @@ held : IsSend (Held.the_field).row
 held = search (maps.crosses, crosses, content.crosses, unknown.crosses, sendable) depth 60 fits 20000
 
 own : IsSend Own.the_row
-own = view_send Inside.the_row _ _ _ _ (recorded_send (Inside.the_field).row _ _ (Inside.the_type).to_one (struct_send (Declared.shape Inside.the_type)
-    (arc.the_send Pool.the_row Heap.the_row ghosts pool.the_send handle.the_send pool.the_sync handle.the_sync allocator.the_frees,
-    (id.the_field_send, (held, (plain_send _ _ _ _ _, tt))))))
+own = view_send Inside.the_row _ _ _ _ (recorded_send (Inside.the_field).row _ _ (Inside.the_type).to_one (struct_send (Declared.shape Inside.the_type) (
+  arc.the_send Pool.the_row Heap.the_row ghosts pool.the_send handle.the_send pool.the_sync handle.the_sync allocator.the_frees,
+  (id.the_field_send, (held, (plain_send _ _ _ _ _, tt))),
+)))
 
 -- what is owned names no thread
 owned : (alloc : Global) (at : Ptr) (message : Option Own.the_row.Denot) → Keyless (seal_owns alloc at message)
