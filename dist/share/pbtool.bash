@@ -10,7 +10,8 @@ _pbtool() {
         raw) flags="--short --nested --explain --help -h" ;;
         show) flags="-d --decimal --explain --lenient --help -h" ;;
         frames) flags="-d --decimal --json --keep-going --explain --lenient --help -h" ;;
-        check | from-json) flags="--explain --lenient --help -h" ;;
+        check) flags="--explain --lenient --help -h" ;;
+        from-json) flags="--ignore-unknown --explain --lenient --help -h" ;;
         types) flags="--lenient --help -h" ;;
         canon) flags="--out --explain --lenient --help -h" ;;
         json) flags="--pretty --explain --lenient --help -h" ;;

@@ -23,6 +23,8 @@ use Rattle.pbtool_command.specs.declared.command.Source.{Source}
 use Rattle.pbtool_command.specs.CompileAnswer.{texts_of}
 use Rattle.pb_listing.specs.declared.form.FloatForm.{FloatForm}
 use Rattle.pb_listing.specs.declared.form.FloatForm.TheVariants.{Bits, Decimal}
+use Rattle.pb_json_read.specs.declared.rules.JsonRules.{JsonRules}
+use Rattle.pb_json_read.specs.declared.rules.JsonRules.TheVariants as json_rules
 use Rattle.pb_json.specs.declared.form.Layout.{Layout}
 use Rattle.pb_json.specs.declared.form.Layout.TheVariants.{Compact, Indented}
 use Rattle.pbtool_files.specs.declared.set_file.Reading.{Reading}
@@ -118,9 +120,12 @@ compat_command =
     with_rule (with_rule (with_rule (with_rule (with_rule (new_app (codes "compat")) lenient_rule) both_rule) (wanted (codes "OLD"))) (wanted (codes "NEW")))
     (new_rule (codes "TYPE"))
 
--- `from-json [--explain] [--lenient] SET TYPE FILE OUT`
+abbrev pub ignore_unknown_rule : Rule
+ignore_unknown_rule = record (new_rule (codes "ignore-unknown")) { long = Some (codes "ignore-unknown"); action = Some SetTrue }
+
+-- `from-json [--ignore-unknown] [--explain] [--lenient] SET TYPE FILE OUT`
 abbrev pub from_json_command : App
-from_json_command = with_rule (of_source (new_app (codes "from-json"))) (wanted (codes "OUT"))
+from_json_command = with_rule (of_source (with_rule (new_app (codes "from-json")) ignore_unknown_rule)) (wanted (codes "OUT"))
 
 -- a subcommand is wanted, and `help` is none
 abbrev pub wants_subcommand : Shape → Shape
@@ -205,6 +210,15 @@ reading_of false = Strict
 abbrev pub IsReading : List Row → Reading → Type 0
 IsReading rows r = r ≡ reading_of (flag_of (codes "lenient") rows)
 
+-- how JSON is read, by whether unknown names are to be passed over, and whether the set is read leniently
+abbrev pub json_rules_of : Bool → Bool → JsonRules
+json_rules_of true lenient = json_rules.Lenient
+json_rules_of false true = json_rules.Lenient
+json_rules_of false false = json_rules.Strict
+
+abbrev pub AreJsonRules : List Row → JsonRules → Type 0
+AreJsonRules rows r = r ≡ json_rules_of (flag_of (codes "ignore-unknown") rows) (flag_of (codes "lenient") rows)
+
 -- how records are shown, by whether their shortest encoding is wanted, and whether payloads are listed
 abbrev pub raw_form_of : Bool → Bool → RawForm
 raw_form_of true nested = Shortest
@@ -274,7 +288,8 @@ IsNamed name rows (Types reading set type_name) =
     × (option_map (λ n. n.now) type_name ≡ option_of (codes "NAME") rows)
 IsNamed name rows (Compile roots out names) =
     (name ≡ codes "compile") × AreRoots rows roots × (out.now ≡ output_of rows) × (texts_of names.now ≡ sources_of rows)
-IsNamed name rows (FromJson out source) = (name ≡ codes "from-json") × (out.now ≡ value_of (codes "OUT") rows) × IsSource rows source
+IsNamed name rows (FromJson rules out source) =
+    (name ≡ codes "from-json") × AreJsonRules rows rules × (out.now ≡ value_of (codes "OUT") rows) × IsSource rows source
 IsNamed name rows (Compat comparison) = (name ≡ codes "compat") × IsComparison rows comparison
 
 -- the command shows frames, as these words say

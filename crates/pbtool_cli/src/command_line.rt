@@ -10,7 +10,7 @@ ghost use Rattle.pb_output.specs.Sending.{Cut, Sent, SentOrCut};
 ghost use Rattle.pbtool_cli.specs.Misuse.{report_of};
 ghost use Rattle.pbtool_cli.specs.Running.{DoesBy, DoesNamed, IsNoCommand, RefusesWords, ReportsMisuse};
 ghost use Rattle.pbtool_command.specs.Explained.{DoesExplained};
-ghost use Rattle.pbtool_cli.specs.Words.{AreRoots, IsFrameForm, IsMatched, IsRawForm, IsSource, ShowsFrames, flag_of, floats_of, layout_of, output_of, reading_of, sources_of};
+ghost use Rattle.pbtool_cli.specs.Words.{AreJsonRules, AreRoots, IsFrameForm, IsMatched, IsRawForm, IsSource, ShowsFrames, flag_of, floats_of, layout_of, output_of, reading_of, sources_of};
 ghost use Rattle.pbtool_cli.specs.Words.{IsComparison, is_explained, readers_of, value_of, values_of, tool, tool_names, words_of};
 
 use crate::misuse::misuse_of;
@@ -20,8 +20,8 @@ use clap::error::ErrorKind;
 use clap::{ArgMatches, Error};
 use pb_wire::{Output, write_all};
 use pbtool_command::{
-    Cleanup, Command, Comparison, Files, FloatForm, FrameForm, Layout, RawForm, Readers, Reading,
-    Refusal, Roots, Source, execute_explained, execute_then,
+    Cleanup, Command, Comparison, Files, FloatForm, FrameForm, JsonRules, Layout, RawForm, Readers,
+    Reading, Refusal, Roots, Source, execute_explained, execute_then,
 };
 use std::alloc::Global;
 
@@ -265,6 +265,7 @@ fn command_of<'m>(matches: &'m ArgMatches<'_>) -> Command<'m>
     }
     if let Some(inner) = matches.subcommand_matches("from-json") {
         return Command::FromJson {
+            rules: json_rules(inner),
             out: value(inner, "OUT"),
             source: source(inner),
         };
@@ -347,6 +348,17 @@ fn reading(matches: &ArgMatches<'_>) -> Reading
         Reading::Lenient
     } else {
         Reading::Strict
+    }
+}
+
+/// How JSON is read.
+fn json_rules(matches: &ArgMatches<'_>) -> JsonRules
+    ensures { AreJsonRules (rows_of (found_of matches.now)) result }
+{
+    if flag(matches, "ignore-unknown") || flag(matches, "lenient") {
+        JsonRules::Lenient
+    } else {
+        JsonRules::Strict
     }
 }
 

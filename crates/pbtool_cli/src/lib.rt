@@ -44,7 +44,8 @@ mod words;
 
 pub use command_line::{run, run_then};
 pub use pbtool_command::{
-    Cleanup, Command, Comparison, Files, FloatForm, FrameForm, HostFiles, Layout, MemFiles,
-    RawForm, Readers, Reading, Refusal, Roots, Source, execute, execute_explained, execute_then,
+    Cleanup, Command, Comparison, Files, FloatForm, FrameForm, HostFiles, JsonRules, Layout,
+    MemFiles, RawForm, Readers, Reading, Refusal, Roots, Source, execute, execute_explained,
+    execute_then,
 };
 pub use standard_files::{StandardFiles, StandardInput};

@@ -2,7 +2,7 @@
 ghost use Rattle.std.specs.Prelude.{◌≡◌, false, IfOk};
 ghost use Rattle.clap.specs.Words.{app_of, rule_of};
 ghost use Rattle.clap.specs.declared.builder.command.Command.TheViews.{out-Command};
-ghost use Rattle.pbtool_cli.specs.Words.{both_rule, commands_tool, compat_command, from_json_command, help_command, other_tool, output_rule, version_command};
+ghost use Rattle.pbtool_cli.specs.Words.{both_rule, commands_tool, compat_command, from_json_command, help_command, ignore_unknown_rule, other_tool, output_rule, version_command};
 ghost use Rattle.pbtool_cli.specs.Words.{canon_command, check_command, compile_command, frames_command, json_command, raw_command, show_command, types_command};
 ghost use Rattle.pbtool_cli.specs.Words.{decimal_rule, directory_rule, explain_rule, json_rule, keep_going_rule, lenient_rule, nested_rule, of_source, wanted};
 ghost use Rattle.pbtool_cli.specs.Words.{tool, tool_top};
@@ -257,7 +257,9 @@ fn from_json<'a>(alloc: Global) -> Result<Command<'a>, AllocError>
     let command = Command::new(alloc, "from-json")
         .about("Write the canonical bytes of a message that is given as JSON")
         .after_help("Example: pbtool from-json shop.set shop.Order order.json order.bin");
-    let with_source = with_source(alloc, command, JSON)?;
+    let ignore_unknown = ignore_unknown_option(alloc);
+    let with_ignore_unknown = command.arg(ignore_unknown)?;
+    let with_source = with_source(alloc, with_ignore_unknown, JSON)?;
     let out = wanted(alloc, "OUT", "The file to write");
     let whole = with_source.arg(out)?;
     Ok(whole)
@@ -293,6 +295,17 @@ fn both_option<'a>(alloc: Global) -> Arg<'a>
         .long("both")
         .action(ArgAction::SetTrue)
         .help("Ask also how the old types read messages of the new ones")
+}
+
+/// The flag for members of JSON that no field has.
+fn ignore_unknown_option<'a>(alloc: Global) -> Arg<'a>
+    ensures rule { rule_of result ≡ ignore_unknown_rule }
+    ensures local { result.global ≡ false }
+{
+    Arg::new(alloc, "ignore-unknown")
+        .long("ignore-unknown")
+        .action(ArgAction::SetTrue)
+        .help("Pass over members and enum names that the type does not have")
 }
 
 /// A directory where sources are looked for after the root.

@@ -16,7 +16,7 @@ use Rattle.pbtool_files.specs.FileMap.{FileMap, KeepsMap}
 use Rattle.pbtool_files.specs.Known.{IsReadOf}
 use Rattle.pbtool_files.specs.Report.{json_text_line}
 use Rattle.pbtool_files.specs.SetFile.{HasType}
-use Rattle.pbtool_command.specs.FromJsonAnswer.{FromJsonAnswer, faulty, read, rules_by, too_long, too_long_line}
+use Rattle.pbtool_command.specs.FromJsonAnswer.{FromJsonAnswer, faulty, read, too_long, too_long_line}
 use Rattle.pbtool_command.specs.MessageAnswer.{CanonAnswer}
 use Rattle.pbtool_command.specs.Steps.{JsonReadAt, JsonReadOf}
 use Rattle.pbtool_command.specs.TypeAnswer.{missing, opened}
@@ -93,7 +93,7 @@ module _
 
 -- from the file to the set that has its type
 module _
-    {F : Type 0} (contents : F → Option FileMap) (is_steady : F → Bool) (old mid : F) (out : List ℕ) (s : Source) (set : List ℕ) (pool : Types) (m : ℕ)
+    {F : Type 0} (contents : F → Option FileMap) (is_steady : F → Bool) (old mid : F) (rules : JsonRules) (out : List ℕ) (s : Source) (set : List ℕ) (pool : Types) (m : ℕ)
     (names : NamesGiven) (are : AreNamesOf pool set names)
     (is_read : IsReadOf contents is_steady old (full.bytes + 1) s.set.now (Some set)) (has : HasType s.reading s.type_name.now set pool m)
     (kept : KeepsMap (contents old) (contents mid)) (steady : is_steady old ≡ true → is_steady mid ≡ true) where
@@ -102,13 +102,13 @@ module _
   read_later limit path b known =
       of_later {contents = contents} {is_steady = is_steady} {old = old} {mid = mid} path (λ content. Some b ≡ option_map (take limit) content) kept steady known
 
-  pub json_of_set : (a : Answer) → JsonReadAt contents is_steady mid (rules_by s.reading) names out pool m s.file.now a → JsonReadOf contents is_steady old out s a
+  pub json_of_set : (a : Answer) → JsonReadAt contents is_steady mid rules names out pool m s.file.now a → JsonReadOf contents is_steady old rules out s a
   json_of_set a (inl h) = missing is_read has (of_later s.file.now (λ content. content ≡ None) kept steady h.0) h.1
   json_of_set a (inr h) =
       opened is_read has (
         names,
         (set, is_read, has, are),
         json_map (λ b. IsReadOf contents is_steady mid (full.bytes + 1) s.file.now (Some b))
-            (λ b. IsReadOf contents is_steady old (full.bytes + 1) s.file.now (Some b)) (rules_by s.reading) names out pool m a
+            (λ b. IsReadOf contents is_steady old (full.bytes + 1) s.file.now (Some b)) rules names out pool m a
             (λ b known. read_later (full.bytes + 1) s.file.now b known) h,
       )

@@ -26,7 +26,6 @@ use Rattle.pbtool_command.proofs.CompatSteps.{compat_any, compat_of_map}
 use Rattle.pbtool_command.specs.declared.form.Form.{Form}
 use Rattle.pbtool_command.specs.declared.form.Form.TheVariants as form
 use Rattle.pbtool_command.proofs.FromJsonSteps.{json_any, json_whole}
-use Rattle.pbtool_command.specs.FromJsonAnswer.{rules_by}
 use Rattle.pbtool_command.proofs.Judged.{answer_whole}
 use Rattle.pbtool_command.proofs.NameSteps.{names_any, shown_map}
 use Rattle.pbtool_command.specs.SetNames.{GivesNames}
@@ -123,12 +122,12 @@ module _ {F : Type 0} (contents : F → Option FileMap) (is_steady : F → Bool)
           names_of_map source pool m x.0.now x.1,
           message_map _ _ _ _ (form.Json layout x.0) pool m a (λ f known. known map honest) (λ v known. known.1 map honest) x.2,
         )) h
-    right_of_map (FromJson out source) a h =
+    right_of_map (FromJson rules out source) a h =
         type_of_map _ _ source.reading source.type_name.now source.set.now source.file.now a
         (λ pool m x. (
           x.0,
           names_of_map source pool m x.0 x.1,
-          json_whole (rules_by source.reading) x.0 out.now pool m (map source.file.now) a (λ b known. known map honest) x.2,
+          json_whole rules x.0 out.now pool m (map source.file.now) a (λ b known. known map honest) x.2,
         )) h
     right_of_map (Frames form source) a h =
         type_of_map _ _ source.reading source.type_name.now source.set.now source.file.now a
@@ -155,7 +154,7 @@ module _ {F : Type 0} (contents : F → Option FileMap) (is_steady : F → Bool)
     begun_of_map (Show floats source) text h = h
     begun_of_map (Canon to source) text h = h
     begun_of_map (Json layout source) text h = h
-    begun_of_map (FromJson out source) text h = h
+    begun_of_map (FromJson rules out source) text h = h
     begun_of_map (command.Types reading set name) text h = h
     begun_of_map (Compile roots out names) text h = h
     begun_of_map (Compat comparison) text h = h
@@ -190,9 +189,9 @@ module _ {F : Type 0} (contents : F → Option FileMap) (is_steady : F → Bool)
         names_any (IsReadOf contents is_steady files (full.bytes + 1) source.set.now) source pool m x.0.now x.1,
         message_map _ _ _ _ (form.Json layout x.0) pool m a (λ f known. tt) (λ v known. known.0) x.2,
       )) h
-  right_of_any (FromJson out source) a h =
+  right_of_any (FromJson rules out source) a h =
       type_any _ _ _ _ source.reading source.type_name.now source.set.now source.file.now a
-      (λ pool m x. (x.0, names_any (IsReadOf contents is_steady files (full.bytes + 1) source.set.now) source pool m x.0 x.1, json_any _ (rules_by source.reading) x.0 out.now pool m a x.2)) h
+      (λ pool m x. (x.0, names_any (IsReadOf contents is_steady files (full.bytes + 1) source.set.now) source pool m x.0 x.1, json_any _ rules x.0 out.now pool m a x.2)) h
   right_of_any (Frames form source) a h =
       type_any _ _ _ _ source.reading source.type_name.now source.set.now source.file.now a
       (λ pool m x. (
@@ -218,7 +217,7 @@ module _ {F : Type 0} (contents : F → Option FileMap) (is_steady : F → Bool)
   begun_of_any (Show floats source) text h = h
   begun_of_any (Canon to source) text h = h
   begun_of_any (Json layout source) text h = h
-  begun_of_any (FromJson out source) text h = h
+  begun_of_any (FromJson rules out source) text h = h
   begun_of_any (command.Types reading set name) text h = h
   begun_of_any (Compile roots out names) text h = h
   begun_of_any (Compat comparison) text h = h

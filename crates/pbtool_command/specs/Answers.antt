@@ -15,11 +15,12 @@ use Rattle.pbtool_command.specs.CompatAnswer.{CompatAnswer}
 use Rattle.pbtool_command.specs.CompileAnswer.{CompileAnswer, places_of, texts_of}
 use Rattle.pbtool_files.specs.FileMap.{FileMap}
 use Rattle.pbtool_command.specs.FramesAnswer.{AreFrames, BeginsWith, FrameRefusal, FramesAnswer, IsRefusedFrame, MayBeRefused}
-use Rattle.pbtool_command.specs.FromJsonAnswer.{FromJsonAnswer, rules_by}
+use Rattle.pbtool_command.specs.FromJsonAnswer.{FromJsonAnswer}
 use Rattle.pbtool_command.specs.MessageAnswer.{MessageAnswer}
 use Rattle.pbtool_command.specs.RawAnswer.{RawAnswer}
 use Rattle.pbtool_files.specs.SetFile.{HasType}
 use Rattle.pb_json.specs.Given.{NamesGiven}
+use Rattle.pb_json_read.specs.declared.rules.JsonRules.{JsonRules}
 use Rattle.pb_json.specs.declared.form.Layout.{Layout}
 use Rattle.pbtool_command.specs.SetNames.{GivesNames, IsShownAs}
 use Rattle.pbtool_command.specs.TypeAnswer.{TypeAnswer}
@@ -79,11 +80,11 @@ module _ (map : FileMap) where
       × MessageAnswer (FaultAt (map s.file.now)) (TextAt (map s.file.now)) (form.Json layout names) pool m a)
       s.reading s.type_name.now s.set.now s.file.now
 
-  abbrev pub JsonReadsTo : List ℕ → Source → Answer → Type 0
-  JsonReadsTo out s =
+  abbrev pub JsonReadsTo : JsonRules → List ℕ → Source → Answer → Type 0
+  JsonReadsTo rules out s =
       TypeAnswer (λ content. content ≡ map s.set.now) (map s.file.now ≡ None)
       (λ pool m a. (names : NamesGiven) × GivesNames (λ content. content ≡ map s.set.now) s pool m names
-      × FromJsonAnswer (λ b. Some b ≡ map s.file.now) (rules_by s.reading) names out pool m a)
+      × FromJsonAnswer (λ b. Some b ≡ map s.file.now) rules names out pool m a)
       s.reading s.type_name.now s.set.now s.file.now
 
   abbrev pub FramesComeTo : FrameForm → Source → Answer → Type 0
@@ -106,7 +107,7 @@ module _ (map : FileMap) where
   Answers (Show floats source) = MessageComesTo (form.Listing floats) source
   Answers (Canon to source) = MessageComesTo (canonical_form to) source
   Answers (Json layout source) = JsonComesTo layout source
-  Answers (FromJson out source) = JsonReadsTo out.now source
+  Answers (FromJson rules out source) = JsonReadsTo rules out.now source
   Answers (Frames form source) = FramesComeTo form source
   Answers (AllFrames form source) = AllFramesComeTo form source
   Answers (command.Types reading set name) = TypesAnswer (λ content. content ≡ map set.now) reading set.now (option_map (λ n. n.now) name)
@@ -120,7 +121,7 @@ module _ (map : FileMap) where
   Begins (Show floats source) text = text ≡ []
   Begins (Canon to source) text = text ≡ []
   Begins (Json layout source) text = text ≡ []
-  Begins (FromJson out source) text = text ≡ []
+  Begins (FromJson rules out source) text = text ≡ []
   Begins (command.Types reading set name) text = text ≡ []
   Begins (Compile roots out names) text = text ≡ []
   Begins (Compat comparison) text = text ≡ []
@@ -146,10 +147,10 @@ AnyJson layout s =
     (λ pool m a. (names : Bor NamesGiven) × GivesNames (λ content. ⊤) s pool m names.now
     × MessageAnswer (λ pool m f. ⊤) IsWellFormed (form.Json layout names) pool m a) s.reading s.type_name.now s.set.now s.file.now
 
-abbrev pub AnyReading : List ℕ → Source → Answer → Type 0
-AnyReading out s =
+abbrev pub AnyReading : JsonRules → List ℕ → Source → Answer → Type 0
+AnyReading rules out s =
     TypeAnswer (λ content. ⊤) ⊤
-    (λ pool m a. (names : NamesGiven) × GivesNames (λ content. ⊤) s pool m names × FromJsonAnswer (λ b. ⊤) (rules_by s.reading) names out pool m a)
+    (λ pool m a. (names : NamesGiven) × GivesNames (λ content. ⊤) s pool m names × FromJsonAnswer (λ b. ⊤) rules names out pool m a)
     s.reading s.type_name.now s.set.now s.file.now
 
 abbrev pub AnyFrames : Shown → Types → ℕ → List ℕ → Type 0
@@ -179,7 +180,7 @@ AnyAnswers (Check source) a = AnyMessage form.Check source a
 AnyAnswers (Show floats source) a = AnyMessage (form.Listing floats) source a
 AnyAnswers (Canon to source) a = AnyMessage (canonical_form to) source a
 AnyAnswers (Json layout source) a = AnyJson layout source a
-AnyAnswers (FromJson out source) a = AnyReading out.now source a
+AnyAnswers (FromJson rules out source) a = AnyReading rules out.now source a
 AnyAnswers (Frames form source) a = AnyStream form source a
 AnyAnswers (AllFrames form source) a = AnyAllFrames form source a
 AnyAnswers (command.Types reading set name) a = TypesAnswer (λ content. ⊤) reading set.now (option_map (λ n. n.now) name) a
@@ -192,7 +193,7 @@ AnyBegins (Check source) text = text ≡ []
 AnyBegins (Show floats source) text = text ≡ []
 AnyBegins (Canon to source) text = text ≡ []
 AnyBegins (Json layout source) text = text ≡ []
-AnyBegins (FromJson out source) text = text ≡ []
+AnyBegins (FromJson rules out source) text = text ≡ []
 AnyBegins (command.Types reading set name) text = text ≡ []
 AnyBegins (Compile roots out names) text = text ≡ []
 AnyBegins (Compat comparison) text = text ≡ []

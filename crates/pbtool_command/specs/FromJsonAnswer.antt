@@ -9,17 +9,9 @@ use Rattle.pb_json_read.specs.Answers.{IsReadBy, IsRefusedBy}
 use Rattle.pb_json_read.specs.Faults.{name_of}
 use Rattle.pb_json_read.specs.declared.error.JsonReadError.{JsonReadError}
 use Rattle.pb_json_read.specs.declared.rules.JsonRules.{JsonRules}
-use Rattle.pb_json_read.specs.declared.rules.JsonRules.TheVariants as rules
 use Rattle.pbtool_files.specs.Answer.{Answer, saves, refused}
 use Rattle.pbtool_files.specs.Report.{json_text_line}
-use Rattle.pbtool_files.specs.declared.set_file.Reading.{Reading}
-use Rattle.pbtool_files.specs.declared.set_file.Reading.TheVariants.{Strict, Lenient}
 use Rattle.pbtool_command.specs.MessageAnswer.{CanonAnswer}
-
--- where a set is read leniently, so is the JSON
-abbrev pub rules_by : Reading → JsonRules
-rules_by Strict = rules.Strict
-rules_by Lenient = rules.Lenient
 
 -- a text has at most 2^31 - 1 bytes
 abbrev pub too_long_line : List ℕ

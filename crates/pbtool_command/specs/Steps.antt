@@ -23,7 +23,7 @@ use Rattle.pbtool_command.specs.CompileAnswer.{CompileAnswer, places_of, texts_o
 use Rattle.pbtool_files.specs.FileMap.{FileMap}
 use Rattle.pbtool_command.specs.FramesAnswer.{FramesAnswer}
 use Rattle.pbtool_command.specs.Gathering.{Gathered, GathersUnder, HasTroubleUnder, IsAbsentUnder, DeclaresUnder, Places, Origin, Outcome, Trouble, stopped_at}
-use Rattle.pbtool_command.specs.FromJsonAnswer.{FromJsonAnswer, rules_by}
+use Rattle.pbtool_command.specs.FromJsonAnswer.{FromJsonAnswer}
 use Rattle.pbtool_command.specs.MessageAnswer.{MessageAnswer}
 use Rattle.pbtool_command.specs.RawAnswer.{RawAnswer}
 use Rattle.pbtool_files.specs.Refusal.{ByRefusal, Refuses}
@@ -153,11 +153,11 @@ module _ {F : Type 0} (contents : F → Option FileMap) (is_steady : F → Bool)
       s.reading s.type_name.now s.set.now s.file.now
 
   -- what `from-json` answers
-  abbrev pub JsonReadOf : List ℕ → Source → Answer → Type 0
-  JsonReadOf out s =
+  abbrev pub JsonReadOf : JsonRules → List ℕ → Source → Answer → Type 0
+  JsonReadOf rules out s =
       TypeAnswer (IsReadOf contents is_steady files (full.bytes + 1) s.set.now) (OfFiles contents is_steady files s.file.now (λ content. content ≡ None))
       (λ pool m a. (names : NamesGiven) × GivesNames (IsReadOf contents is_steady files (full.bytes + 1) s.set.now) s pool m names
-      × FromJsonAnswer (λ b. IsReadOf contents is_steady files (full.bytes + 1) s.file.now (Some b)) (rules_by s.reading) names out pool m a)
+      × FromJsonAnswer (λ b. IsReadOf contents is_steady files (full.bytes + 1) s.file.now (Some b)) rules names out pool m a)
       s.reading s.type_name.now s.set.now s.file.now
 
   -- what `frames` answers
@@ -239,7 +239,7 @@ module _ {F : Type 0} (contents : F → Option FileMap) (is_steady : F → Bool)
   RightOf (Show floats source) a = MessageOf (form.Listing floats) source a
   RightOf (Canon to source) a = MessageOf (canonical_form to) source a
   RightOf (Json layout source) a = JsonOf layout source a
-  RightOf (FromJson out source) a = JsonReadOf out.now source a
+  RightOf (FromJson rules out source) a = JsonReadOf rules out.now source a
   RightOf (Frames form source) a = StreamOf form source a
   RightOf (AllFrames form source) a = AllFramesOf form source a
   RightOf (command.Types reading set name) a = TypesOf reading set.now (option_map (λ n. n.now) name) a
@@ -252,7 +252,7 @@ module _ {F : Type 0} (contents : F → Option FileMap) (is_steady : F → Bool)
   BegunOf (Show floats source) text = IsNothing text
   BegunOf (Canon to source) text = IsNothing text
   BegunOf (Json layout source) text = IsNothing text
-  BegunOf (FromJson out source) text = IsNothing text
+  BegunOf (FromJson rules out source) text = IsNothing text
   BegunOf (Frames form source) text = StreamBegun form source text
   BegunOf (AllFrames form source) text = AllBegunOf form source text
   BegunOf (command.Types reading set name) text = IsNothing text

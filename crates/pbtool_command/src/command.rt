@@ -2,6 +2,7 @@
 
 use pb_compat_lines::Readers;
 use pb_json::Layout;
+use pb_json_read::JsonRules;
 use pb_listing::FloatForm;
 use pbtool_files::Reading;
 
@@ -82,9 +83,9 @@ pub enum Command<'a> {
         layout: Layout,
         source: Source<'a>,
     },
-    /// Writes the canonical bytes of the message that a file holds as JSON to the file `out`. What lenient reading leaves out of a set, it
-    /// passes over in the JSON too.
+    /// Writes the canonical bytes of the message that a file holds as JSON, by rules, to the file `out`.
     FromJson {
+        rules: JsonRules,
         out: &'a str,
         source: Source<'a>,
     },

@@ -16,7 +16,7 @@ use crate::compat::compat;
 use crate::compile::compile;
 use crate::form::Form;
 use crate::frames::frames;
-use crate::from_json::from_json;
+use crate::from_json::{Conversion, from_json};
 use crate::message::{json, message};
 use crate::raw::raw;
 use crate::types::types;
@@ -119,7 +119,17 @@ pub(crate) fn perform<'a, F: Files, O: Output>(
             out,
         ),
         Command::Json { layout, source } => json(alloc, cleanup, *layout, source, files, out),
-        Command::FromJson { out: to, source } => from_json(alloc, cleanup, source, to, files),
+        Command::FromJson {
+            rules,
+            out: to,
+            source,
+        } => {
+            let conversion = Conversion {
+                rules: *rules,
+                out: to,
+            };
+            from_json(alloc, cleanup, conversion, source, files)
+        }
         Command::Frames { form, source } => frames(alloc, cleanup, *form, source, files, out),
         Command::AllFrames { form, source } => all_frames(
             alloc, cleanup, *form, source, files, out,

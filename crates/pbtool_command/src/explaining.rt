@@ -119,7 +119,11 @@ fn subject_of<'a>(command: &Command<'a>) -> Subject<'a> {
         | Command::Show { floats: _, source }
         | Command::Canon { out: _, source }
         | Command::Json { layout: _, source }
-        | Command::FromJson { out: _, source }
+        | Command::FromJson {
+            rules: _,
+            out: _,
+            source,
+        }
         | Command::Frames { form: _, source }
         | Command::AllFrames { form: _, source } => messages(source),
         Command::Types {

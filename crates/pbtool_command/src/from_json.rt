@@ -9,7 +9,7 @@ ghost use Rattle.pbtool_files.specs.Report.{json_text_line};
 ghost use Rattle.pb_json_read.specs.Answers.{IsReadBy, IsRefusedBy};
 ghost use Rattle.pb_json_read.specs.Faults.{name_of, out_of_memory};
 ghost use Rattle.pb_json_read.specs.declared.error.JsonReadError.{JsonReadError as ReadError};
-ghost use Rattle.pbtool_command.specs.FromJsonAnswer.{rules_by, too_long_line};
+ghost use Rattle.pbtool_command.specs.FromJsonAnswer.{too_long_line};
 ghost use Rattle.pbtool_command.specs.Steps.{Comes, IsNothing, JsonReadAt, JsonReadOf};
 
 use crate::cleanup::{Cleanup, clean_up};
@@ -18,60 +18,55 @@ use crate::form::save_canonical;
 use pb_json_read::{JsonReadCause, JsonReadError, JsonRules, read_json_by};
 use pb_value::DynamicMessage;
 use pb_wire::Limits;
-use pbtool_files::{Files, NamedType, Reading, Refusal, find_named_type, read_file};
+use pbtool_files::{Files, NamedType, Refusal, find_named_type, read_file};
 use std::alloc::Global;
+
+/// How JSON is read, and the file for the bytes of its message.
+#[derive(Clone, Copy)]
+pub struct Conversion<'a> {
+    pub rules: JsonRules,
+    pub out: &'a str,
+}
 
 /// Writes the canonical bytes of the message that a file holds as JSON to a file: whole, or nothing where it is refused.
 pub fn from_json<'a, F: Files>(
     alloc: Global,
     cleanup: Cleanup,
+    conversion: Conversion<'a>,
     source: &Source<'a>,
-    out: &'a str,
     files: &mut F,
 ) -> Result<(), Refusal<'a>>
     ensures comes { Comes (λ text. text ≡ []) (λ _. ⊥)
         (IsSaved F.contents files.old files.new) (IsUnsaved F.contents F.failures files.old files.new)
-        (JsonReadOf F.contents F.is_steady files.old out.entry.now source.now) IsNothing result }
+        (JsonReadOf F.contents F.is_steady files.old conversion.entry.rules conversion.entry.out.now source.now) IsNothing result }
     ensures kept { KeepsFailures F.failures files.old files.new result }
     ensures unfailing { F.is_steady files.old ≡ true → F.takes_writes files.old ≡ true → F.failures files.new ≡ F.failures files.old }
 {
     let named = find_named_type(alloc, source.reading, source.set, source.type_name, files)?;
-    let rules = rules_of(source.reading);
-    let answer = from_json_at(alloc, rules, &named, source.file, out, files);
+    let answer = from_json_at(alloc, conversion, &named, source.file, files);
     clean_up(named, cleanup);
     answer
-}
-
-/// How JSON is read, by how the set is.
-fn rules_of(reading: Reading) -> JsonRules
-    ensures { result ≡ rules_by reading }
-{
-    match reading {
-        Reading::Strict => JsonRules::Strict,
-        Reading::Lenient => JsonRules::Lenient,
-    }
 }
 
 /// The same of a message type, with the names that are given to fields.
 fn from_json_at<'a, F: Files>(
     alloc: Global,
-    rules: JsonRules,
+    conversion: Conversion<'a>,
     named: &NamedType,
     path: &'a str,
-    out: &'a str,
     files: &mut F,
 ) -> Result<(), Refusal<'a>>
     requires { named.now.message_type.0 < length named.now.pool.messages }
     ensures comes { Comes (λ text. text ≡ []) (λ _. ⊥)
         (IsSaved F.contents files.old files.new) (IsUnsaved F.contents F.failures files.old files.new)
-        (JsonReadAt F.contents F.is_steady files.old rules named.now.names out.entry.now named.now.pool named.now.message_type.0 path.entry.now)
+        (JsonReadAt F.contents F.is_steady files.old conversion.entry.rules named.now.names conversion.entry.out.now named.now.pool named.now.message_type.0 path.entry.now)
         IsNothing result }
     ensures kept { KeepsFailures F.failures files.old files.new result }
     ensures unfailing { F.is_steady files.old ≡ true → F.takes_writes files.old ≡ true → F.failures files.new ≡ F.failures files.old }
 {
     let text = read_file(alloc, Limits::FULL, path, files)?;
-    let message = read_text(alloc, rules, named, text.as_slice())?;
-    save_canonical(&message, out, files)
+    let message = read_text(alloc, conversion.rules, named, text.as_slice())?;
+    save_canonical(&message, conversion.out, files)
 }
 
 /// The message of a text. One that is too long is refused.

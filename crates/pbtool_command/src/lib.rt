@@ -26,5 +26,6 @@ pub use executing::{execute, execute_then};
 pub use explaining::execute_explained;
 pub use pb_compat_lines::Readers;
 pub use pb_json::Layout;
+pub use pb_json_read::JsonRules;
 pub use pb_listing::FloatForm;
 pub use pbtool_files::{Files, HostFiles, MemFiles, Reading, Refusal};

@@ -6,5 +6,8 @@ use Rattle.pbtool_cli.proofs.words.from_json.Goals as goal
 
 pub returns-clause-app : goal.returns-clause-app
 returns-clause-app c =
-    let of = c.in_ok-with_source.ensures.app (search rules) ∙ ap of_source (ap app_of_fields c.after_help-command.ensures ∙ ap app_of_fields c.about.ensures ∙ c.new.ensures.app) in
+    let of = c.in_ok-with_source.ensures.app (search rules)
+    ∙ ap of_source (c.in_ok-with_ignore_unknown.ensures.shape (search rules)
+    ∙ ap₂ with_rule (ap app_of_fields c.after_help-command.ensures ∙ ap app_of_fields c.about.ensures ∙ c.new.ensures.app)
+    c.ignore_unknown_option-ignore_unknown.ensures.rule) in
     c.in_ok-whole.ensures.shape (search rules) ∙ ap₂ with_rule of c.wanted-out.ensures.rule

@@ -38,7 +38,7 @@ returns-in-FromJson-clause-comes g c =
     rw c.in-FromJson.is
     (nothing_out g.O.Output.written g.O.Output.failures c.args.out.now (IsSaved g.F.Files.contents c.args.files.now c.from_json.new.files)
     (IsUnsaved g.F.Files.contents g.F.Files.failures c.args.files.now c.from_json.new.files)
-    (RightOf g.F.Files.contents g.F.Files.is_steady c.args.files.now (FromJson c.in-FromJson.to c.in-FromJson.source)) IsNothing
+    (RightOf g.F.Files.contents g.F.Files.is_steady c.args.files.now (FromJson c.in-FromJson.rules c.in-FromJson.to c.in-FromJson.source)) IsNothing
     c.from_json.result c.from_json.ensures.comes)
 
 pub returns-in-Types-clause-comes : goal.returns-in-Types-clause-comes

@@ -20,10 +20,10 @@ returns-in_err-text-clause-comes g c =
     rw (p.1, p.2)
     (refused_comes (λ text. text ≡ []) (λ _. ⊥) (IsSaved contents before c.read_file.new.files)
     (IsUnsaved contents g.F.Files.failures before c.read_file.new.files)
-    (JsonReadAt contents is_steady before c.args.rules c.args.named.now.names c.args.out.now c.args.named.now.pool c.args.named.now.message_type.0 c.args.path.now) IsNothing
+    (JsonReadAt contents is_steady before c.args.conversion.rules c.args.named.now.names c.args.conversion.out.now c.args.named.now.pool c.args.named.now.message_type.0 c.args.path.now) IsNothing
     c.in_err-text.field-0.0 refl c.in_err-text.ensures.files refl
     (refuses_map _ _ c.in_err-text.field-0.0
-    (no_text contents is_steady before c.args.rules c.args.named.now.names c.args.out.now c.args.named.now.pool c.args.named.now.message_type.0 c.args.path.now) c.in_err-text.ensures.refused))
+    (no_text contents is_steady before c.args.conversion.rules c.args.named.now.names c.args.conversion.out.now c.args.named.now.pool c.args.named.now.message_type.0 c.args.path.now) c.in_err-text.ensures.refused))
 
 pub returns-in_err-message-clause-comes : goal.returns-in_err-message-clause-comes
 returns-in_err-message-clause-comes g c =
@@ -34,10 +34,10 @@ returns-in_err-message-clause-comes g c =
     rw (p.1, p.2)
     (refused_comes (λ text. text ≡ []) (λ _. ⊥) (IsSaved contents before c.read_file.new.files)
     (IsUnsaved contents g.F.Files.failures before c.read_file.new.files)
-    (JsonReadAt contents is_steady before c.args.rules c.args.named.now.names c.args.out.now c.args.named.now.pool c.args.named.now.message_type.0 c.args.path.now) IsNothing
+    (JsonReadAt contents is_steady before c.args.conversion.rules c.args.named.now.names c.args.conversion.out.now c.args.named.now.pool c.args.named.now.message_type.0 c.args.path.now) IsNothing
     c.in_err-message.field-0.0 refl c.in_ok-text.ensures.files refl
     (refuses_map _ _ c.in_err-message.field-0.0
-    (text_refused contents is_steady before c.args.rules c.args.named.now.names c.args.out.now c.args.named.now.pool c.args.named.now.message_type.0 c.args.path.now _ c.in_ok-text.ensures.read)
+    (text_refused contents is_steady before c.args.conversion.rules c.args.named.now.names c.args.conversion.out.now c.args.named.now.pool c.args.named.now.message_type.0 c.args.path.now _ c.in_ok-text.ensures.read)
     (rw c.as_slice.ensures.value at c.in_err-message.ensures.refused)))
 
 pub returns-clause-comes : goal.returns-clause-comes
@@ -51,9 +51,9 @@ returns-clause-comes g c =
     let short = rw c.as_slice.ensures.value at reads.short in
     let read = rw c.as_slice.ensures.value at reads.read in
     later_comes contents g.F.Files.failures before c.read_file.new.files c.save_canonical.new.files (λ text. text ≡ []) (λ _. ⊥)
-    (CanonAnswer (bytes_of message) (saves c.args.out.now (bytes_of message)))
-    (JsonReadAt contents is_steady before c.args.rules c.args.named.now.names c.args.out.now c.args.named.now.pool c.args.named.now.message_type.0 c.args.path.now) IsNothing IsNothing
+    (CanonAnswer (bytes_of message) (saves c.args.conversion.out.now (bytes_of message)))
+    (JsonReadAt contents is_steady before c.args.conversion.rules c.args.named.now.names c.args.conversion.out.now c.args.named.now.pool c.args.named.now.message_type.0 c.args.path.now) IsNothing IsNothing
     c.save_canonical.result text.files text.kept
-    (λ a made. text_read contents is_steady before c.args.rules c.args.named.now.names c.args.out.now c.args.named.now.pool c.args.named.now.message_type.0 c.args.path.now _ text.read message a
+    (λ a made. text_read contents is_steady before c.args.conversion.rules c.args.named.now.names c.args.conversion.out.now c.args.named.now.pool c.args.named.now.message_type.0 c.args.path.now _ text.read message a
     reads.of_type.0 reads.of_type.1 short read made)
     (λ text nothing. nothing) c.save_canonical.ensures.comes
