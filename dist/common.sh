@@ -87,5 +87,5 @@ interface() {
 
 # The version of the program and of the packages.
 version() {
-    sed -n 's/^const VERSION: &str = "\(.*\)";$/\1/p' "$top/crates/pbtool_cli/src/words.rt"
+    sed -n 's/^\(pub(crate) \)*const VERSION: &str = "\(.*\)";$/\2/p' "$top/crates/pbtool_cli/src/words.rt"
 }

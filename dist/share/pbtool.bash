@@ -17,10 +17,7 @@ _pbtool() {
         json) flags="--pretty --explain --lenient --help -h" ;;
         compile) flags="-I -o --descriptor_set_out --explain --lenient --help -h" ;;
         compat) flags="--lenient --both --help -h" ;;
-        help)
-            [ "$COMP_CWORD" -eq 2 ] && COMPREPLY=($(compgen -W "raw check show canon json frames types compile compat from-json help version" -- "$current"))
-            return
-            ;;
+        help | version) flags="--help -h" ;;
         *) return ;;
     esac
     case $before in
@@ -48,6 +45,7 @@ _pbtool() {
         esac
     done
     case $command,${#words[@]} in
+        help,0) COMPREPLY=($(compgen -W "raw check show canon json frames types compile compat from-json help version" -- "$current")) ;;
         check,1 | show,1 | canon,1 | json,1 | frames,1 | from-json,1)
             names=$("${COMP_WORDS[0]}" types --lenient "${words[0]}" 2>/dev/null | awk '$1 == "message" { print $2 }')
             COMPREPLY=($(compgen -W "$names" -- "$current"))
