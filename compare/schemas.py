@@ -296,6 +296,43 @@ class Types:
         return words + ("implicit " if is_implicit else "optional ") + field.type_word
 
 
+# WHAT PBTOOL KEEPS
+
+# Of each part of a set what pbtool keeps, and the kind of part that is inside it.
+KEPT = {
+    "set": {"file": "file"},
+    "file": {
+        **dict.fromkeys(["name", "package", "dependency", "public_dependency", "syntax"]),
+        "message_type": "message", "enum_type": "enum", "service": "service",
+    },
+    "message": {
+        "name": None, "field": "field", "nested_type": "message", "enum_type": "enum", "options": "options",
+        "oneof_decl": "named", "reserved_range": "range", "reserved_name": None,
+    },
+    "field": {
+        **dict.fromkeys(["name", "number", "label", "type", "type_name", "oneof_index", "proto3_optional"]),
+        "options": "options",
+    },
+    "enum": {"name": None, "value": "named", "options": "options", "reserved_range": "range", "reserved_name": None},
+    "service": {"name": None, "method": "method"},
+    "method": dict.fromkeys(["name", "input_type", "output_type", "client_streaming", "server_streaming"]),
+    "named": dict.fromkeys(["name", "number"]),
+    "range": dict.fromkeys(["start", "end"]),
+    "options": dict.fromkeys(["map_entry", "packed", "allow_alias"]),
+}
+
+
+def kept(part, parts):
+    """What pbtool keeps of a part of a set."""
+    for name, value in parts:
+        if name in KEPT[part]:
+            inner = KEPT[part][name]
+            value = tuple(kept(inner, value)) if inner else value
+            is_silent = value == "false" and name != "packed" or value == () and inner == "options"
+            if not is_silent:
+                yield name, value
+
+
 # WHAT LENIENT READING LEAVES OUT
 
 def omitted(files):

@@ -16,14 +16,29 @@ crate_lines() {
     stack "$1" | sed 's/.*/^&[ :]/' | grep -f - "$top/crates.txt"
 }
 
-# A hash of all that a crate is proved and built of (the program: pbtool; the library: pb_c): its lines of crates.txt, HANDLES, and each file in
-# src, specs and proofs of its crates, by their paths and bytes alone, in the order of the paths' bytes. So it is the same in each clone,
-# whatever the locale, the modes and the times, and no other crate changes it.
+# The awk program that prints the lines of files without those that are blank or a comment alone, each file after its path. A comment beside code
+# stays. Once a string or a comment may go on to the next line, all further lines of the file stay, and so do all of a file of another kind.
+CODE_LINES='
+    FNR == 1 { print "file " FILENAME; is_whole = FILENAME !~ /[.](rt|antt)$/; is_rust = FILENAME ~ /[.]rt$/ }
+    is_whole { print; next }
+    /^[ \t]*$/ { next }
+    is_rust ? /^[ \t]*[\/][\/]/ : /^[ \t]*--/ { next }
+    { print }
+    /["*{]/ {
+        gsub(/[\\]./, "")
+        gsub(/\047"\047/, "")
+        opens = is_rust ? "[/][*]|(^|[^A-Za-z0-9_])[bc]?r#*\"" : "[{]-"
+        is_whole = $0 ~ opens || gsub(/"/, "") % 2
+    }'
+
+# A hash of what a crate is proved and built of (the program: pbtool; the library: pb_c): its lines of crates.txt, HANDLES, and the CODE_LINES of each
+# file in src, specs and proofs of its crates, in the order of the paths' bytes. So it is the same in each clone, whatever the locale, the modes and
+# the times, and neither another crate nor a comment changes it.
 sources_hash() {
     (
         cd "$top"
         export LC_ALL=C
-        { crate_lines "$1" | sort; find HANDLES $(source_folders "$1") -type f -print0 | sort -z | xargs -0 sha256sum; } | sha256sum | cut -d' ' -f1
+        { crate_lines "$1" | sort; find HANDLES $(source_folders "$1") -type f -print0 | sort -z | xargs -0 awk "$CODE_LINES"; } | sha256sum | cut -d' ' -f1
     )
 }
 
@@ -53,6 +68,14 @@ record_library() {
     echo "objcopy $(objcopy --version | head -n 1)"
     echo "machine $(uname -sm)"
     echo "kit $(rt version)"
+}
+
+# Whether the released program, or one that was built here, is of these sources.
+has_program() {
+    local of
+    of=$(sources_hash pbtool)
+    [ "$(recorded sources "$top/dist/sources")" = "$of" ] ||
+        { [ -x "$top/crates/pbtool/out/pbtool" ] && [ "$(recorded sources "$top/crates/pbtool/out/made_of")" = "$of" ]; }
 }
 
 # Whether a folder has a library that the record says was made of these sources, with this header.

@@ -45,7 +45,7 @@ extern "C" {
 #endif
 
 /* The version of the calls in this header. A library whose mb_interface returns another number has other calls. */
-#define MB_INTERFACE 8
+#define MB_INTERFACE 9
 uint32_t mb_interface(void);
 
 /* What a call answers. Numbers from 50 on are the causes why a set, a source or declarations are refused, as docs/ERRORS.md lists them. */
@@ -301,6 +301,25 @@ struct mb_value {
     uint32_t kind;
     uint64_t number;
 };
+
+/* What a path comes to. */
+struct mb_steps {
+    size_t steps;    /* how many steps it has */
+    size_t strings;  /* how many of them are keys that are strings */
+    size_t bytes;    /* how many bytes these strings have */
+    size_t byte;     /* where the path is refused, counted from 0; else 0 */
+};
+
+/* Turns a path with the names of fields into the steps of a place in messages of the type, as lines[2].article into {MB_FIELD, 3}, {MB_INDEX, 2},
+ * {MB_FIELD, 1}. A path is the names of fields, with dots between them. After a list comes an index in brackets, as lines[2], or the path ends. After
+ * a map comes a key, or the path ends: a number, true or false, or a string in double quotes, as stock["pen"], where \", \\ and \x with two digits
+ * stand for a byte. The empty path is the message itself.
+ *
+ * For MB_DONE the call writes the steps, the length of each string among them, and the strings one after another, as far as the buffers hold
+ * them, and reports how many there are. The number of a step that is a string is its index among the strings. MB_ABSENT: no name of a field
+ * begins at the byte that is reported. MB_BAD_PLACE: the path does not go on there as it has to, as with an index after a field of one value. */
+uint32_t mb_path(struct mb_pool *pool, uint32_t type, const uint8_t *path, size_t path_len, struct mb_value *place, size_t place_len,
+                 size_t *lengths, size_t lengths_len, uint8_t *strings, size_t strings_len, struct mb_steps *report);
 
 /* ---- Messages of a type ---- */
 

@@ -50,6 +50,7 @@ struct outputs {
     struct mb_field field;
     struct mb_value value, found[4];
     struct mb_keys keys;
+    struct mb_steps steps;
     struct mb_counts counts;
     struct mb_type type_report;
     struct mb_enum enum_report;
@@ -292,6 +293,14 @@ static uint32_t no_witness(struct outputs *outputs) { (void)outputs; return witn
 static uint32_t find_address(struct outputs *outputs) { return mb_find(&pool, type, message.at, message.len, LIMITS, ADDRESS); }
 static uint32_t find_address_cut(struct outputs *outputs) { return mb_find(&pool, type, message.at, message.len - 1, LIMITS, ADDRESS); }
 
+static uint32_t path_steps(struct outputs *outputs)
+{
+    return mb_path(&pool, type, (const uint8_t *)"lines[1].article", 16, outputs->found, 4, NULL, 0, outputs->out, sizeof outputs->out, &outputs->steps);
+}
+static uint32_t path_of_none(struct outputs *outputs)
+{
+    return mb_path(&pool, type, (const uint8_t *)"lines[1].none", 13, outputs->found, 4, NULL, 0, outputs->out, sizeof outputs->out, &outputs->steps);
+}
 static const struct { const char *name; uint32_t (*call)(struct outputs *outputs); uint32_t answer; } calls[] = {
     {"mb_raw_check", raw_check, MB_DONE}, {"mb_raw_check of a cut message", raw_check_cut, MB_FAULT},
     {"mb_raw_short", raw_short, MB_DONE}, {"mb_raw_short of a cut message", raw_short_cut, MB_FAULT},
@@ -333,11 +342,12 @@ static const struct { const char *name; uint32_t (*call)(struct outputs *outputs
     {"mb_message_remove", message_remove, MB_DONE}, {"mb_message_drop_unknown of no message", message_drop_nothing, MB_ABSENT},
     {"mb_message_set of an element", message_set_element, MB_DONE}, {"mb_message_set of no element", message_set_no_element, MB_ABSENT},
     {"mb_message_remove of an element", message_remove_element, MB_DONE},
+    {"mb_path", path_steps, MB_DONE}, {"mb_path of no field", path_of_none, MB_ABSENT},
     {"mb_compat_witness", witness, MB_DONE}, {"mb_compat_witness of what breaks nothing", no_witness, MB_ABSENT},
     {"mb_message_merge", message_merge, MB_DONE}, {"mb_message_merge of a cut message", message_merge_cut, MB_FAULT},
     {"mb_find", find_address, MB_DONE}, {"mb_find in a cut message", find_address_cut, MB_FAULT},
 };
-#define OF_SHOP 30
+#define OF_SHOP 32
 
 static struct mb_bytes read_file(const char *path)
 {

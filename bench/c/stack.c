@@ -116,6 +116,7 @@ static uint32_t pool_type(struct job *job) { return mb_pool_type(job->pool, BYTE
 static uint32_t pool_field(struct job *job) { return mb_pool_field(job->pool, job->type, BYTES, &field); }
 static uint32_t pool_counts(struct job *job) { static struct mb_counts report; return mb_pool_counts(job->pool, &report); }
 static uint32_t pool_message(struct job *job) { static struct mb_type report; return mb_pool_message(job->pool, job->type, &report, WRITTEN); }
+static uint32_t path_steps(struct job *job) { static struct mb_steps steps; return mb_path(job->pool, job->type, BYTES, found, 4, NULL, 0, out, OUT, &steps); }
 static uint32_t pool_field_at(struct job *job) { return mb_pool_field_at(job->pool, job->type, 0, &field, &mark, WRITTEN); }
 static uint32_t pool_oneof(struct job *job) { return mb_pool_oneof(job->pool, job->type, 0, WRITTEN); }
 static uint32_t pool_enum(struct job *job) { static struct mb_enum report; return mb_pool_enum(job->pool, 0, &report, WRITTEN); }
@@ -148,7 +149,7 @@ static const struct {
     {"mb_decoder_feed", feed}, {"mb_decoder_finish", finish}, {"mb_decoder_pending", pending}, {"mb_decoder_free", decoder_free},
     {"mb_pool_link", pool_link}, {"mb_pool_link_lenient", link_lenient}, {"mb_pool_compile", compile}, {"mb_pool_compile_lenient", compile_lenient},
     {"mb_pool_set", pool_set}, {"mb_pool_free", pool_free}, {"mb_pool_share", pool_share}, {"mb_pool_type", pool_type},
-    {"mb_pool_field", pool_field}, {"mb_pool_counts", pool_counts}, {"mb_pool_message", pool_message}, {"mb_pool_field_at", pool_field_at},
+    {"mb_pool_field", pool_field}, {"mb_path", path_steps}, {"mb_pool_counts", pool_counts}, {"mb_pool_message", pool_message}, {"mb_pool_field_at", pool_field_at},
     {"mb_pool_oneof", pool_oneof}, {"mb_pool_enum", pool_enum}, {"mb_pool_enum_value", pool_enum_value}, {"mb_pool_file", pool_file},
     {"mb_compat", compat}, {"mb_compat_witness", witness}, {"mb_cause_name", cause_name}, {"mb_interface", interface_of},
 };

@@ -41,7 +41,7 @@ fn encode(message: Result<Message, Error>) -> Result<(), Failure> {
 
 fn message_type(pool: &Pool, name: &str) -> Result<MessageType, Failure> {
     pool.message_type(name).map_err(|error| match error {
-        Error::UnknownType { .. } => (error.to_string(), 1),
+        Error::UnknownType { .. } => (format!("type {name} unknown"), 1),
         _ => refused(error),
     })
 }

@@ -3,17 +3,25 @@
 
 PyObject *change_functions;
 
-const char append_doc[] = "append($self, value, /)\n--\n\nPuts a value at the end. A message is given as a dict or as a message.";
-const char extend_doc[] = "extend($self, values, /)\n--\n\nPuts each value at the end.";
-const char clear_doc[] = "clear($self, /)\n--\n\nLeaves no values.";
+const char append_doc[] = "append($self, value, /)\n--\n\nAdds a value at the end. A message is given as a dict or as a message, which is copied.";
+const char extend_doc[] = "extend($self, values, /)\n--\n\nAdds each of the values at the end. If one is refused, those before it are kept.";
+const char clear_doc[] = "clear($self, /)\n--\n\nRemoves all elements or entries.";
 const char make_doc[] = "_make([name or key])\n--\n\nPuts an empty message here, and returns it as a part.";
 const char make_at_doc[] = "_make_at($self, index, /)\n--\n\nPuts an empty message in place of the one here, and returns it as a part.";
 const char move_doc[] = "_move($self, index, count, /)\n--\n\nMoves this many elements from the end of the list to an index.";
-const char drop_unknown_doc[] = "drop_unknown($self, /)\n--\n\nDrops the unknown records of this message, but not of messages in it.";
+const char drop_unknown_doc[] = "drop_unknown($self, /)\n--\n\nDrops the unknown fields of this message, but not those of messages in it.";
 
 /* A call that changes a message, and those of them that take a value. */
 typedef uint32_t changer(struct mb_message *, const struct mb_value *, size_t, const struct mb_bytes *, size_t);
 typedef uint32_t putter(struct mb_message *, const struct mb_value *, size_t, const struct mb_bytes *, size_t, const struct mb_value *);
+
+/* The exception for an answer to a change of a field, if it is one of a field. */
+static void refuse_change(uint32_t answer, Field *field)
+{
+    nothing_there(answer);
+    if (field != NULL && is_cause_of_change(answer))
+        add_hint("hint_of_change", (PyObject *)field);
+}
 
 /* ---- The way to a part that is not there ---- */
 
@@ -41,40 +49,36 @@ struct way {
     struct mb_message before;
 };
 
-/* The member that is set of the oneof that a field is in, at a place; 0 where there is none. Returns whether it could be read. */
-static bool member_set(Node *node, const struct mb_value *place, size_t place_len, Field *field, uint32_t *member)
+/* The member that is set of the oneof that a field is in, in the message that the first steps of a node's place lead to; 0 where there is none. Returns whether
+ * it could be read. */
+static bool member_set(Node *node, size_t steps, Field *field, uint32_t *member)
 {
     *member = 0;
     if (field->is.shape != SHAPE_ONEOF)
         return true;
     if (!field->has_detail && !read_detail(field))
         return false;
-    uint32_t answer = mb_message_oneof(&root_of(node)->handle, place, place_len, node->keys, node->keys_len, field->detail, member);
+    uint32_t answer = mb_message_oneof(&root_of(node)->handle, node->place, steps, node->keys, node->keys_len, field->detail, member);
     if (answer != MB_DONE && answer != MB_ABSENT)
         nothing_there(answer);
     return answer == MB_DONE || answer == MB_ABSENT;
 }
 
-/* The place of a member of a oneof is that of another one but for its last step: the parts of it are gone. */
-static void lose_member(Node *node, const struct mb_value *place, size_t place_len, uint32_t member)
+/* The first steps of a node's place lead to a member of a oneof. The place of another member is the same but for its last step: the parts of it are gone. */
+static void lose_member(Node *node, size_t steps, uint32_t member)
 {
-    struct reached reached;
-
     if (member == 0 || !has_parts(node))
         return;
-    if (!reach(node, NULL, NULL, &reached)) {
-        PyErr_Clear();
+    struct mb_value *place = PyMem_Malloc(steps * sizeof *place);
+    if (place == NULL) {
         lose_all(root_of(node));
         return;
     }
-    if (place_len <= reached.place_len) {
-        for (size_t i = 0; i < place_len; i++)
-            reached.place[i] = place[i];
-        reached.place_len = place_len;
-        reached.place[place_len - 1].number = member;
-        lose(root_of(node), &reached);
-    }
-    leave(&reached);
+    memcpy(place, node->place, steps * sizeof *place);
+    place[steps - 1].number = member;
+    struct reached reached = {place, node->keys, steps, node->keys_len};
+    lose(root_of(node), &reached);
+    PyMem_Free(place);
 }
 
 /* Makes the message that the first steps of a node's place lead to. */
@@ -85,18 +89,18 @@ static bool make_message(Node *node, size_t steps, struct way *way)
     Field *field = field_at_step(node, steps - 1);
     uint32_t member = 0;
 
-    if (field == NULL || !member_set(node, node->place, steps - 1, field, &member))
+    if (field == NULL || !member_set(node, steps - 1, field, &member))
         return false;
     uint32_t answer = member != 0 && !way->before.full ? mb_message_copy(handle, &way->before) : MB_DONE;
     if (answer == MB_DONE)
         answer = mb_message_set(handle, node->place, steps, node->keys, node->keys_len, &empty);
     if (answer != MB_DONE) {
-        nothing_there(answer);
+        refuse_change(answer, field);
         return false;
     }
     if (way->first == 0)
         way->first = steps;
-    lose_member(node, node->place, steps, member);
+    lose_member(node, steps, member);
     return true;
 }
 
@@ -148,11 +152,19 @@ struct lost {
     bool was_there;
 };
 
-static uint32_t make_call(const struct act *act, const struct reached *place)
+/* Calls the library. A string of the value comes after the keys. */
+static uint32_t make_call(const struct act *act)
 {
     struct mb_message *handle = &root_of(act->node)->handle;
+    struct reached place = reach(act->node, act->step, act->key);
 
-    return act->put != NULL ? act->put(handle, PLACE(place), &act->given->value) : act->change(handle, PLACE(place));
+    if (act->put == NULL)
+        return act->change(handle, PLACE(&place));
+    if (act->given->held != NULL) {
+        act->given->value.number = place.keys_len;
+        place.keys[place.keys_len++] = bytes_in(act->given->held);
+    }
+    return act->put(handle, PLACE(&place), &act->given->value);
 }
 
 /* Sets the exception where an answer is not MB_DONE. Returns whether it is. */
@@ -162,49 +174,49 @@ static bool is_changed(const struct act *act, uint32_t answer)
         return true;
     if (answer == MB_BAD_VALUE && act->field != NULL)
         return out_of_range(act->field, false, NULL);
-    nothing_there(answer);
+    refuse_change(answer, act->field);
     return false;
 }
 
 /* What a change will take away, where the message has parts that it may concern. */
-static bool before_change(const struct act *act, const struct reached *place, struct lost *lost)
+static bool before_change(const struct act *act, struct lost *lost)
 {
     *lost = (struct lost){0, false};
     if (!has_parts(act->node))
         return true;
     bool is_message = act->put == mb_message_set && act->given->value.kind == MB_MESSAGE;
     if (act->change == mb_message_clear || is_message) {
-        int answer = is_there(act->node, place);
+        struct reached place = reach(act->node, act->step, act->key);
+        int answer = is_there(act->node, &place);
         if (answer < 0)
             return false;
         lost->was_there = answer;
     }
-    if (act->put == mb_message_set && act->field != NULL && place->place[place->place_len - 1].kind == MB_FIELD)
-        return member_set(act->node, place->place, place->place_len - 1, act->field, &lost->member);
+    if (act->put == mb_message_set && act->field != NULL && act->step->kind == MB_FIELD)
+        return member_set(act->node, act->node->place_len, act->field, &lost->member);
     return true;
 }
 
-static void after_change(const struct act *act, const struct reached *place, const struct lost *lost)
+static void after_change(const struct act *act, const struct lost *lost)
 {
     Node *root = root_of(act->node);
 
     has_changed(root);
     if (!has_parts(act->node))
         return;
-    if (act->change == mb_message_remove && place->place[place->place_len - 1].kind == MB_INDEX)
-        lose_element(root, place);
+    struct reached place = reach(act->node, act->step, act->key);
+    if (act->change == mb_message_remove && act->step->kind == MB_INDEX)
+        lose_element(root, &place);
     else if (lost->was_there || act->change == mb_message_remove || act->put == mb_message_insert)
-        lose(root, place);
+        lose(root, &place);
     if (lost->member != 0 && act->field->is.number != lost->member) {
-        uint64_t number = place->place[place->place_len - 1].number;
-        place->place[place->place_len - 1].number = lost->member;
-        lose(root, place);
-        place->place[place->place_len - 1].number = number;
+        place.place[place.place_len - 1].number = lost->member;
+        lose(root, &place);
     }
 }
 
 /* Makes a call where the node is a part that is not there: what clears or removes has nothing to do, and what puts makes the way. */
-static uint32_t call_where_absent(const struct act *act, const struct reached *place)
+static uint32_t call_where_absent(const struct act *act)
 {
     struct way way = {0, {NULL, false}};
     uint32_t answer = MB_DONE;
@@ -212,37 +224,27 @@ static uint32_t call_where_absent(const struct act *act, const struct reached *p
     if (act->change != NULL)
         return MB_DONE;
     if (make_way(act->node, &way))
-        answer = make_call(act, place);
+        answer = make_call(act);
     if (PyErr_Occurred() || answer != MB_DONE)
         unmake_way(act->node, &way);
     mb_message_free(&way.before);
     return answer;
 }
 
-/* Makes a change. Returns whether it was made; else an exception is set. A string of the value comes after the keys. */
+/* Makes a change. Returns whether it was made; else an exception is set. */
 static bool make_change(const struct act *act)
 {
-    struct reached place;
     struct lost lost;
 
-    if (handle_of(act->node) == NULL || !reach(act->node, act->step, act->key, &place))
+    if (handle_of(act->node) == NULL || !before_change(act, &lost))
         return false;
-    if (act->given != NULL && act->given->held != NULL) {
-        act->given->value.number = place.keys_len;
-        place.keys[place.keys_len++] =
-            (struct mb_bytes){(const uint8_t *)PyBytes_AsString(act->given->held), (size_t)PyBytes_Size(act->given->held)};
-    }
-    bool is_done = before_change(act, &place, &lost);
-    if (is_done) {
-        uint32_t answer = make_call(act, &place);
-        if (answer == MB_ABSENT && act->node->root != NULL)
-            answer = call_where_absent(act, &place);
-        is_done = !PyErr_Occurred() && is_changed(act, answer);
-    }
-    if (is_done)
-        after_change(act, &place, &lost);
-    leave(&place);
-    return is_done;
+    uint32_t answer = make_call(act);
+    if (answer == MB_ABSENT && act->node->root != NULL)
+        answer = call_where_absent(act);
+    if (PyErr_Occurred() || !is_changed(act, answer))
+        return false;
+    after_change(act, &lost);
+    return true;
 }
 
 static bool change(Node *node, Field *field, const struct mb_value *step, PyObject *key, changer *call)
@@ -298,7 +300,7 @@ static PyObject *none_if(bool is_done)
 int message_assign(PyObject *self, PyObject *name, PyObject *value)
 {
     Node *node = (Node *)self;
-    Field *field = field_of(node, name);
+    Field *field = field_of(node->type, name);
 
     if (field == NULL)
         return -1;
@@ -313,7 +315,7 @@ int message_assign(PyObject *self, PyObject *name, PyObject *value)
 PyObject *message_make(PyObject *self, PyObject *name)
 {
     Node *node = (Node *)self;
-    Field *field = field_of(node, name);
+    Field *field = field_of(node->type, name);
 
     if (field == NULL)
         return NULL;

@@ -15,6 +15,11 @@
 /* Output of up to this many bytes is written to the stack first. */
 #define SMALL_OUTPUT 4096
 
+/* A stretch of bytes. */
+struct span {
+    const uint8_t *at, *end;
+};
+
 /* ---- Input, output, refusals (input.c, refused.c) ---- */
 
 /* The bytes of an argument, and what keeps them where they are. Those that are fixed can't be changed by any other thread. */
@@ -50,13 +55,37 @@ enum { FIRST_CAUSE = 50, FIRST_OF_LINKING = 71 };
 
 /* Sets the exception for an answer that is not MB_DONE. All return NULL. The path of a part is taken. */
 PyObject *refuse(uint32_t answer, const struct report *report);
+/* The same of the bytes of a message, whose type is in the exception. */
+PyObject *refuse_message(uint32_t answer, const struct report *report, PyObject *type);
 PyObject *refuse_path(const char *what, uint32_t answer, PyObject *path);
 /* The same of a JSON text, by the byte where what is refused begins. */
 PyObject *refuse_text(uint32_t answer, size_t byte);
 PyObject *refuse_link(uint32_t answer, const struct report *report, const struct mb_refusal *refusal, const uint8_t *text, PyObject *names);
 
+/* Whether an answer is a cause why a message refuses a change. */
+bool is_cause_of_change(uint32_t answer);
+
+/* Where a Refused is set as the exception, a function of _refused.py is called with it and with what was refused: it adds a hint. */
+void add_hint(const char *function, PyObject *given);
+/* Puts an attribute into the exception that is set. */
+void add_attribute(const char *name, PyObject *value);
+/* Sets KeyError for a name that a pool or a message type does not declare, of a "type", a "field" or a "oneof", or ValueError for the name of a "value"
+ * that the enum of a field does not declare. Returns NULL. */
+PyObject *refuse_name(const char *what, PyObject *owner, PyObject *name);
+
 /* What _refused.py, _frames.py, _schema.py and _change.py define. */
-extern PyObject *make_fault, *make_link, *frames_class, *schema_class, *difference_class, *enum_class, *change_functions;
+extern PyObject *make_fault, *make_link, *frames_class, *schema_class, *difference_class, *enum_class, *change_functions, *refused_functions;
+
+/* A number as an int of Python: by the call that is the fastest for small ones. */
+static inline PyObject *as_unsigned(uint64_t number)
+{
+    return number <= LONG_MAX ? PyLong_FromLong((long)number) : PyLong_FromUnsignedLongLong(number);
+}
+
+static inline PyObject *as_signed(uint64_t number)
+{
+    return PyLong_FromLong((long)(int64_t)number);
+}
 
 /* The written bytes as str or bytes. */
 PyObject *as_bytes(const uint8_t *at, size_t len);
@@ -78,16 +107,24 @@ typedef struct {
     PyObject_HEAD
     struct mb_pool handle;
     Py_ssize_t left_out;
+    bool has_proto2;    /* whether a file is of proto2: an enum may be closed then */
     PyObject *names;    /* types by their full names */
     PyObject *numbers;  /* types by their numbers */
     PyObject *origin;   /* what it was made of, for pickling: whether of a set, the set or the pairs of names and sources, whether leniently */
     PyObject *weak;
 } Pool;
 
+/* Names of fields that a type has found lately: of a name, which is kept, the index by its address. */
+enum { RECENT = 16 };
+
 typedef struct {
     PyObject_HEAD
     Pool *pool;
     uint32_t number;
+    struct {
+        PyObject *name;
+        struct field *field;
+    } recent[RECENT];
     PyObject *name;    /* the full name */
     PyObject *fields;  /* fields by their names, as they were asked for */
     struct field **by_number; /* all fields, by rising number, once they were asked for, and whether one is an enum */
@@ -103,6 +140,8 @@ typedef struct field {
     struct mb_field is;
     bool has_detail;  /* whether the next is known: mb_pool_field does not report it */
     uint32_t detail;  /* what mb_pool_field_at reports beside */
+    size_t index;     /* its index by rising number, once all fields of the type are listed */
+    MessageType *inner; /* the type of its messages, once it was asked for */
     PyObject *names;  /* of an enum its Enum, once it was asked for */
 } Field;
 
@@ -111,15 +150,23 @@ bool read_detail(Field *field);
 /* The full name of a field, as shop.Order.number; NULL with an exception. */
 PyObject *full_name(const Field *field);
 
-/* Steps that a place has at most without memory of its own. */
-enum { SHORT_PLACE = 4 };
+/* Steps and keys that a node has memory for. A place that is longer has memory of its own. */
+enum { SHORT_PLACE = 4, SHORT_KEYS = 2 };
 
-/* A message, or a part of one: a list, a map, a message inside. Of a part, root is the message that holds it, and place says where. */
+/* A message, or a part of one: a list, a map, a message inside. Of a part, root is the message that holds it, and place says where. After the place there is
+ * memory for a step, and after the keys for two: of that step, and of a value. */
 typedef struct node {
     PyObject_HEAD
     struct mb_message handle;
     size_t hint;       /* about how many bytes it has */
     PyObject *bytes;   /* its canonical bytes, where a part was read of them and nothing has changed since */
+    PyObject *given;   /* the bytes that it was decoded from, if they are few and nothing has changed since (given.c) */
+    uint16_t *values;  /* of a message: where each field begins in its own bytes */
+    struct span own;   /* its own bytes among those that were given, or of a list those of the message that it is in */
+    struct cursor *cursor; /* of a list: where its next element is */
+    uint8_t view;      /* what is known of its own bytes */
+    bool is_sorted;    /* whether the numbers of their records rise */
+    size_t left;       /* of a message that holds itself: how many of the bytes that were given may still be passed over, in long stretches */
     struct node *root; /* none of a message that holds itself */
     struct node *parts, *next, *previous; /* the first of the parts that a message has, and the others of a part */
     bool is_gone;      /* of a part: what it led to was removed, or something else is in its place */
@@ -128,7 +175,7 @@ typedef struct node {
     Field *field;      /* of a list or a map */
     size_t place_len, keys_len;
     struct mb_value *place, short_place[SHORT_PLACE];
-    struct mb_bytes *keys;
+    struct mb_bytes *keys, short_keys[SHORT_KEYS];
     PyObject *key_objects; /* a tuple of bytes, which the keys point to */
 } Node;
 
@@ -141,15 +188,20 @@ PyObject *make_decoder_type(void);
 
 /* The type of a number. Without a name, NULL, the library is asked for it. */
 MessageType *type_by_number(Pool *pool, uint32_t number, PyObject *name);
-/* The field of a name or a number, or NULL with KeyError. The reference is borrowed. */
+/* The type of the messages of a field. The reference is borrowed. */
+MessageType *type_inside(Field *field);
+/* Whether a file of the pool is of proto2, or it can't be said. */
+bool pool_has_proto2(struct mb_pool *pool);
+/* The field of a name, of a number, or of an object that is either or a Field; NULL with KeyError, or TypeError. The reference is borrowed. */
 Field *field_by_name(MessageType *type, PyObject *name);
 Field *field_by_number(MessageType *type, uint32_t number);
+Field *field_of(MessageType *type, PyObject *name);
 /* The same, but NULL without an exception where the type has none. */
 Field *find_field(MessageType *type, uint32_t number);
-/* Whether a field of a type, that is no map, is an enum; false with an exception where it can't be said. */
-bool has_enums(MessageType *type);
-/* The field that an object of its type is, where it is one of the message type, or NULL with KeyError. The reference is borrowed. */
-Field *own_field(MessageType *type, PyObject *field);
+/* Whether a field of a type, that is no map, is an enum that may be closed; false with an exception where it can't be said. */
+bool has_closed_enums(MessageType *type);
+/* Lists all fields of a type by rising number; the type keeps them. Returns whether it could. */
+bool load_fields(MessageType *type);
 /* Methods of a message type (field.c). */
 PyObject *type_field(PyObject *self, PyObject *name);
 PyObject *type_get_fields(PyObject *self, void *which);
@@ -159,6 +211,8 @@ PyObject *default_of(const struct mb_field *field);
 
 /* A message of a type that holds nothing yet. */
 Node *new_message(MessageType *type);
+/* Keeps the bytes that a message was decoded from, if they are few and nobody can write them (given.c). */
+void keep_given(Node *root, const struct input *in);
 
 /* What a part of a pool is, and its name; NULL with an exception where there is none. */
 PyObject *read_message(Pool *pool, uint32_t number, struct mb_type *is);
@@ -178,6 +232,9 @@ PyObject *pool_enum_value(PyObject *self, PyObject *args);
 PyObject *type_compat(PyObject *self, PyObject *other);
 PyObject *type_witness(PyObject *self, PyObject *args);
 extern const char compat_doc[], witness_doc[];
+/* (place.c) */
+PyObject *type_place(PyObject *self, PyObject *path);
+extern const char place_doc[];
 
 /* A decoder of messages of a type, for type.c (decoder.c). */
 PyObject *type_decoder(PyObject *self, PyObject *args, PyObject *kwargs);

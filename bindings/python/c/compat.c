@@ -32,8 +32,9 @@ static PyObject *differences(MessageType *old, MessageType *new, const struct mb
 }
 
 const char compat_doc[] =
-"compat($self, new, /)\n--\n\nWhat happens to messages of this type that are read as a new type: a list of differences (old, new, field, severity) of these types, and of"
-"\neach two types that fields of the same number lead to. A severity is breaks, loses, presence, converts or renames.";
+"compat($self, new, /)\n--\n\n"
+"Lists what changes if the type `new` reads messages of this type: a list of Difference, each with the types old and new, a field of old, and a"
+"\nseverity: breaks, loses, presence, converts or renames. The message types of fields are compared too.";
 
 PyObject *type_compat(PyObject *self, PyObject *other)
 {
@@ -61,8 +62,9 @@ PyObject *type_compat(PyObject *self, PyObject *other)
 }
 
 const char witness_doc[] =
-"witness($self, new, difference, /)\n--\n\nA message of this type that shows that a difference, one of compat(new), breaks reading: its canonical bytes are refused by\n"
-"the new type, or read as a message that does not agree with it. None where the difference does not break, or more than 99 fields lead to\nits types.";
+"witness($self, new, difference, /)\n--\n\n"
+"Returns a message of this type that shows a break. The type `new` refuses its canonical bytes, or reads another message. The difference is one of"
+"\ncompat(new). None if it breaks nothing, or if more than 99 fields lead to it.";
 
 static PyObject *not_of_both(void)
 {

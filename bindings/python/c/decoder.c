@@ -14,8 +14,9 @@ typedef struct {
 } Decoder;
 
 const char decoder_doc[] =
-"decoder($self, /, *, max_bytes=2147483647, max_depth=100)\n--\n\nA Decoder of a message that arrives in pieces, which has received nothing. The limits are those of"
-"\nthe whole message. While one thread feeds it, another that uses it gets RuntimeError.";
+"decoder($self, /, *, max_bytes=2147483647, max_depth=100)\n--\n\n"
+"Returns a Decoder for a message that arrives in pieces. The limits are those of the whole message. While one thread feeds the decoder, another"
+"\nthread that uses it gets RuntimeError.";
 
 PyObject *type_decoder(PyObject *self, PyObject *args, PyObject *kwargs)
 {
@@ -52,9 +53,9 @@ static struct mb_decoder *handle_of(PyObject *self)
 }
 
 PyDoc_STRVAR(feed_doc,
-"feed($self, data, /)\n--\n\nGives the decoder the next piece, anything with the buffer protocol. It is not kept. Raises Refused where all bytes"
-"\nreceived have another fault than Truncated, which no further bytes change; byte counts from the first piece on. Then, and after MemoryError, the"
-"\ndecoder is finished: each further call raises ValueError.");
+"feed($self, data, /)\n--\n\n"
+"Gives the next piece to the decoder: anything with the buffer protocol. Raises Refused as soon as the bytes received have a fault that further"
+"\nbytes cannot repair; its byte counts from the first piece on. After Refused or MemoryError the decoder is finished: each further call raises ValueError.");
 
 static PyObject *decoder_feed(PyObject *self, PyObject *data)
 {
@@ -78,12 +79,13 @@ static PyObject *decoder_feed(PyObject *self, PyObject *data)
     ((Decoder *)self)->received += in.len;
     drop_input(&in);
     if (answer != MB_DONE)
-        return refuse(answer, &report);
+        return refuse_message(answer, &report, (PyObject *)((Decoder *)self)->type);
     Py_RETURN_NONE;
 }
 
 PyDoc_STRVAR(finish_doc,
-"finish($self, /)\n--\n\nThe message of all pieces, as decode has it of their bytes, or Refused. Then the decoder is finished: each further call raises ValueError.");
+"finish($self, /)\n--\n\n"
+"Returns the message that all pieces encode, as decode does, or raises Refused. Then the decoder is finished: each further call raises ValueError.");
 
 static PyObject *decoder_finish(PyObject *self, PyObject *Py_UNUSED(ignored))
 {
@@ -100,7 +102,7 @@ static PyObject *decoder_finish(PyObject *self, PyObject *Py_UNUSED(ignored))
     if (answer == MB_DONE)
         return (PyObject *)message;
     Py_DECREF(message);
-    return refuse(answer, &report);
+    return refuse_message(answer, &report, (PyObject *)((Decoder *)self)->type);
 }
 
 static PyObject *decoder_get_pending(PyObject *self, void *Py_UNUSED(which))

@@ -55,7 +55,7 @@ static bool add_elements(struct walk *walk, Field *field, struct record *record,
 {
     size_t place_len = walk->place_len;
     bool is_packed = is_packed_of(record, field->is.kind), is_done = true;
-    struct record element = {field->is.number, 0, 0, {NULL, NULL}};
+    struct record element = {field->is.number, 0, 0, {NULL, NULL}, NULL};
 
     while (is_done && (!is_packed || next_packed(&record->inside, field->is.kind, &element.bits))) {
         enter(walk, MB_INDEX, (uint64_t)PyList_Size(list));
@@ -130,7 +130,7 @@ static bool drop_unknown(struct walk *walk, MessageType *type, struct span *insi
 {
     size_t unknown = 0;
 
-    if (!has_enums(type))
+    if (!has_closed_enums(type))
         return !PyErr_Occurred();
     uint32_t answer = mb_message_unknown(&root_of(walk->node)->handle, PLACE(walk), NULL, 0, &unknown);
     if (answer == MB_DONE && unknown <= (size_t)(inside->end - inside->at)) {
@@ -162,8 +162,9 @@ static PyObject *dict_of(struct walk *walk, MessageType *type, struct span insid
 }
 
 const char to_dict_doc[] =
-"to_dict($self, /, *, enums='numbers')\n--\n\nThe fields that are set, by their names: messages and maps as dicts, lists as lists. An enum is its number, or with"
-"\nenums=\"names\" its name where it has one. Unknown records are not in it.";
+"to_dict($self, /, *, enums='numbers')\n--\n\n"
+"Returns the set fields as a dict by name. Messages and maps are dicts, lists are lists. An enum is its number, or with enums=\"names\" its name if it"
+"\nhas one. Unknown fields are left out.";
 
 /* Whether enums are wanted by their names: 1, 0, or -1 with an exception. */
 static int wants_names(const char *enums)
@@ -245,7 +246,7 @@ static void put_number(struct array *array, uint64_t bits)
 static void put_packed(struct array *array, struct span inside)
 {
     size_t size = (size_t)(inside.end - inside.at);
-    struct record fixed = {0, array->size == 8 ? WIRE_64 : WIRE_32, 0, {NULL, NULL}};
+    struct record fixed = {0, array->size == 8 ? WIRE_64 : WIRE_32, 0, {NULL, NULL}, NULL};
     uint64_t bits;
 
     if (array->size > 1 && is_of_kind(&fixed, array->kind) && size <= (size_t)(array->end - array->at)) {
@@ -257,25 +258,62 @@ static void put_packed(struct array *array, struct span inside)
         put_number(array, bits);
 }
 
-/* The numbers of a list as bytes of Python's. */
-static PyObject *numbers_of(Node *node, Field *field, size_t size, size_t count)
+/* How many numbers a packed list has: of varints as many as bytes that end one. */
+static size_t count_packed(struct span inside, uint32_t kind)
 {
-    struct span inside;
-    struct record record;
-    PyObject *held, *bytes;
+    uint32_t wire = wire_of(kind);
+    size_t count = 0;
 
-    if (!(field->is.kind == MB_ENUM ? known_span_of : span_of)(node, &inside, &held))
+    if (wire != WIRE_VARINT)
+        return (size_t)(inside.end - inside.at) / (wire == WIRE_64 ? 8 : 4);
+    while (inside.at < inside.end)
+        count += *inside.at++ < 128;
+    return count;
+}
+
+/* How many numbers of a field there are in the bytes of a message. */
+static size_t count_numbers(struct span inside, const Field *field)
+{
+    struct record record;
+    size_t count = 0;
+
+    while (next_record(&inside, &record)) {
+        if (record.number == field->is.number && is_packed_of(&record, field->is.kind))
+            count += count_packed(record.inside, field->is.kind);
+        else
+            count += record.number == field->is.number && is_of_kind(&record, field->is.kind);
+    }
+    return count;
+}
+
+/* Puts the numbers of a field at the end. */
+static void put_numbers(struct array *array, struct span inside, const Field *field)
+{
+    struct record record;
+
+    while (next_record(&inside, &record)) {
+        if (record.number == field->is.number && is_of_kind(&record, field->is.kind))
+            put_number(array, record.bits);
+        else if (record.number == field->is.number && is_packed_of(&record, field->is.kind))
+            put_packed(array, record.inside);
+    }
+}
+
+/* The numbers of a list as bytes of Python's. Unknown records may look like numbers of a closed enum. */
+static PyObject *numbers_of(Node *node, Field *field, size_t size)
+{
+    bool is_closed = field->is.kind == MB_ENUM && field->pool->has_proto2;
+    struct span inside;
+    PyObject *held;
+
+    if (!(is_closed ? known_span_of : span_of)(node, &inside, &held))
         return NULL;
-    bytes = PyBytes_FromStringAndSize(NULL, (Py_ssize_t)(size * count));
+    size_t count = count_numbers(inside, field);
+    PyObject *bytes = PyBytes_FromStringAndSize(NULL, (Py_ssize_t)(size * count));
     if (bytes != NULL) {
         struct array array = {(uint8_t *)PyBytes_AsString(bytes), NULL, field->is.kind, size};
         array.end = array.at + size * count;
-        while (next_record(&inside, &record)) {
-            if (record.number == field->is.number && is_of_kind(&record, field->is.kind))
-                put_number(&array, record.bits);
-            else if (record.number == field->is.number && is_packed_of(&record, field->is.kind))
-                put_packed(&array, record.inside);
-        }
+        put_numbers(&array, inside, field);
         if (array.at != array.end) {
             Py_CLEAR(bytes);
             nothing_there(MB_BAD_PLACE);
@@ -286,13 +324,14 @@ static PyObject *numbers_of(Node *node, Field *field, size_t size, size_t count)
 }
 
 const char array_doc[] =
-"array($self, name, /)\n--\n\nThe numbers of a list as a memoryview that can't be written, by the formats of the module struct: d, f, i, I, q, Q or ? for True and"
-"\nFalse; an enum is an i. numpy.asarray takes it without a copy. It is a copy of the list, made in one pass.";
+"array($self, name, /)\n--\n\n"
+"Returns a copy of a list of numbers as a read-only memoryview. The format is d, f, i, I, q, Q or ? of the module struct, by the kind of the field;"
+"\nan enum is an i. numpy.asarray takes it without another copy.";
 
 PyObject *message_array(PyObject *self, PyObject *name)
 {
     Node *node = (Node *)self;
-    Field *field = field_of(node, name);
+    Field *field = field_of(node->type, name);
     size_t size = 0;
     const char *format = field == NULL ? NULL : format_of(field->is.kind, &size);
 
@@ -305,12 +344,9 @@ PyObject *message_array(PyObject *self, PyObject *name)
         Py_XDECREF(full);
         return NULL;
     }
-    PyObject *list = PyObject_GetItem(self, name);
-    Py_ssize_t count = list == NULL ? -1 : part_length(list);
-    PyObject *bytes = count < 0 ? NULL : numbers_of(node, field, size, (size_t)count);
+    PyObject *bytes = numbers_of(node, field, size);
     PyObject *view = bytes == NULL ? NULL : PyMemoryView_FromObject(bytes);
     PyObject *array = view == NULL ? NULL : PyObject_CallMethod(view, "cast", "s", format);
-    Py_XDECREF(list);
     Py_XDECREF(bytes);
     Py_XDECREF(view);
     return array;

@@ -22,6 +22,8 @@ static Field *keep_field(MessageType *type, PyObject *name, const struct mb_fiel
     field->is = *is;
     field->has_detail = false;
     field->detail = 0;
+    field->index = 0;
+    field->inner = NULL;
     field->names = NULL;
     Py_INCREF(type->pool);
     field->pool = type->pool;
@@ -31,17 +33,6 @@ static Field *keep_field(MessageType *type, PyObject *name, const struct mb_fiel
     int failed = PyDict_SetItem(type->fields, name, (PyObject *)field);
     Py_DECREF(field);
     return failed < 0 ? NULL : field;
-}
-
-/* The exception for a name that no field has. */
-static Field *unknown_field(MessageType *type, PyObject *name)
-{
-    PyObject *line = PyUnicode_FromFormat("%U has no field %S", type->name, name);
-
-    if (line != NULL)
-        PyErr_SetObject(PyExc_KeyError, line);
-    Py_XDECREF(line);
-    return NULL;
 }
 
 /* Asks the library for the field of a name, which is exactly str, and keeps it. */
@@ -60,26 +51,46 @@ static Field *ask_field(MessageType *type, PyObject *name)
     Py_DECREF(text);
     if (answer == MB_DONE)
         return keep_field(type, name, &is);
-    return answer == MB_ABSENT ? unknown_field(type, name) : (Field *)refuse(answer, NULL);
+    return (Field *)(answer == MB_ABSENT ? refuse_name("field", (PyObject *)type, name) : refuse(answer, NULL));
+}
+
+/* The field of a name that is exactly str. */
+static Field *field_named(MessageType *type, PyObject *name)
+{
+    Field *found = (Field *)PyDict_GetItemWithError(type->fields, name);
+
+    return found != NULL || PyErr_Occurred() ? found : ask_field(type, name);
+}
+
+/* The same, where the object may be one that was asked for lately: a name that a program spells is one object. */
+static inline Field *recent_field(MessageType *type, PyObject *name)
+{
+    size_t at = ((uintptr_t)name >> 4) % RECENT;
+
+    if (type->recent[at].name == name)
+        return type->recent[at].field;
+    Field *found = field_named(type, name);
+    if (found != NULL) {
+        PyObject *before = type->recent[at].name;
+        Py_INCREF(name);
+        type->recent[at].name = name;
+        type->recent[at].field = found;
+        Py_XDECREF(before);
+    }
+    return found;
 }
 
 Field *field_by_name(MessageType *type, PyObject *name)
 {
-    PyObject *exact = name;
-    Field *found;
-
+    if (Py_TYPE(name) == &PyUnicode_Type)
+        return recent_field(type, name);
     if (!PyUnicode_Check(name)) {
         PyErr_Format(PyExc_TypeError, "a field of %U is named by a str, a number or a Field", type->name);
         return NULL;
     }
-    if (Py_TYPE(name) == &PyUnicode_Type)
-        Py_INCREF(exact);
-    else if ((exact = PyUnicode_FromObject(name)) == NULL)
-        return NULL;
-    found = (Field *)PyDict_GetItemWithError(type->fields, exact);
-    if (found == NULL && !PyErr_Occurred())
-        found = ask_field(type, exact);
-    Py_DECREF(exact);
+    PyObject *exact = PyUnicode_FromObject(name);
+    Field *found = exact == NULL ? NULL : field_named(type, exact);
+    Py_XDECREF(exact);
     return found;
 }
 
@@ -110,14 +121,13 @@ static int by_rising_number(const void *one, const void *two)
     return (left > right) - (left < right);
 }
 
-/* Lists all fields of a type by rising number; the type keeps them. Returns whether it could. */
-static bool load_fields(MessageType *type)
+static bool list_fields(MessageType *type)
 {
     struct mb_type is;
-    PyObject *name = type->by_number != NULL ? NULL : read_message(type->pool, type->number, &is);
+    PyObject *name = read_message(type->pool, type->number, &is);
 
     if (name == NULL)
-        return type->by_number != NULL;
+        return false;
     Py_DECREF(name);
     Field **all = PyMem_Malloc((is.fields + 1) * sizeof *all);
     if (all == NULL)
@@ -133,15 +143,22 @@ static bool load_fields(MessageType *type)
     if (all == NULL)
         return false;
     qsort(all, is.fields, sizeof *all, by_rising_number);
+    for (size_t i = 0; i < is.fields; i++)
+        all[i]->index = i;
     PyMem_Free(type->by_number);
     type->by_number = all;
     type->count = is.fields;
     return true;
 }
 
-bool has_enums(MessageType *type)
+bool load_fields(MessageType *type)
 {
-    return load_fields(type) && type->has_enums;
+    return type->by_number != NULL || list_fields(type);
+}
+
+bool has_closed_enums(MessageType *type)
+{
+    return type->pool->has_proto2 && load_fields(type) && type->has_enums;
 }
 
 Field *find_field(MessageType *type, uint32_t number)
@@ -168,16 +185,15 @@ Field *field_by_number(MessageType *type, uint32_t number)
     if (found == NULL && !PyErr_Occurred()) {
         PyObject *key = PyLong_FromUnsignedLong(number);
         if (key != NULL)
-            unknown_field(type, key);
+            refuse_name("field", (PyObject *)type, key);
         Py_XDECREF(key);
     }
     return found;
 }
 
-Field *own_field(MessageType *type, PyObject *object)
+/* The field that an object of its type is, where it is one of the message type. */
+static Field *own_field(MessageType *type, Field *field)
 {
-    Field *field = (Field *)object;
-
     if (field->pool == type->pool && field->of == type->number)
         return field;
     MessageType *other = type_by_number(field->pool, field->of, NULL);
@@ -190,7 +206,25 @@ Field *own_field(MessageType *type, PyObject *object)
     return NULL;
 }
 
-const char field_doc[] = "field($self, name, /)\n--\n\nThe field of a simple name, as number. KeyError where there is none.";
+Field *field_of(MessageType *type, PyObject *name)
+{
+    if (Py_TYPE(name) == &PyUnicode_Type)
+        return recent_field(type, name);
+    if (Py_TYPE(name) == (PyTypeObject *)field_type)
+        return own_field(type, (Field *)name);
+    if (!PyLong_Check(name) || PyBool_Check(name))
+        return field_by_name(type, name);
+    unsigned long long number = PyLong_AsUnsignedLongLong(name);
+    if (PyErr_Occurred()) {
+        if (!PyErr_ExceptionMatches(PyExc_OverflowError))
+            return NULL;
+        PyErr_Clear();
+        number = 0;
+    }
+    return field_by_number(type, number <= UINT32_MAX ? (uint32_t)number : 0);
+}
+
+const char field_doc[] = "field($self, name, /)\n--\n\nReturns the Field of a simple name, as \"number\". Raises KeyError if the type has none.";
 
 PyObject *type_field(PyObject *self, PyObject *name)
 {
@@ -251,12 +285,21 @@ static PyObject *field_get_key(PyObject *self, void *Py_UNUSED(which))
     return PyUnicode_FromString(kinds[key]);
 }
 
+MessageType *type_inside(Field *field)
+{
+    if (field->inner == NULL)
+        field->inner = type_by_number(field->pool, (uint32_t)field->is.type_of, NULL);
+    return field->inner;
+}
+
 static PyObject *field_get_type(PyObject *self, void *Py_UNUSED(which))
 {
     Field *field = (Field *)self;
     if (!is_message_kind(field->is.kind))
         Py_RETURN_NONE;
-    return (PyObject *)type_by_number(field->pool, (uint32_t)field->is.type_of, NULL);
+    PyObject *type = (PyObject *)type_inside(field);
+    Py_XINCREF(type);
+    return type;
 }
 
 static PyObject *field_get_enum(PyObject *self, void *Py_UNUSED(which))
@@ -333,12 +376,14 @@ static int field_traverse(PyObject *self, visitproc visit, void *arg)
     Py_VISIT(Py_TYPE(self));
     Py_VISIT(((Field *)self)->pool);
     Py_VISIT(((Field *)self)->names);
+    Py_VISIT((PyObject *)((Field *)self)->inner);
     return 0;
 }
 
 static int field_clear(PyObject *self)
 {
     Py_CLEAR(((Field *)self)->names);
+    Py_CLEAR(((Field *)self)->inner);
     Py_CLEAR(((Field *)self)->pool);
     return 0;
 }

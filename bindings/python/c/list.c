@@ -7,9 +7,12 @@ PyObject *list_type;
 Py_ssize_t part_length(PyObject *self)
 {
     Node *node = (Node *)self;
-    struct mb_message *handle = handle_of(node);
+    Py_ssize_t length = node->view == NO_VIEW ? -1 : given_length(node);
     struct mb_value value = {0, 0};
 
+    if (length >= 0)
+        return length;
+    struct mb_message *handle = handle_of(node);
     if (handle == NULL)
         return -1;
     uint32_t answer = mb_message_get(handle, PLACE(node), &value);
@@ -30,15 +33,36 @@ PyObject *part_get_field(PyObject *self, void *Py_UNUSED(which))
     return field;
 }
 
+/* An element that the bytes say which were given. */
+static PyObject *made_of(Node *list, size_t index, const struct record *element)
+{
+    struct mb_value step = {MB_INDEX, index};
+
+    if (!is_message_kind(list->field->is.kind))
+        return wire_value(list->field->is.kind, element);
+    PyObject *part = make_part(list, message_type, step, NULL, list->field);
+    if (part != NULL)
+        give_element((Node *)part, element);
+    return part;
+}
+
+/* The element of an index, or NULL: with an exception, or without one where the list is shorter. */
+static PyObject *found_item(Node *list, size_t index)
+{
+    struct mb_value step = {MB_INDEX, index};
+    struct record element;
+    int found = list->view == NO_VIEW ? -1 : given_element(list, index, &element);
+
+    if (found < 0)
+        return inner(list, step, NULL, list->field);
+    return found == 1 ? made_of(list, index, &element) : NULL;
+}
+
 /* Python adds the length to a negative index before it comes here. */
 static PyObject *list_item(PyObject *self, Py_ssize_t index)
 {
-    PyObject *found = NULL;
+    PyObject *found = index < 0 ? NULL : found_item((Node *)self, (size_t)index);
 
-    if (index >= 0) {
-        struct mb_value step = {MB_INDEX, (uint64_t)index};
-        found = inner((Node *)self, step, NULL, ((Node *)self)->field);
-    }
     if (found == NULL && !PyErr_Occurred())
         PyErr_SetString(PyExc_IndexError, "the list is shorter");
     return found;

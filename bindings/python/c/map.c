@@ -151,21 +151,21 @@ static PyObject *listed(PyObject *self, enum what what)
     return list;
 }
 
-PyDoc_STRVAR(keys_doc, "keys($self, /)\n--\n\nThe keys as a list, in order.");
+PyDoc_STRVAR(keys_doc, "keys($self, /)\n--\n\nReturns the keys as a list, in rising order.");
 
 static PyObject *map_keys(PyObject *self, PyObject *Py_UNUSED(ignored))
 {
     return listed(self, KEYS);
 }
 
-PyDoc_STRVAR(values_doc, "values($self, /)\n--\n\nThe values as a list, in the order of their keys.");
+PyDoc_STRVAR(values_doc, "values($self, /)\n--\n\nReturns the values as a list, by rising keys.");
 
 static PyObject *map_values(PyObject *self, PyObject *Py_UNUSED(ignored))
 {
     return listed(self, VALUES);
 }
 
-PyDoc_STRVAR(items_doc, "items($self, /)\n--\n\nThe pairs of keys and values as a list, in the order of the keys.");
+PyDoc_STRVAR(items_doc, "items($self, /)\n--\n\nReturns pairs of key and value as a list, by rising keys.");
 
 static PyObject *map_items(PyObject *self, PyObject *Py_UNUSED(ignored))
 {

@@ -131,12 +131,12 @@ static PyObject *encode_long(Node *node)
     PyObject *bytes = bytes_of_root(node);
 
     Py_XINCREF(bytes);
-    has_changed(node);
+    Py_CLEAR(node->bytes);
     return bytes;
 }
 
-PyDoc_STRVAR(encode_doc, "encode($self, /)\n--\n\nThe canonical bytes. bytes(message) is the same.");
-PyDoc_STRVAR(bytes_doc, "__bytes__($self, /)\n--\n\nThe canonical bytes.");
+PyDoc_STRVAR(encode_doc, "encode($self, /)\n--\n\nReturns the canonical bytes, the same for all equal messages. bytes(message) is the same.");
+PyDoc_STRVAR(bytes_doc, "__bytes__($self, /)\n--\n\nReturns the canonical bytes.");
 
 PyObject *message_encode(PyObject *self, PyObject *Py_UNUSED(ignored))
 {
@@ -155,7 +155,7 @@ PyObject *message_encode(PyObject *self, PyObject *Py_UNUSED(ignored))
     return result;
 }
 
-PyDoc_STRVAR(encoded_length_doc, "encoded_length($self, /)\n--\n\nHow many canonical bytes there are.");
+PyDoc_STRVAR(encoded_length_doc, "encoded_length($self, /)\n--\n\nReturns the number of the canonical bytes.");
 
 static PyObject *message_encoded_length(PyObject *self, PyObject *Py_UNUSED(ignored))
 {
@@ -175,8 +175,9 @@ static PyObject *message_encoded_length(PyObject *self, PyObject *Py_UNUSED(igno
 }
 
 PyDoc_STRVAR(listing_doc,
-"listing($self, /, *, decimal=False)\n--\n\nThe listing, as `pbtool show` prints it, with floats by their bits. With decimal=True each float is the shortest"
-"\ndecimal that reads back to the same bits, or nan, inf or -inf. repr(message) and str(message) are that.");
+"listing($self, /, *, decimal=False)\n--\n\n"
+"Returns the listing that `pbtool show` prints, with floats by their bits. With decimal=True a float is the shortest decimal that reads back to the"
+"\nsame bits, or nan, inf or -inf. str(message) and repr(message) are the listing in decimal.");
 
 static PyObject *message_listing(PyObject *self, PyObject *args, PyObject *kwargs)
 {
@@ -189,8 +190,9 @@ static PyObject *message_listing(PyObject *self, PyObject *args, PyObject *kwarg
 }
 
 PyDoc_STRVAR(to_json_doc,
-"to_json($self, /, *, declared_names=False, indent=False)\n--\n\nThe message as JSON (ProtoJSON), on one line or indented: with field names as declared,"
-"\nor else as the set gives them by json_name, or in lowerCamelCase. Refused where a part has no JSON form, as a Timestamp out of its range.");
+"to_json($self, /, *, declared_names=False, indent=False)\n--\n\n"
+"Returns the message as JSON (ProtoJSON), on one line, or indented. A name is the json_name of the set, or else in lowerCamelCase. With"
+"\ndeclared_names=True it is the declared name. Raises Refused if a value has no JSON form, such as a Timestamp after the year 9999.");
 
 static PyObject *message_to_json(PyObject *self, PyObject *args, PyObject *kwargs)
 {
@@ -261,23 +263,23 @@ PyObject *value_at(const struct reached *place, struct mb_message *handle, const
     case MB_BOOL:
         return PyBool_FromLong(value->number != 0);
     case MB_UINT32: case MB_UINT64:
-        return PyLong_FromUnsignedLongLong(value->number);
+        return as_unsigned(value->number);
     case MB_STRING: case MB_BYTES:
         return read_bytes(place, handle, value->kind == MB_STRING);
     default:
-        return PyLong_FromLongLong((long long)value->number);
+        return as_signed(value->number);
     }
 }
 
-/* A list, a map or a message one step further in than a node, as a part. */
-static PyObject *make_part(Node *node, PyObject *of, struct mb_value step, PyObject *key, Field *field)
+PyObject *make_part(Node *node, PyObject *of, struct mb_value step, PyObject *key, Field *field)
 {
     Node *part = part_of(node, of, step, key);
 
     if (part == NULL)
         return NULL;
     if (of == message_type) {
-        part->type = type_by_number(field->pool, (uint32_t)field->is.type_of, NULL);
+        part->type = type_inside(field);
+        Py_XINCREF(part->type);
         if (part->type == NULL)
             Py_CLEAR(part);
     } else {
@@ -306,14 +308,11 @@ static PyObject *got(Node *node, struct mb_message *handle, const struct reached
 PyObject *inner(Node *node, struct mb_value step, PyObject *key, Field *field)
 {
     struct mb_message *handle = handle_of(node);
-    struct reached place;
-    PyObject *result;
 
-    if (handle == NULL || !reach(node, &step, key, &place))
+    if (handle == NULL)
         return NULL;
-    result = got(node, handle, &place, step, key, field);
-    leave(&place);
-    return result;
+    struct reached place = reach(node, &step, key);
+    return got(node, handle, &place, step, key, field);
 }
 
 const char read_doc[] = "_read($self, kind=0, number=0, key=None, /)\n--\n\nWhat is here, or one step further in, as the library reports it: kind, number, and"
@@ -337,19 +336,18 @@ PyObject *node_read(PyObject *self, PyObject *args)
     unsigned long long number = 0;
     PyObject *key = NULL, *found = NULL;
     struct mb_value value = {0, 0};
-    struct reached place;
 
     if (!PyArg_ParseTuple(args, "|IKS", &kind, &number, &key))
         return NULL;
     bool is_here = kind == 0 && key == NULL;
     struct mb_value step = {key == NULL ? kind : MB_STRING, number};
     struct mb_message *handle = handle_of(node);
-    if (handle == NULL || !reach(node, is_here ? NULL : &step, key, &place))
+    if (handle == NULL)
         return NULL;
+    struct reached place = reach(node, is_here ? NULL : &step, key);
     uint32_t answer = mb_message_get(handle, PLACE(&place), &value);
     if (answer == MB_DONE && !is_here)
         found = read_inside(node, &place, step, key, &value);
-    leave(&place);
     if (answer != MB_DONE)
         return nothing_there(answer);
     if (PyErr_Occurred())
@@ -361,87 +359,78 @@ PyObject *node_read(PyObject *self, PyObject *args)
 
 /* ---- Fields ---- */
 
-Field *field_of(Node *node, PyObject *name)
+/* Whether a field reads as a part: a list, a map or a message, whether or not it is there, since a change in it makes it. */
+static bool is_part(const Field *field)
 {
-    if (PyUnicode_Check(name))
-        return field_by_name(node->type, name);
-    if (Py_TYPE(name) == (PyTypeObject *)field_type)
-        return own_field(node->type, name);
-    if (!PyLong_Check(name) || PyBool_Check(name))
-        return field_by_name(node->type, name);
-    unsigned long long number = PyLong_AsUnsignedLongLong(name);
-    if (PyErr_Occurred()) {
-        if (!PyErr_ExceptionMatches(PyExc_OverflowError))
-            return NULL;
-        PyErr_Clear();
-        number = 0;
-    }
-    return field_by_number(node->type, number <= UINT32_MAX ? (uint32_t)number : 0);
+    return field->is.shape >= SHAPE_LIST || is_message_kind(field->is.kind);
 }
 
-/* The value of a field of one scalar in a whole message, without a list of steps; NULL as `inner` has it. */
-static PyObject *own_scalar(Node *node, const struct mb_value *step)
+static PyObject *part_of_field(Node *node, Field *field)
 {
-    struct mb_value value = {0, 0};
-    uint32_t answer = mb_message_get(&node->handle, step, 1, NULL, 0, &value);
+    PyObject *of = field->is.shape == SHAPE_LIST ? list_type : field->is.shape == SHAPE_MAP ? map_type : message_type;
+    struct mb_value step = {MB_FIELD, field->is.number};
+    PyObject *part = handle_of(node) == NULL ? NULL : make_part(node, of, step, NULL, field);
 
-    if (answer == MB_DONE)
-        return value_at(NULL, &node->handle, &value);
-    if (answer != MB_ABSENT)
-        refuse(answer, NULL);
-    return NULL;
+    if (part != NULL && node->view != NO_VIEW)
+        give_part((Node *)part, node, field);
+    return part;
 }
 
 static PyObject *message_subscript(PyObject *self, PyObject *name)
 {
     Node *node = (Node *)self;
-    Field *field = field_of(node, name);
+    Field *field = field_of(node->type, name);
+    PyObject *found;
 
-    if (field == NULL || handle_of(node) == NULL)
+    if (field == NULL)
         return NULL;
+    if (is_part(field))
+        return part_of_field(node, field);
+    if (node->view != NO_VIEW && ((found = given_value(node, field)) != NULL || PyErr_Occurred()))
+        return found;
     struct mb_value step = {MB_FIELD, field->is.number};
-    if (field->is.shape >= SHAPE_LIST)
-        return make_part(node, field->is.shape == SHAPE_LIST ? list_type : map_type, step, NULL, field);
-    /* A message is a part whether or not it is there: a change in it makes it. */
-    if (is_message_kind(field->is.kind))
-        return make_part(node, message_type, step, NULL, field);
-    bool is_short = node->root == NULL && field->is.kind != MB_STRING && field->is.kind != MB_BYTES;
-    PyObject *found = is_short ? own_scalar(node, &step) : inner(node, step, NULL, field);
+    found = inner(node, step, NULL, field);
     return found != NULL || PyErr_Occurred() ? found : default_of(&field->is);
+}
+
+/* Whether a field is set: 1, 0, or -1 with an exception. */
+static int is_set(Node *node, Field *field)
+{
+    struct mb_value step = {MB_FIELD, field->is.number};
+    int presence = node->view == NO_VIEW ? -1 : given_presence(node, field);
+
+    if (presence >= 0)
+        return presence;
+    if (handle_of(node) == NULL)
+        return -1;
+    struct reached place = reach(node, &step, NULL);
+    return is_there(node, &place);
 }
 
 static int message_contains(PyObject *self, PyObject *name)
 {
-    Node *node = (Node *)self;
-    Field *field = field_of(node, name);
-    struct reached place;
+    Field *field = field_of(((Node *)self)->type, name);
 
-    if (field == NULL || handle_of(node) == NULL)
-        return -1;
-    struct mb_value step = {MB_FIELD, field->is.number};
-    if (!reach(node, &step, NULL, &place))
-        return -1;
-    int answer = is_there(node, &place);
-    leave(&place);
-    return answer;
+    return field == NULL ? -1 : is_set((Node *)self, field);
 }
 
 /* Whether a message is there: a whole one is. */
 static int message_bool(PyObject *self)
 {
     Node *node = (Node *)self;
-    struct reached place;
 
     if (node->root == NULL)
         return 1;
-    if (handle_of(node) == NULL || !reach(node, NULL, NULL, &place))
+    int presence = given_message(node);
+    if (presence >= 0)
+        return presence;
+    if (handle_of(node) == NULL)
         return -1;
-    int answer = is_there(node, &place);
-    leave(&place);
-    return answer;
+    struct reached place = reach(node, NULL, NULL);
+    return is_there(node, &place);
 }
 
-PyDoc_STRVAR(numbers_doc, "numbers($self, /)\n--\n\nThe numbers of the fields that are set, rising.");
+PyDoc_STRVAR(numbers_doc, "numbers($self, /)\n--\n\nReturns the numbers of the set fields as a list, rising.");
 
 static PyObject *listed_numbers(const uint32_t *numbers, size_t count)
 {
@@ -482,7 +471,21 @@ PyObject *message_numbers(PyObject *self, PyObject *Py_UNUSED(ignored))
     return list;
 }
 
-PyDoc_STRVAR(get_doc, "get($self, /, name, default=None)\n--\n\nThe value of a field where it is set, else the default.");
+PyDoc_STRVAR(get_doc, "get($self, /, name, default=None)\n--\n\nReturns the value of a field if it is set, else the default.");
+
+/* The value of a field where it is set; else NULL, without an exception unless reading failed. */
+static PyObject *set_value(Node *node, Field *field)
+{
+    struct mb_value step = {MB_FIELD, field->is.number};
+    int presence = node->view == NO_VIEW ? -1 : given_presence(node, field);
+
+    if (presence == 0)
+        return NULL;
+    if (is_part(field))
+        return presence == 1 || is_set(node, field) == 1 ? part_of_field(node, field) : NULL;
+    PyObject *found = presence == 1 ? given_value(node, field) : NULL;
+    return found != NULL || PyErr_Occurred() ? found : inner(node, step, NULL, field);
+}
 
 static PyObject *message_get(PyObject *self, PyObject *args, PyObject *kwargs)
 {
@@ -491,13 +494,15 @@ static PyObject *message_get(PyObject *self, PyObject *args, PyObject *kwargs)
 
     if (!PyArg_ParseTupleAndKeywords(args, kwargs, "O|O:get", names, &name, &otherwise))
         return NULL;
-    int is_set = message_contains(self, name);
-    if (is_set < 0)
+    Field *field = field_of(((Node *)self)->type, name);
+    if (field == NULL)
         return NULL;
-    if (is_set)
-        return message_subscript(self, name);
-    Py_INCREF(otherwise);
-    return otherwise;
+    PyObject *found = set_value((Node *)self, field);
+    if (found == NULL && !PyErr_Occurred()) {
+        Py_INCREF(otherwise);
+        found = otherwise;
+    }
+    return found;
 }
 
 /* ---- The type ---- */

@@ -40,7 +40,8 @@ static PyObject *raw(PyObject *args, PyObject *kwargs, bool is_short)
 }
 
 PyDoc_STRVAR(raw_check_doc,
-"raw_check($module, data, /, *, max_bytes=2147483647, max_depth=100)\n--\n\nRaises Refused where the bytes are no records, without a schema.");
+"raw_check($module, data, /, *, max_bytes=2147483647, max_depth=100)\n--\n\n"
+"Checks the fields of a message without a schema. Raises Refused if the bytes are not a message of any type.");
 
 static PyObject *raw_check(PyObject *Py_UNUSED(module), PyObject *args, PyObject *kwargs)
 {
@@ -48,7 +49,8 @@ static PyObject *raw_check(PyObject *Py_UNUSED(module), PyObject *args, PyObject
 }
 
 PyDoc_STRVAR(raw_short_doc,
-"raw_short($module, data, /, *, max_bytes=2147483647, max_depth=100)\n--\n\nThe shortest spelling of the records that the bytes are, without a schema.");
+"raw_short($module, data, /, *, max_bytes=2147483647, max_depth=100)\n--\n\n"
+"Returns the shortest encoding of the fields of a message, without a schema. Raises Refused as raw_check does.");
 
 static PyObject *raw_short(PyObject *Py_UNUSED(module), PyObject *args, PyObject *kwargs)
 {
@@ -118,12 +120,13 @@ PyMODINIT_FUNC PyInit__mabristu(void)
     difference_class = taken("mabristu._schema", "Difference");
     enum_class = taken("mabristu._schema", "Enum");
     change_functions = PyImport_ImportModule("mabristu._change");
+    refused_functions = PyImport_ImportModule("mabristu._refused");
     pool_type = make_pool_type();
     message_type_type = make_message_type_type();
     field_type = make_field_type();
     decoder_type = make_decoder_type();
-    if (make_fault == NULL || make_link == NULL || frames_class == NULL || schema_class == NULL || difference_class == NULL || enum_class == NULL || change_functions == NULL ||
-        !name_causes() || !make_message_types() || (module = PyModule_Create(&definition)) == NULL)
+    if (make_fault == NULL || make_link == NULL || frames_class == NULL || schema_class == NULL || difference_class == NULL || enum_class == NULL ||
+        change_functions == NULL || refused_functions == NULL || !name_causes() || !make_message_types() || (module = PyModule_Create(&definition)) == NULL)
         return NULL;
     if (!add(module, "Pool", pool_type) || !add(module, "MessageType", message_type_type) || !add(module, "Field", field_type) ||
         !add(module, "Message", message_type) || !add(module, "List", list_type) || !add(module, "Map", map_type) || !add(module, "Decoder", decoder_type) ||

@@ -11,6 +11,7 @@ static Node *new_node(PyObject *of)
         return NULL;
     memset((char *)node + sizeof(PyObject), 0, sizeof *node - sizeof(PyObject));
     node->place = node->short_place;
+    node->keys = node->short_keys;
     return node;
 }
 
@@ -56,8 +57,11 @@ void node_dealloc(PyObject *self)
     mb_message_free(&node->handle);
     if (node->place != node->short_place)
         PyMem_Free(node->place);
-    PyMem_Free(node->keys);
+    if (node->keys != node->short_keys)
+        PyMem_Free(node->keys);
+    drop_view(node);
     Py_CLEAR(node->bytes);
+    Py_CLEAR(node->given);
     Py_CLEAR(node->key_objects);
     Py_CLEAR(node->root);
     Py_CLEAR(node->type);
@@ -84,38 +88,14 @@ PyObject *nothing_there(uint32_t answer)
 
 /* ---- Places ---- */
 
-void leave(struct reached *reached)
+/* Gives a part memory for this many steps, and for one more. Returns whether there was memory. */
+static bool has_place(Node *part, size_t steps)
 {
-    if (reached->place != reached->short_place)
-        PyMem_Free(reached->place);
-    if (reached->keys != reached->short_keys)
-        PyMem_Free(reached->keys);
-}
+    struct mb_value *place = steps < SHORT_PLACE ? part->short_place : PyMem_Malloc((steps + 1) * sizeof *place);
 
-bool reach(const Node *node, const struct mb_value *step, PyObject *key, struct reached *reached)
-{
-    size_t len = node->place_len + (step != NULL), keys_len = node->keys_len + (key != NULL);
-
-    reached->place = len <= 16 ? reached->short_place : PyMem_Malloc(len * sizeof *reached->place);
-    reached->keys = keys_len < 8 ? reached->short_keys : PyMem_Malloc((keys_len + 1) * sizeof *reached->keys);
-    if (reached->place == NULL || reached->keys == NULL) {
-        leave(reached);
-        PyErr_NoMemory();
-        return false;
-    }
-    for (size_t i = 0; i < node->place_len; i++)
-        reached->place[i] = node->place[i];
-    for (size_t i = 0; i < node->keys_len; i++)
-        reached->keys[i] = node->keys[i];
-    if (step != NULL)
-        reached->place[node->place_len] = *step;
-    if (key != NULL) {
-        reached->place[node->place_len].number = node->keys_len;
-        reached->keys[node->keys_len] = (struct mb_bytes){(const uint8_t *)PyBytes_AsString(key), (size_t)PyBytes_Size(key)};
-    }
-    reached->place_len = len;
-    reached->keys_len = keys_len;
-    return true;
+    if (place != NULL)
+        part->place = place;
+    return place != NULL;
 }
 
 /* Gives a part the keys of a node and one more, where it has one. Returns whether there was memory. */
@@ -125,15 +105,18 @@ static bool copy_keys(const Node *node, PyObject *key, Node *part)
 
     if (keys == 0)
         return true;
-    part->keys = PyMem_Malloc(keys * sizeof *part->keys);
+    struct mb_bytes *memory = PyMem_Malloc((keys + SHORT_KEYS) * sizeof *memory);
+    if (memory == NULL)
+        return false;
+    part->keys = memory;
     part->key_objects = PyTuple_New((Py_ssize_t)keys);
-    if (part->keys == NULL || part->key_objects == NULL)
+    if (part->key_objects == NULL)
         return false;
     for (size_t i = 0; i < keys; i++) {
         PyObject *object = i < node->keys_len ? PyTuple_GetItem(node->key_objects, (Py_ssize_t)i) : key;
         Py_INCREF(object);
         PyTuple_SetItem(part->key_objects, (Py_ssize_t)i, object);
-        part->keys[i] = (struct mb_bytes){(const uint8_t *)PyBytes_AsString(object), (size_t)PyBytes_Size(object)};
+        part->keys[i] = bytes_in(object);
     }
     part->keys_len = keys;
     return true;
@@ -146,9 +129,7 @@ Node *part_of(Node *node, PyObject *of, struct mb_value step, PyObject *key)
     if (part == NULL)
         return NULL;
     link_part(part, root_of(node));
-    if (node->place_len >= SHORT_PLACE && (part->place = PyMem_Malloc((node->place_len + 1) * sizeof *part->place)) == NULL)
-        part->place = part->short_place;
-    else if (copy_keys(node, key, part)) {
+    if (has_place(part, node->place_len + 1) && copy_keys(node, key, part)) {
         for (size_t i = 0; i < node->place_len; i++)
             part->place[i] = node->place[i];
         if (key != NULL)
@@ -178,13 +159,7 @@ int is_there(Node *node, const struct reached *place)
 void has_changed(Node *root)
 {
     Py_CLEAR(root->bytes);
-}
-
-bool has_parts(Node *node)
-{
-    Node *first = root_of(node)->parts;
-
-    return first != NULL && (first != node || first->next != NULL);
+    Py_CLEAR(root->given);
 }
 
 static bool is_key(const struct mb_value *step)
@@ -247,15 +222,10 @@ void lose_all(Node *root)
 /* Whether the message that a part is, or is in, is there; the part itself is not asked where it is a list or a map. */
 static int is_part_there(Node *part)
 {
-    struct reached place;
-    int answer;
+    struct reached place = reach(part, NULL, NULL);
 
-    if (!reach(part, NULL, NULL, &place))
-        return -1;
     place.place_len -= part->type == NULL;
-    answer = place.place_len == 0 ? 1 : is_there(part, &place);
-    leave(&place);
-    return answer;
+    return place.place_len == 0 ? 1 : is_there(part, &place);
 }
 
 bool before_merge(Node *root)

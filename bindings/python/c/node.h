@@ -6,13 +6,12 @@
 
 #define PLACE(node) (node)->place, (node)->place_len, (node)->keys, (node)->keys_len
 
-/* A place: on the stack where it is short. A string as a key is kept by whoever gave it. One more string has its memory after the keys. */
+/* A place one step further in than a node, or the node's own. It is in the memory of the node, so it holds until another place of that node is reached, as
+ * code of Python may do: a call reaches its place just before it calls the library. One more string may be put after the keys. */
 struct reached {
     struct mb_value *place;
     struct mb_bytes *keys;
     size_t place_len, keys_len;
-    struct mb_value short_place[16];
-    struct mb_bytes short_keys[8];
 };
 
 /* ---- Nodes and places (node.c) ---- */
@@ -22,9 +21,25 @@ static inline Node *root_of(Node *node)
     return node->root == NULL ? node : node->root;
 }
 
-/* Goes one step further in than a node, or to the node itself without a step. Returns whether there was memory; else an exception is set. */
-bool reach(const Node *node, const struct mb_value *step, PyObject *key, struct reached *reached);
-void leave(struct reached *reached);
+static inline struct mb_bytes bytes_in(PyObject *bytes)
+{
+    return (struct mb_bytes){(const uint8_t *)PyBytes_AsString(bytes), (size_t)PyBytes_Size(bytes)};
+}
+
+/* The place one step further in than a node, with a key that is a string where the step has one, or the node's own without a step. */
+static inline struct reached reach(Node *node, const struct mb_value *step, PyObject *key)
+{
+    struct reached reached = {node->place, node->keys, node->place_len, node->keys_len};
+
+    if (step != NULL)
+        reached.place[reached.place_len++] = *step;
+    if (key != NULL) {
+        reached.place[reached.place_len - 1].number = reached.keys_len;
+        reached.keys[reached.keys_len++] = bytes_in(key);
+    }
+    return reached;
+}
+
 /* The handle that a node's message is in, or NULL, with LookupError, where the node is gone. */
 struct mb_message *handle_of(Node *node);
 /* A part one step further in than a node, with the key of that step where it has one. */
@@ -36,7 +51,13 @@ PyObject *nothing_there(uint32_t answer);
 int is_there(Node *node, const struct reached *place);
 
 /* Whether a message has parts beside a node that a change there may concern. */
-bool has_parts(Node *node);
+static inline bool has_parts(Node *node)
+{
+    Node *first = root_of(node)->parts;
+
+    return first != NULL && (first != node || first->next != NULL);
+}
+
 /* What follows a change: what is in a place, and a message at it, is gone; the elements of a list have moved up in place of the one that the place ends
  * at; elements from `to` on have moved by `count`, which the last ones took the place of; all parts are gone. */
 void lose(Node *root, const struct reached *place);
@@ -46,27 +67,25 @@ void lose_all(Node *root);
 /* What a merge takes away: to be called before it, and after it. */
 bool before_merge(Node *root);
 bool after_merge(Node *root);
-/* Forgets the bytes of a message that has changed. */
+/* Forgets the bytes of a message that has changed: its canonical ones, and those that it was decoded from. */
 void has_changed(Node *root);
 
 /* ---- Canonical bytes (wire.c) ---- */
 
-/* A stretch of bytes. */
-struct span {
-    const uint8_t *at, *end;
-};
-
-/* A record: its number, how it is written, and its number or its bytes. A group's end tag is none of its bytes. */
+/* A record: its number, how it is written, and its number or its bytes. A group's end tag is none of its bytes. Its payload begins after the tag. */
 struct record {
     uint32_t number, wire;
     uint64_t bits;
     struct span inside;
+    const uint8_t *payload;
 };
 
 enum { WIRE_VARINT = 0, WIRE_64 = 1, WIRE_BYTES = 2, WIRE_GROUP = 3, WIRE_32 = 5 };
 
 /* Takes the next record off a stretch. Returns false at its end, or where it has no record. */
 bool next_record(struct span *span, struct record *record);
+/* Takes the payload of a record, after its tag. */
+bool next_payload(struct span *span, struct record *record);
 bool next_varint(struct span *span, uint64_t *number);
 /* How values of a kind are written, outside a packed list; and whether a record is written so. */
 uint32_t wire_of(uint32_t kind);
@@ -105,6 +124,28 @@ PyObject *bytes_of_small(Node *node, MessageType *type, size_t steps);
 /* Those of its known fields, without the unknown records that follow them. */
 bool known_span_of(Node *node, struct span *span, PyObject **held);
 
+/* ---- The bytes that a message was decoded from (given.c) ---- */
+
+/* A node's view of its own bytes: none, or one that was not looked at yet, or one that knows where each field begins. */
+enum { NO_VIEW = 0, UNREAD = 1, READ = 2 };
+
+/* A field of one value of a message, read of the bytes that were given: a scalar, of a field that is not set what it reads as. NULL where an exception is
+ * set, or where they don't say it, and the library has to be asked. */
+PyObject *given_value(Node *node, Field *field);
+/* Whether a field with presence is set, by the bytes that were given: 1, 0, or -1 where they don't say it. */
+int given_presence(Node *node, Field *field);
+/* Lets a part that is a message or a list know its own bytes, where the message that it is in knows its own. */
+void give_part(Node *part, Node *node, Field *field);
+/* An element of a list, where the bytes that were given say it: 1, 0 where the list is shorter, or -1 where the library has to be asked. */
+int given_element(Node *list, size_t index, struct record *element);
+/* Lets a part that is an element of a list know its own bytes. */
+void give_element(Node *part, const struct record *element);
+/* Whether a part that is a message is there: 1, 0, or -1 where the bytes don't say it. */
+int given_message(Node *part);
+/* How many elements a list has, or -1. */
+Py_ssize_t given_length(Node *list);
+void drop_view(Node *node);
+
 /* ---- Values (values.c) ---- */
 
 /* A value as the library takes it; held keeps the bytes of a string or of bytes. */
@@ -137,8 +178,8 @@ extern const char frame_doc[], copy_doc[], merge_doc[], which_oneof_doc[];
 
 /* ---- Parts (message.c, list.c, map.c) ---- */
 
-/* The field of a name, of a number, or of a Field, in a message; NULL with KeyError. The reference is borrowed. */
-Field *field_of(Node *node, PyObject *name);
+/* A list, a map or a message one step further in than a node, as a part. */
+PyObject *make_part(Node *node, PyObject *of, struct mb_value step, PyObject *key, Field *field);
 /* What is one step further in than a node, of a field; NULL, with an exception, or without one where nothing is there. */
 PyObject *inner(Node *node, struct mb_value step, PyObject *key, Field *field);
 PyObject *value_at(const struct reached *place, struct mb_message *handle, const struct mb_value *value);

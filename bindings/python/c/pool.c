@@ -92,6 +92,7 @@ static PyObject *new_pool(PyTypeObject *type, struct linking *it, bool is_set, P
     }
     pool->handle = it->handle;
     pool->left_out = (Py_ssize_t)it->left_out;
+    pool->has_proto2 = pool_has_proto2(&pool->handle);
     pool->names = PyDict_New();
     pool->numbers = PyDict_New();
     pool->origin = Py_BuildValue("ONO", is_set ? Py_True : Py_False, is_set ? PyBytes_FromObject(given) : PyList_AsTuple(given),
@@ -112,7 +113,11 @@ static PyObject *pool_new(PyTypeObject *type, PyObject *args, PyObject *kwargs)
     if (!PyArg_ParseTupleAndKeywords(args, kwargs, "O|p", names, &set, &is_lenient) || !take_input(set, &it.set))
         return NULL;
     it.is_lenient = is_lenient != 0;
-    PyObject *pool = run_link(&it, link_set, it.set.is_fixed, NULL) ? new_pool(type, &it, true, set) : NULL;
+    PyObject *pool = NULL;
+    if (run_link(&it, link_set, it.set.is_fixed, NULL))
+        pool = new_pool(type, &it, true, set);
+    else
+        add_hint("hint_of_set", set);
     drop_input(&it.set);
     return pool;
 }
@@ -166,10 +171,10 @@ static PyObject *items_of(PyObject *sources)
 }
 
 PyDoc_STRVAR(of_sources_doc,
-"of_sources($type, sources, *, lenient=False)\n--\n\nLinks sources of proto3: a mapping from their names, as imports name them, to their texts (str or bytes). What they\n"
-"import has to be among them, google/protobuf/timestamp.proto too. With lenient=True sources of proto2 are taken too, and what declares no message,\n"
-"enum or service is read and left out, as parts of an option's name in parentheses, constants in braces, default values,\n"
-"blocks of extend and ranges of extensions; a map in a file of proto2 whose values are of an enum is the list of its entries.");
+"of_sources($type, sources, *, lenient=False)\n--\n\n"
+"Makes a pool of proto3 sources: a mapping from names, as imports use them, to sources, each str or bytes. Imported files must be among them,"
+"\ngoogle/protobuf/timestamp.proto too. lenient=True also takes proto2. It leaves out extensions, custom options and default values, and reads a map of a"
+"\nclosed enum as the list of its entries. Raises Refused if a source is refused.");
 
 static PyObject *pool_of_sources(PyObject *type, PyObject *args, PyObject *kwargs)
 {
@@ -194,7 +199,10 @@ static PyObject *pool_of_sources(PyObject *type, PyObject *args, PyObject *kwarg
         else if (list_sources(items, listed, held, names)) {
             it.names = listed;
             it.texts = listed + it.count;
-            pool = run_link(&it, link_sources, true, names) ? new_pool((PyTypeObject *)type, &it, false, items) : NULL;
+            if (run_link(&it, link_sources, true, names))
+                pool = new_pool((PyTypeObject *)type, &it, false, items);
+            else
+                add_hint("hint_of_sources", items);
         }
     }
     PyMem_Free(listed);
@@ -242,13 +250,7 @@ static PyObject *pool_get(PyObject *self, PyObject *name)
 {
     PyObject *found = find_type((Pool *)self, name);
 
-    if (found == NULL && !PyErr_Occurred()) {
-        PyObject *line = PyUnicode_FromFormat("type %U unknown", name);
-        if (line != NULL)
-            PyErr_SetObject(PyExc_KeyError, line);
-        Py_XDECREF(line);
-    }
-    return found;
+    return found != NULL || PyErr_Occurred() ? found : refuse_name("type", self, name);
 }
 
 static int pool_contains(PyObject *self, PyObject *name)
@@ -282,6 +284,7 @@ MessageType *type_by_number(Pool *pool, uint32_t number, PyObject *name)
             made->by_number = NULL;
             made->count = 0;
             made->has_enums = false;
+            memset(made->recent, 0, sizeof made->recent);
             PyObject_GC_Track((PyObject *)made);
             if (made->name == NULL || made->fields == NULL || PyDict_SetItem(pool->numbers, key, (PyObject *)made) < 0)
                 Py_CLEAR(made);
@@ -293,7 +296,7 @@ MessageType *type_by_number(Pool *pool, uint32_t number, PyObject *name)
 }
 
 PyDoc_STRVAR(schema_doc,
-"schema($self, /)\n--\n\nWhat the pool declares, in the order of its set: files, types and enums, lists of named tuples.");
+"schema($self, /)\n--\n\nReturns all that the pool declares, in the order of its set: the lists files, types and enums of named tuples.");
 
 static PyObject *pool_schema(PyObject *self, PyObject *Py_UNUSED(ignored))
 {
@@ -301,7 +304,7 @@ static PyObject *pool_schema(PyObject *self, PyObject *Py_UNUSED(ignored))
 }
 
 PyDoc_STRVAR(to_set_doc,
-"to_set($self, /)\n--\n\nA descriptor set of the pool's types: Pool(pool.to_set()) has the same ones. Services and options, which a pool does not hold, are not in it.");
+"to_set($self, /)\n--\n\nReturns a descriptor set of the types, without services and options. Pool(pool.to_set()) has the same types.");
 
 static PyObject *pool_to_set(PyObject *self, PyObject *Py_UNUSED(ignored))
 {

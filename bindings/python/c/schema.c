@@ -117,6 +117,19 @@ PyObject *pool_counts(PyObject *self, PyObject *Py_UNUSED(ignored))
     return Py_BuildValue("nnn", (Py_ssize_t)counts.files, (Py_ssize_t)counts.messages, (Py_ssize_t)counts.enums);
 }
 
+bool pool_has_proto2(struct mb_pool *pool)
+{
+    struct mb_file file = {0, 0, 0, 0};
+    uint32_t answer = MB_DONE;
+
+    for (size_t i = 0; answer == MB_DONE; i++) {
+        answer = mb_pool_file(pool, i, &file, NULL, 0);
+        if (answer == MB_DONE && file.proto2)
+            return true;
+    }
+    return answer != MB_ABSENT;
+}
+
 PyObject *pool_file(PyObject *self, PyObject *args)
 {
     Py_ssize_t index;

@@ -77,7 +77,6 @@ static bool move(Node *node, size_t to, size_t count, size_t length)
 {
     struct moved moved = {to, length - count, length, 0, NULL, NULL, NULL};
     struct span inside;
-    struct reached list;
     PyObject *held;
 
     if (!span_in_root(node, &inside, &held))
@@ -86,12 +85,11 @@ static bool move(Node *node, size_t to, size_t count, size_t length)
     bool is_done = moved.to_at != NULL && moved.from_at != NULL && moved.end != NULL;
     if (!is_done)
         nothing_there(MB_ABSENT);
-    is_done = is_done && exchange(root_of(node), held, &moved) && reach(node, NULL, NULL, &list);
+    is_done = is_done && exchange(root_of(node), held, &moved);
     Py_DECREF(held);
-    if (is_done) {
+    struct reached list = reach(node, NULL, NULL);
+    if (is_done)
         move_elements(root_of(node), &list, to, count, length);
-        leave(&list);
-    }
     return is_done;
 }
 

@@ -57,14 +57,16 @@ static PyObject *end(struct call *call, PyObject *answer)
 {
     drop_input(&call->in);
     if (call->answer != MB_DONE && !PyErr_Occurred())
-        refuse(call->answer, &call->report);
+        refuse_message(call->answer, &call->report, (PyObject *)call->type);
     if (PyErr_Occurred())
         Py_CLEAR(answer);
     return answer;
 }
 
 PyDoc_STRVAR(check_doc,
-"check($self, data, /, *, max_bytes=2147483647, max_depth=100)\n--\n\nRaises Refused where the bytes are no message of this type. Builds nothing.");
+"check($self, data, /, *, max_bytes=2147483647, max_depth=100)\n--\n\n"
+"Checks that bytes are a message of this type. Builds nothing. Raises Refused if they are not."
+"\nmax_bytes and max_depth are the most bytes and levels that a message may have.");
 
 static PyObject *type_check(PyObject *self, PyObject *args, PyObject *kwargs)
 {
@@ -131,7 +133,8 @@ static PyObject *written(PyObject *self, PyObject *args, PyObject *kwargs, write
 }
 
 PyDoc_STRVAR(canonical_doc,
-"canonical($self, data, /, *, max_bytes=2147483647, max_depth=100)\n--\n\nThe canonical bytes of a message.");
+"canonical($self, data, /, *, max_bytes=2147483647, max_depth=100)\n--\n\n"
+"Returns the canonical bytes of the message that the bytes encode. Raises Refused as check does.");
 
 static PyObject *type_canonical(PyObject *self, PyObject *args, PyObject *kwargs)
 {
@@ -139,8 +142,9 @@ static PyObject *type_canonical(PyObject *self, PyObject *args, PyObject *kwargs
 }
 
 PyDoc_STRVAR(listing_doc,
-"listing($self, data, /, *, decimal=False, max_bytes=2147483647, max_depth=100)\n--\n\nThe listing of a message, as `pbtool show` prints it; with decimal=True each"
-"\nfloat as the shortest decimal that reads back to the same bits.");
+"listing($self, data, /, *, decimal=False, max_bytes=2147483647, max_depth=100)\n--\n\n"
+"Returns the listing that `pbtool show` prints of the message that the bytes encode. With decimal=True a float is the shortest decimal that reads"
+"\nback to the same bits. Raises Refused as check does.");
 
 /* Takes a flag out of the keywords. Returns 1, 0, or -1 with an exception; the other keywords are in a new dict, or NULL. */
 static int take_flag(PyObject *kwargs, const char *name, PyObject **rest)
@@ -167,7 +171,8 @@ static PyObject *type_listing(PyObject *self, PyObject *args, PyObject *kwargs)
 }
 
 PyDoc_STRVAR(decode_doc,
-"decode($self, data, /, *, max_bytes=2147483647, max_depth=100)\n--\n\nThe message that the bytes are.");
+"decode($self, data, /, *, max_bytes=2147483647, max_depth=100)\n--\n\n"
+"Returns the message that the bytes encode. Raises Refused as check does.");
 
 static PyObject *type_decode(PyObject *self, PyObject *args, PyObject *kwargs)
 {
@@ -182,12 +187,15 @@ static PyObject *type_decode(PyObject *self, PyObject *args, PyObject *kwargs)
     }
     message->hint = call.in.len;
     RUN(&call, is_long(&call), CALL(&call, mb_message_decode, &message->handle));
+    if (call.answer == MB_DONE)
+        keep_given(message, &call.in);
     return end(&call, (PyObject *)message);
 }
 
 PyDoc_STRVAR(from_json_doc,
-"from_json($self, text, *, ignore_unknown=False, lenient=False)\n--\n\nThe message that a JSON text is (ProtoJSON), a str or bytes in UTF-8. With"
-"\nignore_unknown=True members that no field has are passed over, and strings that an enum does not declare; lenient is an older name of this flag.");
+"from_json($self, text, *, ignore_unknown=False, lenient=False)\n--\n\n"
+"Returns the message of a JSON text (ProtoJSON), a str or bytes in UTF-8. Raises Refused if it has none. ignore_unknown=True skips members that no"
+"\nfield has, and strings that an enum does not declare. lenient is an older name of this flag.");
 
 /* Reads the arguments (text, *, ignore_unknown) of a method; lenient is an older name of the flag. A str is taken as its bytes in UTF-8. */
 static bool begin_json(struct call *call, PyObject *self, PyObject *args, PyObject *kwargs, const char *format)
@@ -210,8 +218,10 @@ static bool begin_json(struct call *call, PyObject *self, PyObject *args, PyObje
 
 static PyObject *end_json(struct call *call, PyObject *answer)
 {
-    if (call->answer >= MB_JSON_UNEXPECTED_BYTE && call->answer <= MB_JSON_BAD_VALUE)
+    if (call->answer >= MB_JSON_UNEXPECTED_BYTE && call->answer <= MB_JSON_BAD_VALUE) {
         refuse_text(call->answer, call->byte);
+        add_hint("hint_of_json", call->in.held);
+    }
     return end(call, answer);
 }
 
@@ -233,7 +243,8 @@ static PyObject *type_from_json(PyObject *self, PyObject *args, PyObject *kwargs
 }
 
 PyDoc_STRVAR(canonical_from_json_doc,
-"canonical_from_json($self, text, *, ignore_unknown=False, lenient=False)\n--\n\nThe canonical bytes of the message that a JSON text is, which is read as from_json reads it.");
+"canonical_from_json($self, text, *, ignore_unknown=False, lenient=False)\n--\n\n"
+"Returns the canonical bytes of the message that from_json returns.");
 
 static PyObject *type_canonical_from_json(PyObject *self, PyObject *args, PyObject *kwargs)
 {
@@ -244,7 +255,7 @@ static PyObject *type_canonical_from_json(PyObject *self, PyObject *args, PyObje
     return end_json(&call, write_all(&call, NULL, call.in.len, as_bytes));
 }
 
-PyDoc_STRVAR(new_doc, "new($self, /)\n--\n\nAn empty message. Order() is the same.");
+PyDoc_STRVAR(new_doc, "new($self, /)\n--\n\nReturns an empty message. Order() is the same.");
 
 static PyObject *type_empty(PyObject *self, PyObject *Py_UNUSED(ignored))
 {
@@ -261,8 +272,9 @@ static PyObject *type_empty(PyObject *self, PyObject *Py_UNUSED(ignored))
 }
 
 PyDoc_STRVAR(from_dict_doc,
-"from_dict($self, fields, /)\n--\n\nA message with these fields, by their names, as to_dict gives them: messages and maps are dicts, lists are lists. A message may"
-"\nalso be given as one, and the value of an enum by its name. Order(number=1) is the same as Order.from_dict({\"number\": 1}).");
+"from_dict($self, fields, /)\n--\n\n"
+"Returns a message with these fields, by name, as to_dict gives them. Messages and maps are dicts, lists are lists. A message may also be given as"
+"\na message, and an enum value by its name. Order(number=1) is the same as Order.from_dict({\"number\": 1}).");
 
 static PyObject *type_from_dict(PyObject *self, PyObject *fields)
 {
@@ -292,20 +304,6 @@ static Py_ssize_t signed_size(size_t size)
     return size > PY_SSIZE_T_MAX ? PY_SSIZE_T_MAX : (Py_ssize_t)size;
 }
 
-/* Puts the size of a refused frame, if it is known, into the exception that is set. */
-static void add_size(size_t size)
-{
-    PyObject *kind, *refused, *trace;
-
-    PyErr_Fetch(&kind, &refused, &trace);
-    PyErr_NormalizeException(&kind, &refused, &trace);
-    PyObject *number = size == 0 ? NULL : PyLong_FromSsize_t(signed_size(size));
-    if (number != NULL)
-        PyObject_SetAttrString(refused, "size", number);
-    Py_XDECREF(number);
-    PyErr_Restore(kind, refused, trace);
-}
-
 static PyObject *type_frame(PyObject *self, PyObject *args)
 {
     PyObject *data;
@@ -327,15 +325,19 @@ static PyObject *type_frame(PyObject *self, PyObject *args)
     if (call.answer == MB_PART)
         call.answer = MB_DONE;
     PyObject *answer = end(&call, call.answer == MB_DONE ? Py_BuildValue("nnO", (Py_ssize_t)frame.begin, signed_size(frame.end), is_whole ? Py_True : Py_False) : NULL);
-    if (is_refused)
-        add_size(frame.end);
+    if (is_refused && frame.end != 0) {
+        PyObject *size = PyLong_FromSsize_t(signed_size(frame.end));
+        add_attribute("size", size);
+        Py_XDECREF(size);
+    }
     return answer;
 }
 
 PyDoc_STRVAR(frames_doc,
-"frames($self, source, /, *, skip=None, max_bytes=2147483647, max_depth=100)\n--\n\nReads a stream of messages, each after its length: a file, or bytes. Gives of"
-"\neach a Frame: at, where it begins in the stream, size, with its length, and data, the bytes of its message. A frame that is refused raises\n"
-"Refused, with number and at; where skip is a function, it is called with that exception, and the frames after it are read.");
+"frames($self, source, /, *, skip=None, max_bytes=2147483647, max_depth=100)\n--\n\n"
+"Reads a stream in which the length of each message comes before it. The source is a binary file or bytes. The iterator gives a Frame for each"
+"\nmessage: at is where the frame begins, size the number of its bytes, and data the bytes of the message. If a message is refused, it calls skip with the"
+"\nexception and goes on. Without skip it raises Refused, and the next call of next() goes on after the frame.");
 
 static PyObject *type_frames(PyObject *self, PyObject *args, PyObject *kwargs)
 {
@@ -379,30 +381,28 @@ static PyObject *found_value(const struct mb_value *value, const uint8_t *at)
     case MB_BYTES:
         return as_bytes(at, (size_t)value->number);
     case MB_UINT32: case MB_UINT64:
-        return PyLong_FromUnsignedLongLong(value->number);
+        return as_unsigned(value->number);
     default:
-        return PyLong_FromLongLong((long long)value->number);
+        return as_signed(value->number);
     }
 }
 
-/* Reads the numbers of fields after the first argument. Returns how many, or -1. */
-static Py_ssize_t find_numbers(PyObject *args, uint32_t *numbers)
+/* Reads the numbers of fields after the first argument, for _find. Returns whether it could. */
+static bool find_numbers(MessageType *Py_UNUSED(type), PyObject *args, Py_ssize_t count, uint32_t *numbers, struct mb_field *Py_UNUSED(last))
 {
-    Py_ssize_t count = PyTuple_Size(args) - 1;
-
     for (Py_ssize_t i = 0; i < count; i++) {
         unsigned long number = PyLong_AsUnsignedLong(PyTuple_GetItem(args, i + 1));
         if (PyErr_Occurred())
-            return -1;
+            return false;
         numbers[i] = number <= UINT32_MAX ? (uint32_t)number : 0;
     }
-    return count;
+    return true;
 }
 
 /* Goes one name on: the field's declaration and number, and the type of its message where another name follows. Returns whether it could. */
 static bool find_step(MessageType **type, PyObject *name, bool is_last, uint32_t *number, struct mb_field *is)
 {
-    Field *field = field_by_name(*type, name);
+    Field *field = field_of(*type, name);
     MessageType *inner = NULL;
 
     if (field == NULL)
@@ -421,25 +421,16 @@ static bool find_step(MessageType **type, PyObject *name, bool is_last, uint32_t
     return !PyErr_Occurred();
 }
 
-/* Reads the names of fields after the first argument: the last one's declaration, and the number of each. Returns how many, or -1. */
-static Py_ssize_t find_path(MessageType *type, PyObject *args, uint32_t *numbers, struct mb_field *last)
+/* Reads the fields that are named after the first argument: the last one's declaration, and the number of each. Returns whether it could. */
+static bool find_path(MessageType *type, PyObject *args, Py_ssize_t count, uint32_t *numbers, struct mb_field *last)
 {
-    Py_ssize_t count = PyTuple_Size(args) - 1;
-
-    if (count < 1 || count > MB_MAX_DEPTH + 1) {
-        PyErr_SetString(PyExc_TypeError, "find takes the bytes and the names of fields, from the outermost on");
-        return -1;
-    }
-    *last = (struct mb_field){0, 0, SHAPE_OPTIONAL, 0, 0};
-    if (PyLong_Check(PyTuple_GetItem(args, 1)))
-        return find_numbers(args, numbers);
     Py_INCREF(type);
     for (Py_ssize_t i = 0; i < count; i++)
         if (!find_step(&type, PyTuple_GetItem(args, i + 1), i + 1 == count, &numbers[i], last)) {
             Py_XDECREF(type);
-            return -1;
+            return false;
         }
-    return count;
+    return true;
 }
 
 /* Whether the message that holds the last field of a path is there, of bytes that are a message: 1, 0, or -1 with an exception. */
@@ -494,11 +485,14 @@ static bool find_limits(PyObject *kwargs, struct limits *limits)
     return is_read && set_limits(max_bytes, max_depth, limits);
 }
 
-static PyObject *find(PyObject *self, PyObject *args, PyObject *kwargs, PyObject *(*made)(const struct mb_value *, const uint8_t *))
+/* Reads the path after the first argument. Returns whether it could. */
+typedef bool path_reader(MessageType *, PyObject *, Py_ssize_t, uint32_t *, struct mb_field *);
+
+static PyObject *find(PyObject *self, PyObject *args, PyObject *kwargs, path_reader *read, PyObject *(*made)(const struct mb_value *, const uint8_t *))
 {
-    Py_ssize_t count;
+    Py_ssize_t count = PyTuple_Size(args) - 1;
     uint32_t numbers[MB_MAX_DEPTH + 1];
-    struct mb_field last;
+    struct mb_field last = {0, 0, SHAPE_OPTIONAL, 0, 0};
     struct mb_value value = {0, 0};
     struct call call;
     uint8_t small[256], *out = small;
@@ -507,9 +501,12 @@ static PyObject *find(PyObject *self, PyObject *args, PyObject *kwargs, PyObject
 
     if (!find_limits(kwargs, &call.limits))
         return NULL;
+    if (count < 1 || count > MB_MAX_DEPTH + 1) {
+        PyErr_SetString(PyExc_TypeError, "find takes the bytes and the names of fields, from the outermost on");
+        return NULL;
+    }
     call.type = (MessageType *)self;
-    count = find_path(call.type, args, numbers, &last);
-    if (count < 0 || !take_input(PyTuple_GetItem(args, 0), &call.in))
+    if (!read(call.type, args, count, numbers, &last) || !take_input(PyTuple_GetItem(args, 0), &call.in))
         return NULL;
     for (;;) {
         RUN(&call, is_long(&call), CALL(&call, mb_find, numbers, (size_t)count, &value, out, out_len));
@@ -533,21 +530,21 @@ static PyObject *find(PyObject *self, PyObject *args, PyObject *kwargs, PyObject
 }
 
 PyDoc_STRVAR(find_doc,
-"find($self, data, /, *names, max_bytes=2147483647, max_depth=100)\n--\n\nThe value of one field, read from the bytes of a message without building it, which are"
-"\nchecked as check does: find(data, \"number\"), find(data, \"invoice\", \"address\"), or find(data, 6, 1) by numbers. Where it is not set"
-"\nthe default of a field with implicit presence that is named, if the message that it belongs to is there, else None. The names lead through"
-"\nmessages: a list, a map, or a message at the end is TypeError.");
+"find($self, data, /, *fields, max_bytes=2147483647, max_depth=100)\n--\n\n"
+"Returns one scalar of the message that the bytes encode. It checks all bytes, but builds no message: find(data, \"number\"),"
+"\nfind(data, \"invoice\", \"address\"). Each field is a name, a number or a Field. If the last field is not set, the result is None, but the default value if its"
+"\nshape is implicit and the message that has it is set. A list or map, or a message at the end, raises TypeError.");
 
 static PyObject *type_find(PyObject *self, PyObject *args, PyObject *kwargs)
 {
-    return find(self, args, kwargs, found_value);
+    return find(self, args, kwargs, find_path, found_value);
 }
 
 PyDoc_STRVAR(find_reported_doc, "_find($self, data, /, *numbers)\n--\n\nAs find, with the kind and the number of the value, or its bytes.");
 
 static PyObject *type_find_reported(PyObject *self, PyObject *args, PyObject *kwargs)
 {
-    return find(self, args, kwargs, found_reported);
+    return find(self, args, kwargs, find_numbers, found_reported);
 }
 
 static PyObject *type_repr(PyObject *self)
@@ -565,6 +562,8 @@ static int type_traverse(PyObject *self, visitproc visit, void *arg)
 
 static int type_clear(PyObject *self)
 {
+    for (size_t i = 0; i < RECENT; i++)
+        Py_CLEAR(((MessageType *)self)->recent[i].name);
     PyMem_Free(((MessageType *)self)->by_number);
     ((MessageType *)self)->by_number = NULL;
     ((MessageType *)self)->count = 0;
@@ -610,6 +609,7 @@ PyObject *make_message_type_type(void)
         {"new", type_empty, METH_NOARGS, new_doc},
         {"from_dict", type_from_dict, METH_O, from_dict_doc},
         {"field", type_field, METH_O, field_doc},
+        {"place", type_place, METH_O, place_doc},
         {"compat", type_compat, METH_O, compat_doc},
         {"witness", type_witness, METH_VARARGS, witness_doc},
         {"frames", KEYWORDS(type_frames), METH_VARARGS | METH_KEYWORDS, frames_doc},

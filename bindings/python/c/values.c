@@ -73,13 +73,17 @@ static bool give_signed(PyObject *object, struct given *given)
     long long number = PyLong_AsLongLongAndOverflow(object, &overflow);
 
     given->value.number = (uint64_t)number;
-    return overflow == 0 && !PyErr_Occurred() && (has_64_bits(given->value.kind) || (number >= INT32_MIN && number <= INT32_MAX));
+    if (number == -1 && (overflow != 0 || PyErr_Occurred()))
+        return false;
+    return (number >= INT32_MIN && number <= INT32_MAX) || has_64_bits(given->value.kind);
 }
 
 static bool give_unsigned(PyObject *object, struct given *given)
 {
     given->value.number = PyLong_AsUnsignedLongLong(object);
-    return !PyErr_Occurred() && (has_64_bits(given->value.kind) || given->value.number <= UINT32_MAX);
+    if (given->value.number == UINT64_MAX && PyErr_Occurred())
+        return false;
+    return given->value.number <= UINT32_MAX || has_64_bits(given->value.kind);
 }
 
 static bool give_real(uint32_t kind, PyObject *object, struct given *given)
@@ -107,10 +111,7 @@ static bool give_named(Field *field, PyObject *name, struct given *given)
 
     if (numbers != NULL && number == NULL && PyErr_ExceptionMatches(PyExc_KeyError)) {
         PyErr_Clear();
-        PyObject *full = full_name(field);
-        if (full != NULL)
-            PyErr_Format(PyExc_ValueError, "%U takes a value of %U, which has none of the name %R", full, of, name);
-        Py_XDECREF(full);
+        refuse_name("value", (PyObject *)field, name);
     }
     Py_XDECREF(number);
     Py_XDECREF(numbers);
@@ -121,7 +122,7 @@ static bool give_named(Field *field, PyObject *name, struct given *given)
 /* What an object is as a value of a kind: 1, 0 where it is of another type, or -1 where it is out of range, or with an exception. */
 static int give_kind(uint32_t kind, PyObject *object, struct given *given)
 {
-    bool is_integer = PyLong_Check(object) && !PyBool_Check(object);
+    bool is_integer = Py_TYPE(object) == &PyLong_Type || (PyLong_Check(object) && !PyBool_Check(object));
 
     *given = (struct given){{kind, 0}, NULL};
     switch (kind) {

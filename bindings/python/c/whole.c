@@ -42,8 +42,9 @@ PyObject *message_compare(PyObject *self, PyObject *other, int how)
     return PyBool_FromLong((is_equal == 1) == (how == Py_EQ));
 }
 
-const char frame_doc[] = "frame($self, /)\n--\n\nThe message as a frame of a stream: the number of its canonical bytes as a varint, and then these."
-                         " type.frames reads such a stream.";
+const char frame_doc[] =
+"frame($self, /)\n--\n\n"
+"Returns the message as a frame of a stream: the number of its canonical bytes as a varint, and then these bytes. type.frames reads such a stream.";
 
 static PyObject *frame_of(struct mb_message *handle)
 {
@@ -72,8 +73,9 @@ PyObject *message_frame(PyObject *self, PyObject *Py_UNUSED(ignored))
     return bytes;
 }
 
-const char copy_doc[] = "copy($self, /)\n--\n\nA copy, which is changed by itself; of a part a message that is no part. copy.copy(message) and copy.deepcopy(message)"
-                        " are the same.";
+const char copy_doc[] =
+"copy($self, /)\n--\n\n"
+"Returns an independent copy. The copy of a part is a whole message. copy.copy(message) and copy.deepcopy(message) are the same.";
 
 PyObject *message_copy(PyObject *self, PyObject *Py_UNUSED(ignored))
 {
@@ -99,8 +101,9 @@ PyObject *message_deep_copy(PyObject *self, PyObject *Py_UNUSED(memo))
 }
 
 const char merge_doc[] =
-"merge($self, data, /, *, max_bytes=2147483647, max_depth=100)\n--\n\nDecodes bytes onto the message, or the canonical bytes of another message of its type: "
-"then it is what its canonical bytes\nfollowed by these decode to. Where they are refused the message is as it was.";
+"merge($self, data, /, *, max_bytes=2147483647, max_depth=100)\n--\n\n"
+"Decodes bytes, or another message of the type, onto this one, as if they came after its own canonical bytes. If they are refused, the message is"
+"\nas it was.";
 
 /* The bytes of a message of the same type, or the data itself. */
 static PyObject *merged(Node *node, PyObject *data)
@@ -124,7 +127,7 @@ static PyObject *merge(Node *node, const struct input *in, const struct limits *
         return NULL;
     uint32_t answer = mb_message_merge(&node->handle, in->at, in->len, limits->max_bytes, limits->max_depth, &report.fault, report.path, MB_MAX_STEPS);
     if (answer != MB_DONE)
-        return refuse(answer, &report);
+        return refuse_message(answer, &report, (PyObject *)node->type);
     node->hint += in->len;
     has_changed(node);
     if (!after_merge(node))
@@ -153,7 +156,9 @@ PyObject *message_merge(PyObject *self, PyObject *args, PyObject *kwargs)
     return answer;
 }
 
-const char which_oneof_doc[] = "which_oneof($self, name, /)\n--\n\nThe name of the field that is set of a oneof, or None.";
+const char which_oneof_doc[] =
+"which_oneof($self, name, /)\n--\n\n"
+"Returns the name of the field that is set of a oneof, or None. Raises KeyError if the type has no such oneof.";
 
 /* The index of the oneof of a name in a type, or -1 with an exception. */
 static Py_ssize_t oneof_index(MessageType *type, PyObject *name)
@@ -173,10 +178,7 @@ static Py_ssize_t oneof_index(MessageType *type, PyObject *name)
         }
     }
     Py_DECREF(found);
-    found = PyUnicode_FromFormat("oneof %S unknown", name);
-    if (found != NULL)
-        PyErr_SetObject(PyExc_KeyError, found);
-    Py_XDECREF(found);
+    refuse_name("oneof", (PyObject *)type, name);
     return -1;
 }
 

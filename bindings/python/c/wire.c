@@ -8,6 +8,10 @@ bool next_varint(struct span *span, uint64_t *number)
 {
     uint64_t found = 0;
 
+    if (span->at < span->end && *span->at < 128) {
+        *number = *span->at++;
+        return true;
+    }
     for (unsigned shift = 0; span->at < span->end && shift < 64; shift += 7) {
         uint8_t byte = *span->at++;
         found |= (uint64_t)(byte & 127) << shift;
@@ -19,17 +23,14 @@ bool next_varint(struct span *span, uint64_t *number)
     return false;
 }
 
-/* Takes a number of this many bytes, the least first. */
-static bool next_fixed(struct span *span, size_t size, uint64_t *number)
+/* Takes a number of this many bytes, the least first, as this processor has it. */
+static inline bool next_fixed(struct span *span, size_t size, uint64_t *number)
 {
-    uint64_t found = 0;
-
     if ((size_t)(span->end - span->at) < size)
         return false;
-    for (size_t i = 0; i < size; i++)
-        found |= (uint64_t)span->at[i] << (8 * i);
+    *number = 0;
+    memcpy(number, span->at, size);
     span->at += size;
-    *number = found;
     return true;
 }
 
@@ -44,14 +45,15 @@ static bool next_bytes(struct span *span, struct span *inside)
     return true;
 }
 
-/* Advances past the payload of a record that is no group. */
-static bool next_payload(struct span *span, struct record *record)
+bool next_payload(struct span *span, struct record *record)
 {
     switch (record->wire) {
     case WIRE_VARINT:
         return next_varint(span, &record->bits);
-    case WIRE_64: case WIRE_32:
-        return next_fixed(span, record->wire == WIRE_64 ? 8 : 4, &record->bits);
+    case WIRE_64:
+        return next_fixed(span, 8, &record->bits);
+    case WIRE_32:
+        return next_fixed(span, 4, &record->bits);
     case WIRE_BYTES:
         return next_bytes(span, &record->inside);
     default:
@@ -71,7 +73,7 @@ static bool next_group(struct span *span, struct record *group)
         group->inside.end = span->at;
         if (!next_varint(span, &tag))
             return false;
-        struct record inner = {(uint32_t)(tag >> 3), tag & 7, 0, {NULL, NULL}};
+        struct record inner = {(uint32_t)(tag >> 3), tag & 7, 0, {NULL, NULL}, NULL};
         if (inner.wire == WIRE_GROUP)
             open++;
         else if (inner.wire == WIRE_END)
@@ -88,7 +90,7 @@ bool next_record(struct span *span, struct record *record)
 
     if (!next_varint(span, &tag))
         return false;
-    *record = (struct record){(uint32_t)(tag >> 3), tag & 7, 0, {NULL, NULL}};
+    *record = (struct record){(uint32_t)(tag >> 3), tag & 7, 0, {NULL, NULL}, span->at};
     return record->wire == WIRE_GROUP ? next_group(span, record) : next_payload(span, record);
 }
 
@@ -124,7 +126,9 @@ bool next_packed(struct span *span, uint32_t kind, uint64_t *bits)
 {
     uint32_t wire = wire_of(kind);
 
-    return wire == WIRE_VARINT ? next_varint(span, bits) : next_fixed(span, wire == WIRE_64 ? 8 : 4, bits);
+    if (wire == WIRE_VARINT)
+        return next_varint(span, bits);
+    return wire == WIRE_64 ? next_fixed(span, 8, bits) : next_fixed(span, 4, bits);
 }
 
 uint64_t number_of(uint32_t kind, uint64_t bits)
@@ -162,9 +166,9 @@ PyObject *wire_value(uint32_t kind, const struct record *record)
     case MB_BYTES:
         return as_bytes(record->inside.at, (size_t)(record->inside.end - record->inside.at));
     case MB_UINT32: case MB_UINT64: case KIND_FIXED32: case KIND_FIXED64:
-        return PyLong_FromUnsignedLongLong(number);
+        return as_unsigned(number);
     default:
-        return PyLong_FromLongLong((long long)number);
+        return as_signed(number);
     }
 }
 

@@ -7,14 +7,15 @@
     order = Order.decode(open("shop_order.bin", "rb").read())
     print(order)
 
-What is refused raises Refused, with the byte, the path and the cause; an unknown name KeyError; and when memory runs out MemoryError.
+Bytes, a set, sources or JSON that are wrong raise Refused, with the byte, the path and the cause. A name that is not declared raises KeyError. If memory
+runs out, a call raises MemoryError.
 """
 from ._frames import Frame, Frames
 from ._mabristu import INTERFACE, MAX_BYTES, MAX_DEPTH, Decoder, Field, List, Map, Message, MessageType, Pool, raw_check, raw_short
-from ._refused import CAUSES, Refused
+from ._refused import CAUSES, Refused, UnknownName
 from ._schema import DeclaredEnum, DeclaredFile, DeclaredType, Difference, Enum, Schema
 from . import _parts as _parts
 
 __version__ = "0.1.0"
 __all__ = ["CAUSES", "DeclaredEnum", "DeclaredFile", "DeclaredType", "Decoder", "Difference", "Enum", "Field", "Frame", "Frames", "INTERFACE", "List",
-           "MAX_BYTES", "MAX_DEPTH", "Map", "Message", "MessageType", "Pool", "Refused", "Schema", "raw_check", "raw_short"]
+           "MAX_BYTES", "MAX_DEPTH", "Map", "Message", "MessageType", "Pool", "Refused", "Schema", "UnknownName", "raw_check", "raw_short"]

@@ -13,7 +13,7 @@ from ._mabristu import (
     raw_check as raw_check,
     raw_short as raw_short,
 )
-from ._refused import CAUSES as CAUSES, Refused as Refused
+from ._refused import CAUSES as CAUSES, Refused as Refused, UnknownName as UnknownName
 from ._schema import (
     DeclaredEnum as DeclaredEnum,
     DeclaredFile as DeclaredFile,

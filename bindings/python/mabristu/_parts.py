@@ -134,6 +134,29 @@ def length(self):
     return self._counts()[1]
 
 
+# ---- Types ----
+
+
+def signature(self):
+    """Which fields Order(..) takes: for inspect.signature, help() and what completes names. A field that has a word of Python as its name is not listed."""
+    from inspect import Parameter, Signature
+    from keyword import iskeyword
+
+    return Signature([Parameter(it.name, Parameter.KEYWORD_ONLY, default=...) for it in self.fields if not iskeyword(it.name)])
+
+
+class OfInstances:
+    """An attribute that each message type has, and MessageType itself has not."""
+
+    def __init__(self, read):
+        self.read = read
+
+    def __get__(self, instance, owner=None):
+        if instance is None:
+            raise AttributeError("message types have it")
+        return self.read(instance)
+
+
 # ---- Pickling: a message is its bytes, its type is its name, and a pool what it was made of ----
 
 POOLS = weakref.WeakValueDictionary()
@@ -183,5 +206,6 @@ put_into(Message, name=name, __reduce__=lambda self: (decoded, (self.type, self.
 put_into(MessageType, __reduce__=lambda self: (operator.getitem, (self.pool, self.name)))
 put_into(Field, __reduce__=lambda self: (MessageType.field, (self.owner, self.name)))
 put_into(Pool, __iter__=types, __len__=length, __reduce__=lambda self: (pool_of, known(self)))
+MessageType.__signature__ = OfInstances(signature)
 MutableSequence.register(List)
 MutableMapping.register(Map)

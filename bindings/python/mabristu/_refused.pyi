@@ -16,4 +16,9 @@ class Refused(ValueError):
     frame: Union[int, Any]
     at: Union[int, Any]
     size: Optional[int]
+    type: Optional[MessageType]
+    @property
+    def hint(self) -> Optional[str]: ...
     def names(self, message_type: MessageType) -> tuple[Union[str, int, tuple[Union[str, int], int]], ...]: ...
+
+class UnknownName(KeyError): ...

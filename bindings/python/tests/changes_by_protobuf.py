@@ -139,7 +139,9 @@ def change(chosen, messages):
         return change(chosen, messages)
     if what == "clear":
         name = chosen.choice(SCALARS[kind] + LISTS[kind] + MAPS[kind] + WHEELS[kind] + WHEEL_MAPS[kind])
-        message.ClearField(name)
+        # To clear a member of a oneof that is not set changes nothing. protobuf 3.21 in C++ clears the member that is set, where the other was read before.
+        if message.DESCRIPTOR.fields_by_name[name].containing_oneof is None or message.HasField(name):
+            message.ClearField(name)
         return [which, "clear", path, name]
     return change_messages(chosen, messages, which, message, kind, path, what)
 

@@ -11,7 +11,7 @@ import time
 import unittest
 
 import mabristu
-from mabristu import Pool, Refused
+from mabristu import Pool, Refused, UnknownName
 
 SOURCE = """syntax = "proto3";
 enum Color { RED = 0; GREEN = 1; BLUE = 2; }
@@ -512,8 +512,8 @@ class Errors(Types):
             (TypeError, lambda: m.__setitem__("position", 5), "M.position takes a message of Wheel or a dict of its fields, and not int"),
             (TypeError, lambda: m["wheels"].append(5), "M.wheels takes a message of Wheel or a dict of its fields, and not int"),
             (TypeError, lambda: m["flags"].append(1), "M.flags takes True or False, and not int"),
-            (KeyError, lambda: m["nothing"], "'M has no field nothing'"),
-            (KeyError, lambda: m[99], "'M has no field 99'"),
+            (UnknownName, lambda: m["nothing"], "M has no field nothing"),
+            (UnknownName, lambda: m[99], "M has no field 99"),
             (TypeError, lambda: m[1.5], "a field of M is named by a str, a number or a Field"),
             (ValueError, lambda: m["deltas"].index(4), "M.deltas has no such value"),
         ]

@@ -130,6 +130,19 @@ def parts(message):
                 yield from parts(it)
 
 
+def read(message):
+    """The fields that are set, each read by itself, as to_dict has them."""
+    value = lambda it: read(it) if isinstance(it, mabristu.Message) else it
+    found = {}
+    for field in message:
+        it = message[field]
+        if field.shape == "map":
+            found[field.name] = {key: value(inner) for key, inner in it.items()}
+        else:
+            found[field.name] = [value(inner) for inner in it] if field.shape == "list" else value(it)
+    return found
+
+
 @unittest.skipUnless(has_protobuf(), "protobuf for Python is not here")
 class Changes(unittest.TestCase):
     """Random changes beside protobuf's: after each the bytes are the same, and parts that were kept are what they were, or are gone."""
@@ -161,9 +174,14 @@ class Changes(unittest.TestCase):
             if step[1] == "new":
                 messages = found(), found()
                 continue
+            # Some changes are of messages that were decoded, and of which all was read.
+            if count % 4 == 0:
+                messages = tuple(found.decode(it.encode()) for it in messages)
+                self.assertEqual([read(it) for it in messages], [it.to_dict() for it in messages])
             make(messages, *step)
             self.assertEqual([it.encode().hex() for it in messages], wanted, step)
             whole = messages[step[0]]
+            self.assertEqual([read(whole), read(found.decode(whole.encode()))], 2 * [whole.to_dict()])
             self.assertEqual([found.from_dict(whole.to_dict()), found.from_dict(whole.to_dict(enums="names"))], [whole, whole])
             self.assert_parts(whole, count)
             count += 1

@@ -562,6 +562,17 @@ class Whole(Shop):
         self.assertEqual(listing('syntax = "proto3"; ' + text), "m[1]: A\n")
         self.assertEqual(self.refused(Pool.of_sources, {"m.proto": text}).cause, "NotProto3")
 
+    def test_places(self):
+        of = Pool.of_sources({"m.proto": 'syntax = "proto3"; message M { map<sint64, M> a = 1; map<bool, int32> b = 2; repeated M c = 3; }'})["M"]
+        for type, path, steps in (
+            (self.order, "lines[1].article", (3, 1, 1)), (self.order, 'discounts["l\\x6fyal"]', (4, "loyal")), (self.order, "invoice.signature", (6, 2)),
+            (self.order, "", ()), (of, "a[-7].b[true]", (1, -7, 2, True)), (of, "c[18446744073709551615].a", (3, 2**64 - 1, 1)),
+        ):
+            self.assertEqual(type.place(path), steps)
+        for path, error, byte in (("lines[1].none", KeyError, 9), ("number[0]", ValueError, 6), ("lines.price", ValueError, 5), ("lines[x]", ValueError, 6)):
+            self.assertRaisesRegex(error, f"path byte {byte}: ", self.order.place, path)
+        self.assertRaises(TypeError, self.order.place, 1)
+
     def test_versions(self):
         of = lambda fields: Pool.of_sources({"m.proto": f'syntax = "proto3"; message M {{ {fields} }} message N {{ bytes a = 1; }}'})["M"]
         old = of("int64 a = 1; int32 b = 2; string c = 3; M m = 4; int32 e = 5; N n = 6; int32 g = 7;")
@@ -779,6 +790,19 @@ class Find(Shop):
         self.assertEqual([self.order.find(b"", "number"), self.order.find(b"", "gift")], [0, None])
         long = 3000 * "a"
         self.assertEqual(self.order.find(b"\x12\xb8\x17" + long.encode(), "placed_on"), long)
+
+    def test_by_number_and_field(self):
+        """A field is named by its name, its number or a Field, in each place, with the same answer."""
+        invoice, card = self.order.field("invoice"), self.order.field("card")
+        for fields in (("number",), (1,), (self.order.field("number"),)):
+            self.assertEqual([self.order.find(self.data, *fields), self.order.find(b"", *fields)], [4711, 0])
+        for fields in (("invoice", "address"), (6, 1), (invoice, "address"), ("invoice", invoice.type.fields[0]), (6, "address")):
+            self.assertEqual([self.order.find(self.data, *fields), self.order.find(b"", *fields)], ["Main Street 1", None])
+        self.assertIsNone(self.order.find(self.data, card))
+        for fields in ((99,), (0,), (-1,), (1 << 70,), (6, 99), (invoice.type.fields[0],), ("invoice", "number")):
+            self.assertRaises(KeyError, self.order.find, self.data, *fields)
+        for fields in ((3,), (3, 1), (4,), (6,), (1, 1), (True,), (1.0,), (None,)):
+            self.assertRaises(TypeError, self.order.find, self.data, *fields)
 
     def test_refusals(self):
         self.assertEqual(self.refused(self.order.find, self.data[:50], "number").cause, "Truncated")

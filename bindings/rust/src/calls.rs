@@ -1,15 +1,16 @@
 //! The numbers and calls of mabristu.h.
 use crate::structs::{
-    Bytes, Counts, DecoderHandle, Difference, Enum, Fault, Field, File, Frame, Handle, Keys, MessageHandle, Refusal, Step, Type, Value,
+    Bytes, Counts, DecoderHandle, Difference, Enum, Fault, Field, File, Frame, Handle, Keys, MessageHandle, Refusal, Step, Steps, Type, Value,
 };
 
-pub const INTERFACE: u32 = 8;
+pub const INTERFACE: u32 = 9;
 // What a call answers. Numbers from 50 on are the causes why declarations are refused.
 pub const DONE: u32 = 0;
 pub const BAD_LIMITS: u32 = 1;
 pub const NO_TYPE: u32 = 2;
 pub const PART: u32 = 5;
 pub const ABSENT: u32 = 6;
+pub const BAD_PLACE: u32 = 7;
 pub const BAD_VALUE: u32 = 8;
 pub const WRONG_KIND: u32 = 22;
 pub const FAULT: u32 = 13;
@@ -60,6 +61,8 @@ extern "C" {
     pub fn mb_pool_free(pool: *mut Handle);
     pub fn mb_pool_type(pool: *mut Handle, name: At, name_len: usize, number: &mut u32) -> u32;
     pub fn mb_pool_field(pool: *mut Handle, number: u32, name: At, name_len: usize, field: &mut Field) -> u32;
+    pub fn mb_path(pool: *mut Handle, number: u32, path: At, path_len: usize, place: *mut Value, place_len: usize,
+        lengths: *mut usize, lengths_len: usize, strings: Out, strings_len: usize, report: &mut Steps) -> u32;
     pub fn mb_pool_counts(pool: *mut Handle, counts: &mut Counts) -> u32;
     pub fn mb_pool_message(pool: *mut Handle, number: u32, report: &mut Type, name: Out, name_len: usize, size: &mut usize) -> u32;
     pub fn mb_pool_field_at(pool: *mut Handle, number: u32, index: usize, report: &mut Field, detail: &mut u32,

@@ -67,10 +67,12 @@ pub enum Error {
     BadValue,
     /// A limit is above the greatest.
     BadLimits,
-    /// The pool has no message type of this full name.
-    UnknownType { name: String },
-    /// The message type, by its full name, has no field or oneof of this simple name.
-    UnknownField { message_type: String, name: String },
+    /// The pool has no message type of this full name. A declared name may be near to it.
+    UnknownType { name: String, near: Option<String> },
+    /// The message type, by its full name, has no field or oneof of this simple name. A declared name may be near to it.
+    UnknownField { message_type: String, name: String, near: Option<String> },
+    /// A path with names is no place of the message type: the byte where no field has the name, or where the path does not go on as it has to.
+    Path { byte: usize },
     /// The pool has no message type of that number.
     NoType,
     /// The message has nothing there.
@@ -102,6 +104,11 @@ impl Error {
     }
 }
 
+/// A question about a name that may be meant.
+fn question(near: &Option<String>) -> String {
+    near.as_ref().map(|name| format!(": did you mean {name}?")).unwrap_or_default()
+}
+
 impl fmt::Display for Error {
     fn fmt(&self, f: &mut fmt::Formatter<'_>) -> fmt::Result {
         let dash = |name: &str| if name.is_empty() { "-".to_owned() } else { name.to_owned() };
@@ -121,8 +128,9 @@ impl fmt::Display for Error {
             Error::Change { place, cause } => write!(f, "change at {} cause {cause}", dash(place)),
             Error::BadValue => f.write_str("the value is out of range"),
             Error::BadLimits => f.write_str("a limit is above the greatest"),
-            Error::UnknownType { name } => write!(f, "type {name} unknown"),
-            Error::UnknownField { message_type, name } => write!(f, "field {name} of {message_type} unknown"),
+            Error::UnknownType { name, near } => write!(f, "type {name} unknown{}", question(near)),
+            Error::UnknownField { message_type, name, near } => write!(f, "field {name} of {message_type} unknown{}", question(near)),
+            Error::Path { byte } => write!(f, "path byte {byte} is no place of the type"),
             Error::NoType => f.write_str("type unknown"),
             Error::NoField => f.write_str("the message has nothing there"),
             Error::TooLarge => f.write_str("output cause TooLarge"),

@@ -27,6 +27,7 @@ mod frames;
 mod given;
 mod message;
 mod message_type;
+mod near;
 mod part;
 mod pool;
 mod report;

@@ -1,5 +1,6 @@
 //! Message types, and calls on the bytes of messages.
 use crate::calls;
+use crate::near::near;
 use crate::report::{judged, written, Report};
 use crate::structs::{Field as FieldReport, Frame as FrameReport, Value as Reported};
 use crate::value::{scalar, size as size_of};
@@ -164,7 +165,8 @@ impl MessageType {
 
     /// The error that the type has no field or oneof of a name.
     pub(crate) fn unknown_field(&self, name: &str) -> Error {
-        Error::UnknownField { message_type: self.name().unwrap_or_default(), name: name.to_owned() }
+        let near = near(name, &self.names_inside());
+        Error::UnknownField { message_type: self.name().unwrap_or_default(), name: name.to_owned(), near }
     }
 
     /// The message type of the values of a field, if they are messages.
@@ -267,13 +269,15 @@ impl MessageType {
     }
 
     /// The value of one field of one scalar, read from the bytes of a message without building it, which are checked as by [`MessageType::check`]. The
-    /// names lead to it from the outermost message on. None where it is not set.
+    /// names lead to it from the outermost message on. None if it is not set, or if a name is that of a list or map. A name after a scalar is
+    /// [`Error::NoField`].
     pub fn find(&self, bytes: &[u8], names: &[&str]) -> Result<Option<Value>, Error> {
-        let (mut numbers, mut at) = (Vec::with_capacity(names.len()), self.clone());
+        let (mut numbers, mut inside) = (Vec::with_capacity(names.len()), Some(self.clone()));
         for name in names {
+            let Some(at) = inside else { return Err(Error::NoField) };
             let field = at.field(name)?;
             numbers.push(field.number);
-            at = at.inner(&field).unwrap_or(at);
+            inside = at.inner(&field);
         }
         self.find_numbers(bytes, &numbers)
     }

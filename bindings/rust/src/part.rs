@@ -1,7 +1,7 @@
 //! Parts of a message.
 use crate::given::{integer_kind, integer_of};
 use crate::report::{written_alone, Report};
-use crate::structs::{Bytes, Keys, Value as Reported};
+use crate::structs::{Bytes, Keys, Steps, Value as Reported};
 use crate::value::{scalar, size};
 use crate::{calls, Error, Message, MessageType, Value};
 use std::fmt;
@@ -104,6 +104,36 @@ impl Message {
     /// The place of a field, by its simple name.
     pub fn field(&self, name: &str) -> Result<Part<'_>, Error> {
         self.whole().field(name)
+    }
+
+    /// The place of a path with the names of fields, such as `lines[2].article` or `stock["pen"]`. The message type says what the path means, so it leads
+    /// there whether or not anything is set. The empty path is the message itself.
+    pub fn at(&self, path: &str) -> Result<Part<'_>, Error> {
+        // A path has no more steps than bytes, and its strings have no more bytes.
+        let most = path.len() + 1;
+        let (mut steps, mut lengths, mut strings) = (vec![Reported::default(); most], vec![0; most], vec![0; most]);
+        let mut report = Steps::default();
+        let message_type = self.message_type();
+        let answer = unsafe {
+            calls::mb_path(message_type.pool.handle(), message_type.number, path.as_ptr(), path.len(), steps.as_mut_ptr(), most,
+                lengths.as_mut_ptr(), most, strings.as_mut_ptr(), most, &mut report)
+        };
+        if matches!(answer, calls::ABSENT | calls::BAD_PLACE) {
+            return Err(Error::Path { byte: report.byte });
+        }
+        Report::new().judge(answer)?;
+        steps.truncate(report.steps);
+        if steps.is_empty() {
+            return Ok(self.whole());
+        }
+        let mut rest = &strings[..];
+        let keys = lengths[..report.strings].iter().map(|&len| {
+            let (key, after) = rest.split_at(len);
+            rest = after;
+            key.to_vec()
+        });
+        let keys = keys.collect();
+        Ok(Part { message: self, message_type: None, kind: None, key_kind: None, steps, keys })
     }
 
     /// The simple name of the member that is set of a oneof, by the oneof's name, or None where none is.

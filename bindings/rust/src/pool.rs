@@ -1,4 +1,5 @@
 //! Pools of types.
+use crate::near::near;
 use crate::report::{linked, written_alone, Report};
 use crate::structs::{Bytes, Handle, Refusal};
 use crate::{calls, Error, Limits, MessageType};
@@ -119,7 +120,7 @@ impl Pool {
         let mut number = 0;
         let answer = unsafe { calls::mb_pool_type(self.handle(), name.as_ptr(), name.len(), &mut number) };
         Report::new().judge(answer).map_err(|error| match error {
-            Error::NoType => Error::UnknownType { name: name.to_owned() },
+            Error::NoType => Error::UnknownType { name: name.to_owned(), near: near(name, &self.type_names()) },
             error => error,
         })?;
         Ok(MessageType { pool: self.try_clone()?, number, limits: Limits::FULL })

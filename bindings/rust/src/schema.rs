@@ -84,6 +84,12 @@ impl Pool {
         Ok(enums.into_iter())
     }
 
+    /// The full names of the message types, or those before one that can't be read.
+    pub(crate) fn type_names(&self) -> Vec<String> {
+        let count = self.counts().map_or(0, |counts| counts.messages as u32);
+        (0..count).map_while(|number| self.reported_type(number).ok()).map(|(name, _)| name).collect()
+    }
+
     /// What the pool declares.
     pub fn schema(&self) -> Result<Schema, Error> {
         let counts = self.counts()?;
@@ -154,6 +160,13 @@ impl MessageType {
     /// The full name.
     pub fn name(&self) -> Result<String, Error> {
         Ok(self.pool.reported_type(self.number)?.0)
+    }
+
+    /// The simple names of the fields and of the oneofs.
+    pub(crate) fn names_inside(&self) -> Vec<String> {
+        let fields = self.pool.declared_type(self.number).map_or(Vec::new(), |declared| declared.fields);
+        let (names, oneofs): (Vec<_>, Vec<_>) = fields.into_iter().map(|it| (it.name, it.oneof)).unzip();
+        names.into_iter().chain(oneofs.into_iter().flatten()).collect()
     }
 
     /// The index of the oneof of a name, if the type has it.

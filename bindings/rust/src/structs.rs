@@ -86,6 +86,16 @@ pub struct Difference {
     pub severity: u32,
 }
 
+/// What a path with names comes to: its steps, the strings among them and their bytes; or the byte where it is refused.
+#[repr(C)]
+#[derive(Clone, Copy, Debug, Default, PartialEq, Eq)]
+pub struct Steps {
+    pub steps: usize,
+    pub strings: usize,
+    pub bytes: usize,
+    pub byte: usize,
+}
+
 /// How many keys there are, and how many bytes their strings have.
 #[repr(C)]
 #[derive(Clone, Copy, Debug, Default, PartialEq, Eq)]

@@ -19,8 +19,12 @@ fn reads_scalars() -> Result<(), Error> {
     assert_eq!(order.get("gift"), Ok(Some(Value::Bool(false))));
     assert_eq!(order.get("card"), Ok(None));
     let unknown = order.get("nothing").unwrap_err();
-    assert_eq!(unknown, Error::UnknownField { message_type: "shop.Order".to_owned(), name: "nothing".to_owned() });
+    assert_eq!(unknown, Error::UnknownField { message_type: "shop.Order".to_owned(), name: "nothing".to_owned(), near: None });
     assert_eq!(unknown.to_string(), "field nothing of shop.Order unknown");
+    let said = |name: &str| order.get(name).unwrap_err().to_string();
+    assert_eq!(said("numbr"), "field numbr of shop.Order unknown: did you mean number?");
+    let oneof = order.which_oneof("paiment").unwrap_err().to_string();
+    assert_eq!(oneof, "field paiment of shop.Order unknown: did you mean payment?");
     assert_eq!(order.field("lines")?.index(9).get()?, None);
     Ok(())
 }
@@ -44,6 +48,22 @@ fn reads_lists_maps_and_messages() -> Result<(), Error> {
     assert_eq!(order.whole().number(3).index(1).number(2).get()?, Some(Value::Int32(1)));
     assert_eq!(order.whole().number(99).get()?, None);
     assert!(order.field("card")?.is_empty()? && !order.field("card")?.is_set()?);
+    Ok(())
+}
+
+#[test]
+fn reads_by_paths_with_names() -> Result<(), Error> {
+    let order = order();
+    assert_eq!(order.at("lines[1].price")?.get()?, Some(Value::Double(89.5)));
+    assert_eq!(order.at("discounts[\"l\\x6fyal\"]")?.get()?, Some(Value::Int32(3)));
+    assert_eq!(order.at("invoice.signature")?.get()?, Some(Value::Bytes(vec![1, 255])));
+    assert_eq!((order.at("lines[9].price")?.get()?, order.at("lines")?.len()?), (None, 2));
+    assert_eq!(order.at("")?.numbers()?, [1, 2, 3, 4, 6, 7, 8, 9]);
+    for (path, byte) in [("lines[1].none", 9), ("number[0]", 6), ("lines.price", 5), ("lines[x]", 6)] {
+        let refused = order.at(path).map(|_| ()).unwrap_err();
+        assert_eq!(refused, Error::Path { byte });
+        assert_eq!(refused.to_string(), format!("path byte {byte} is no place of the type"));
+    }
     Ok(())
 }
 
@@ -87,6 +107,8 @@ fn finds_in_bytes() {
     assert_eq!(order.find(&bytes, &["number"]), Ok(Some(Value::Uint64(4711))));
     assert_eq!(order.find(&bytes, &["invoice", "address"]), Ok(Some(Value::String("Main Street 1".to_owned()))));
     assert_eq!(order.find(&bytes, &["card"]), Ok(None));
+    assert_eq!(order.find(&bytes, &["lines", "price"]), Ok(None));
+    assert_eq!(order.find(&bytes, &["number", "number"]), Err(Error::NoField));
     assert_eq!(order.find_numbers(&bytes, &[6, 2]), Ok(Some(Value::Bytes(vec![1, 255]))));
     assert_eq!(order.find(&bytes[..50], &["number"]).unwrap_err().to_string(), "byte 50 path 3[1].1[0] cause Truncated");
     let long = [&[0x12, 0xb8, 0x17][..], &[b'a'; 3000]].concat();

@@ -200,12 +200,16 @@ fn names_types_and_fields() {
     assert_eq!(order.inner(&lines).unwrap().field("price").unwrap().kind, 1);
     assert!(order.inner(&order.field("number").unwrap()).is_none());
     let unknown = order.field("nothing").unwrap_err();
-    assert_eq!(unknown, Error::UnknownField { message_type: "shop.Order".to_owned(), name: "nothing".to_owned() });
+    assert_eq!(unknown, Error::UnknownField { message_type: "shop.Order".to_owned(), name: "nothing".to_owned(), near: None });
     let unknown = order.pool().message_type("shop.Nothing").err().unwrap();
     assert_eq!(
         (&unknown, unknown.to_string().as_str()),
-        (&Error::UnknownType { name: "shop.Nothing".to_owned() }, "type shop.Nothing unknown")
+        (&Error::UnknownType { name: "shop.Nothing".to_owned(), near: None }, "type shop.Nothing unknown")
     );
+    for name in ["Order", "shop.Ordr", "shop.order"] {
+        let unknown = order.pool().message_type(name).err().unwrap().to_string();
+        assert_eq!(unknown, format!("type {name} unknown: did you mean shop.Order?"));
+    }
     let names: Vec<_> = order.pool().message_types().unwrap().map(|it| it.name().unwrap()).collect();
     assert_eq!(names, ["shop.Order", "shop.Line", "shop.Invoice"]);
     let enums: Vec<_> = order.pool().enums().unwrap().map(|it| (it.name, it.values.len())).collect();

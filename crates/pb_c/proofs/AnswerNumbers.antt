@@ -2,11 +2,11 @@
 use Rattle.std.proofs.Common.{◌≡◌, ◌≢◌, ℕ, ◌≤◌, refl, sym, ◌∙◌, arith}
 use Rattle.std.specs.Prelude.{IfSome}
 use Rattle.pb_wire.specs.Fault.{fault}
-use Rattle.pb_descr.specs.CauseName.{number_of as decl_number}
-use Rattle.pb_descr.specs.declared.cause.DeclCause.{DeclCause}
-use Rattle.pb_descr.specs.declared.cause.DeclCause.TheVariants as decl
-use Rattle.pb_descr.specs.declared.error.DescrError.{DescrError}
-use Rattle.pb_descr.specs.declared.error.DescrError.TheVariants as descr
+use Rattle.pb_descr_message.specs.CauseName.{number_of as decl_number}
+use Rattle.pb_descr_message.specs.declared.cause.DeclCause.{DeclCause}
+use Rattle.pb_descr_message.specs.declared.cause.DeclCause.TheVariants as decl
+use Rattle.pb_descr_message.specs.declared.error.DescrError.{DescrError}
+use Rattle.pb_descr_message.specs.declared.error.DescrError.TheVariants as descr
 use Rattle.pb_link_rules.specs.CauseName.{cause_number}
 use Rattle.pb_link_rules.specs.declared.cause.LinkCause.{LinkCause}
 use Rattle.pb_link_rules.specs.declared.cause.LinkCause.TheVariants as link

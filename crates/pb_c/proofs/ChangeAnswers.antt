@@ -4,9 +4,9 @@ use Rattle.pb_value.specs.Dynamic.{Dynamic}
 use Rattle.pb_value.specs.declared.error.ValueError.{ValueError}
 use Rattle.pb_value.specs.declared.error.ValueError.TheVariants as value
 use Rattle.pb_place.specs.declared.error.ChangeError.TheVariants as change
-use Rattle.pb_c_changes.specs.Ends.{Outcome, made, unmade, memory}
-use Rattle.pb_c_changes.specs.declared.unchanged.Unchanged.{Unchanged}
-use Rattle.pb_c_changes.specs.declared.unchanged.Unchanged.TheVariants.{BadPlace, BadValue, Refused}
+use Rattle.pb_c_message.specs.Ends.{Outcome, made, unmade, memory}
+use Rattle.pb_c_message.specs.declared.unchanged.Unchanged.{Unchanged}
+use Rattle.pb_c_message.specs.declared.unchanged.Unchanged.TheVariants.{BadPlace, BadValue, Refused}
 use Rattle.pb_c.specs.Message.Changes.{cause_answer, unmade_answer, IsChanged, IsChangeAnswer}
 
 cause_answers : (e : ValueError) → IsChangeAnswer (cause_answer e)

@@ -16,8 +16,8 @@ use Rattle.pb_value.specs.Derives.{Derives, Text}
 use Rattle.pb_canonical.specs.Canonical.{IsCanonical}
 use Rattle.pb_decode.specs.Push.{IsFaultOf}
 use Rattle.pb_decode.proofs.DecodeLemmas.{exactly_value}
-use Rattle.pb_c_held.proofs.Canonical.{full_text, text_value}
-use Rattle.pb_c_reports.specs.Typed.{message_of}
+use Rattle.pb_c_message.proofs.Canonical.{full_text, text_value}
+use Rattle.pb_c_message.specs.Holds.{message_of}
 
 -- bytes have one value, whatever the limits
 one_text : (pool : Types) (m : ℕ) (limits other : Bounds) (b : List ℕ) (v w : Message) → Text pool m limits b v → Text pool m other b w → v ≡ w

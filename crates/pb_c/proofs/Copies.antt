@@ -14,9 +14,9 @@ use Rattle.pb_value.specs.WellFormed.{IsWellFormed}
 use Rattle.pb_value.proofs.RoundTrip.{canonical_text, only_text}
 use Rattle.pb_decode.specs.Onto.{TextOnto}
 use Rattle.pb_encode.specs.Encoding.{bytes_of}
-use Rattle.pb_c_values.specs.Plain.{bit}
+use Rattle.pb_c_message.specs.Plain.{bit}
 use Rattle.pb_c.specs.Message.Pairs.{IsFaultOn, Marks}
-use Rattle.pb_c_reports.proofs.Making.{the_message}
+use Rattle.pb_c_answers.proofs.Making.{the_message}
 
 -- what is decoded from the canonical bytes of a message is that message
 pub same_message :

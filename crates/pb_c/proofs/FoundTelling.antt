@@ -10,12 +10,12 @@ use Rattle.pb_decode.specs.declared.error.DecodeError.{DecodeError}
 use Rattle.pb_decode.specs.declared.error.DecodeError.TheVariants as error
 use Rattle.pb_find.specs.View.{found_view, scalar_view}
 use Rattle.pb_find.specs.declared.scalar_ref.ScalarRef.{ScalarRef}
-use Rattle.pb_c_values.specs.declared.value.PlainValue.{PlainValue}
-use Rattle.pb_c_reports.specs.Reporting.{Tells}
-use Rattle.pb_c_reports.specs.Typed.{ByFault}
+use Rattle.pb_c_message.specs.declared.value.PlainValue.{PlainValue}
+use Rattle.pb_c_answers.specs.Reporting.{Tells}
+use Rattle.pb_c_answers.specs.Typed.{ByFault}
 use Rattle.pb_c.specs.Typed.Found.{Reports, TellsFound}
-use Rattle.pb_c_reports.specs.declared.reporting.FaultReport.{FaultReport}
-use Rattle.pb_c_reports.specs.declared.reporting.Step.{Step}
+use Rattle.pb_c_answers.specs.declared.reporting.FaultReport.{FaultReport}
+use Rattle.pb_c_answers.specs.declared.reporting.Step.{Step}
 
 abbrev or_else : {A : Type 0} → A → Option A → A
 or_else a None = a

@@ -4,12 +4,6 @@ pub mod Telling
 pub mod Lengths
 -- what begins with a frame is nothing else
 pub mod FrameLaws
--- a seal, its parts and a box of a pool as one type
-pub mod AsBox
--- the same of a message
-pub mod AsMessageBox
--- an option that is there
-pub mod Filled
 -- full names of types as texts
 pub mod TypeNames
 -- simple names of fields as texts

@@ -4,10 +4,10 @@ use Rattle.std.specs.Prelude.{IfSome, string_bytes}
 use Rattle.pb_wire.specs.Limits.{full}
 use Rattle.pb_wire.specs.Fault.{fault}
 use Rattle.pb_declarations.specs.Decls.{DeclaredFile}
-use Rattle.pb_descr.specs.Lenient.{IsUnreadLeniently}
-use Rattle.pb_descr.specs.Sets.{IsUnread}
-use Rattle.pb_descr.specs.declared.error.DescrError.{DescrError}
-use Rattle.pb_descr.specs.declared.error.DescrError.TheVariants as descr
+use Rattle.pb_descr_message.specs.Lenient.{IsUnreadLeniently}
+use Rattle.pb_descr_message.specs.Sets.{IsUnread}
+use Rattle.pb_descr_message.specs.declared.error.DescrError.{DescrError}
+use Rattle.pb_descr_message.specs.declared.error.DescrError.TheVariants as descr
 use Rattle.pb_link_rules.specs.Faults.{LinkFault, IsUnlinked}
 use Rattle.pb_link_rules.specs.declared.cause.LinkCause.{LinkCause}
 use Rattle.pb_link_rules.specs.declared.error.LinkError.{LinkError}

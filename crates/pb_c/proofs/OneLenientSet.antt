@@ -13,14 +13,14 @@ use Rattle.pb_value.specs.Data.{Message}
 use Rattle.pb_value.specs.Value.{value}
 use Rattle.pb_declarations.specs.Decls.{DeclaredFile}
 use Rattle.pb_declarations.specs.One.{ExactlyOne}
-use Rattle.pb_descr.specs.Causes.{set_causes}
-use Rattle.pb_descr.specs.Omitted.{omitted_in}
-use Rattle.pb_descr.specs.Pool.{the_set, descriptor_types}
-use Rattle.pb_descr.specs.Reading.{files_in}
-use Rattle.pb_descr.specs.Sets.{IsSetText, SetFault}
-use Rattle.pb_descr.specs.Without.{without_parts}
-use Rattle.pb_descr.specs.declared.cause.DeclCause.{DeclCause}
-use Rattle.pb_descr.proofs.ReadLemmas.{silent_or_told, same_cause}
+use Rattle.pb_descr_message.specs.Causes.{set_causes}
+use Rattle.pb_descr_message.specs.Omitted.{omitted_in}
+use Rattle.pb_descr_message.specs.Pool.{the_set, descriptor_types}
+use Rattle.pb_descr_message.specs.Reading.{files_in}
+use Rattle.pb_descr_message.specs.Sets.{IsSetText, SetFault}
+use Rattle.pb_descr_message.specs.Without.{without_parts}
+use Rattle.pb_descr_message.specs.declared.cause.DeclCause.{DeclCause}
+use Rattle.pb_descr_message.proofs.ReadLemmas.{silent_or_told, same_cause}
 use Rattle.pb_c.specs.SetPool.{HasLenientFault, IsLenientSet}
 
 module _ (b : List ℕ) (bytes : All IsByte b) where

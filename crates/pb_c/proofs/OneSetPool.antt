@@ -3,7 +3,7 @@ use Rattle.std.proofs.Common.{◌≡◌, List, ap, subst}
 use Rattle.pb_schema.specs.Types.{Types}
 use Rattle.pb_declarations.specs.Decls.{DeclaredFile}
 use Rattle.pb_declarations.specs.One.{ExactlyOne}
-use Rattle.pb_descr.specs.Sets.{SetFault}
+use Rattle.pb_descr_message.specs.Sets.{SetFault}
 use Rattle.pb_link.specs.Linking.{Links}
 use Rattle.pb_link.proofs.OnePool.{one_pool}
 use Rattle.pb_link_rules.specs.Faults.{LinkFault, ToldFault}

@@ -2,12 +2,12 @@
 use Rattle.std.proofs.Common.{◌≡◌, inl, inr, ℕ, List, Option, Some, None, refl, sym, ap, subst, arith, ◌∙◌}
 use Rattle.pb_value.specs.Dynamic.{Dynamic}
 use Rattle.pb_place.specs.At.{Seen}
-use Rattle.pb_c_values.specs.Answers.{Answers, IsMissed}
-use Rattle.pb_c_values.specs.Places.{Bytes, places}
-use Rattle.pb_c_values.specs.declared.miss.Miss.{Miss}
-use Rattle.pb_c_values.specs.declared.miss.Miss.TheVariants.{Absent, BadPlace, Memory}
-use Rattle.pb_c_values.specs.declared.value.PlainValue.{PlainValue}
-use Rattle.pb_c_values.proofs.OneAnswer.{one_answer, said_answer}
+use Rattle.pb_c_message.specs.Answers.{Answers, IsMissed}
+use Rattle.pb_c_message.specs.Places.{Bytes, places}
+use Rattle.pb_c_message.specs.declared.miss.Miss.{Miss}
+use Rattle.pb_c_message.specs.declared.miss.Miss.TheVariants.{Absent, BadPlace, Memory}
+use Rattle.pb_c_message.specs.declared.value.PlainValue.{PlainValue}
+use Rattle.pb_c_message.proofs.OneAnswer.{one_answer, said_answer}
 use Rattle.pb_c.specs.Message.Places.{miss_number, HeldAnswers, HasNoPlace, IsAnswered}
 
 abbrev or_else : {A : Type 0} → A → Option A → A

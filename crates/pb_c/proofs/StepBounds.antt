@@ -12,16 +12,16 @@ use Rattle.pb_wire.proofs.PathBounds.{bounded, leveled, text_path}
 use Rattle.pb_schema.specs.Types.{Types}
 use Rattle.pb_schema.proofs.StepLemmas.{message_uses_levels, nests_once}
 use Rattle.pb_declarations.specs.Decls.{DeclaredFile}
-use Rattle.pb_descr.specs.Pool.{descriptor_types, the_set}
-use Rattle.pb_descr.specs.Sets.{SetFault}
+use Rattle.pb_descr_message.specs.Pool.{descriptor_types, the_set}
+use Rattle.pb_descr_message.specs.Sets.{SetFault}
 use Rattle.pb_decode.specs.Push.{IsFaultOf}
 use Rattle.pb_stream.specs.Frame.{FrameFault}
 use Rattle.pb_c.specs.PoolFault.{PoolFault, TellsBytes, answer_of}
 use Rattle.pb_c.specs.SetPool.{FilesFail}
-use Rattle.pb_c_reports.specs.Reporting.{Tells}
-use Rattle.pb_c_reports.proofs.StepBounds.{of_path, of_message}
-use Rattle.pb_c_reports.specs.declared.reporting.FaultReport.{FaultReport}
-use Rattle.pb_c_reports.specs.declared.reporting.Step.{Step}
+use Rattle.pb_c_answers.specs.Reporting.{Tells}
+use Rattle.pb_c_answers.proofs.StepBounds.{of_path, of_message}
+use Rattle.pb_c_answers.specs.declared.reporting.FaultReport.{FaultReport}
+use Rattle.pb_c_answers.specs.declared.reporting.Step.{Step}
 use Rattle.pb_c.proofs.AnswerNumbers.{decl_from, link_from}
 
 -- of records

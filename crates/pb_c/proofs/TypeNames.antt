@@ -9,7 +9,7 @@ use Rattle.pb_schema.specs.Names.{message_names}
 use Rattle.pb_schema.specs.Rules.{IsPool}
 use Rattle.pb_schema.specs.Types.{Types}
 use Rattle.pb_link.proofs.AsciiLemmas.{message_name_ascii}
-use Rattle.pb_c.specs.Held.{HasNumber}
+use Rattle.pb_c.specs.PoolNames.{HasNumber}
 
 pub name_is_text : (ts : Types) → IsPool ts → (name : List ℕ) (m : ℕ) → HasNumber ts name m → IsUtf8 name
 name_is_text ts pool name m has =

@@ -7,15 +7,15 @@ use Rattle.pb_value.specs.ErrorName.{number_of as value_number, name_of as value
 use Rattle.pb_value.specs.declared.error.ValueError.{ValueError}
 use Rattle.pb_source_tokens.specs.CauseName.{number_of as source_number, name_of as source_name}
 use Rattle.pb_source_tokens.specs.declared.fault.SourceCause.{SourceCause}
-use Rattle.pb_descr.specs.CauseName.{number_of as set_number, name_of as set_name}
-use Rattle.pb_descr.specs.declared.cause.DeclCause.{DeclCause}
+use Rattle.pb_descr_message.specs.CauseName.{number_of as set_number, name_of as set_name}
+use Rattle.pb_descr_message.specs.declared.cause.DeclCause.{DeclCause}
 use Rattle.pb_link_rules.specs.CauseName.{cause_number as link_number, cause_name as link_name}
 use Rattle.pb_link_rules.specs.declared.cause.LinkCause.{LinkCause}
 use Rattle.pb_json.specs.CauseName.{name_of as json_name}
 use Rattle.pb_json.specs.declared.error.JsonCause.{JsonCause}
 use Rattle.pb_json_read.specs.Faults.{name_of as read_name}
 use Rattle.pb_json_read.specs.declared.error.JsonReadCause.{JsonReadCause}
-use Rattle.pb_c_json.specs.Numbers.{json_number, read_number}
+use Rattle.pb_c_answers.specs.Json.Numbers.{json_number, read_number}
 
 -- A cause that has this number has this name.
 pub data Names (n : ℕ) (s : List ℕ) : Type 0 where

@@ -6,7 +6,7 @@ use Rattle.pb_compat.specs.declared.difference.ComparedTypes.{ComparedTypes}
 use Rattle.pb_compat.specs.declared.difference.Difference.{Difference}
 use Rattle.pb_compat.specs.declared.difference.Severity.{Severity}
 use Rattle.pb_compat.specs.declared.difference.Severity.TheVariants.{BreaksReading, Loses, ChangesPresence, Converts, Renames}
-use Rattle.pb_c_reports.specs.Reporting.{IsLaid}
+use Rattle.pb_c_answers.specs.Reporting.{IsLaid}
 use Rattle.pb_c.specs.declared.compat.DifferenceReport.{DifferenceReport}
 
 -- in the order of docs/COMPAT.md, the worst first

@@ -1,5 +1,4 @@
 -- Messages that handles hold.
-pub mod Seal
 pub mod Places
 pub mod Changes
 pub mod Pairs

@@ -1,10 +1,10 @@
 -- Why declarations make no pool, and how it is reported.
 use Rattle.std.specs.Prelude.{◌≡◌, ℕ, List, ◌++◌, length, Option, Some, None, string_bytes}
 use Rattle.pb_wire.specs.Fault.{Fault, fault}
-use Rattle.pb_descr.specs.CauseName.{number_of as decl_number}
-use Rattle.pb_descr.specs.declared.cause.DeclCause.{DeclCause}
-use Rattle.pb_descr.specs.declared.error.DescrError.{DescrError}
-use Rattle.pb_descr.specs.declared.error.DescrError.TheVariants as descr
+use Rattle.pb_descr_message.specs.CauseName.{number_of as decl_number}
+use Rattle.pb_descr_message.specs.declared.cause.DeclCause.{DeclCause}
+use Rattle.pb_descr_message.specs.declared.error.DescrError.{DescrError}
+use Rattle.pb_descr_message.specs.declared.error.DescrError.TheVariants as descr
 use Rattle.pb_link_rules.specs.CauseName.{cause_number}
 use Rattle.pb_link_rules.specs.declared.cause.LinkCause.{LinkCause}
 use Rattle.pb_link_rules.specs.declared.error.LinkError.{LinkError}
@@ -12,9 +12,9 @@ use Rattle.pb_link_rules.specs.declared.error.LinkError.TheVariants as link
 use Rattle.pb_source_tokens.specs.CauseName.{number_of as source_number}
 use Rattle.pb_source_tokens.specs.declared.fault.SourceCause.{SourceCause}
 use Rattle.pb_c.specs.declared.pool.refusal.Refusal.{Refusal}
-use Rattle.pb_c_reports.specs.declared.reporting.FaultReport.{FaultReport}
-use Rattle.pb_c_reports.specs.declared.reporting.Step.{Step}
-use Rattle.pb_c_reports.specs.Reporting.{Tells, laid_over}
+use Rattle.pb_c_answers.specs.declared.reporting.FaultReport.{FaultReport}
+use Rattle.pb_c_answers.specs.declared.reporting.Step.{Step}
+use Rattle.pb_c_answers.specs.Reporting.{Tells, laid_over}
 
 -- The bytes of a set are no set; a file of it, by its index, is not read; a source, by its index, is none, at a byte; or the files do not link:
 -- the name of the file, the full name of the declaration, and the cause.

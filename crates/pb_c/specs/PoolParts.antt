@@ -5,7 +5,7 @@ use Rattle.pb_schema.specs.Types.{EnumView, FieldView, FileView, MessageView, Ty
 use Rattle.pb_schema.specs.declared.types.Shape.{Shape}
 use Rattle.pb_schema.specs.declared.types.Shape.TheVariants as shape
 use Rattle.pb_c.specs.Field.{field_report}
-use Rattle.pb_c_reports.specs.Reporting.{IsLaid, laid_over}
+use Rattle.pb_c_answers.specs.Reporting.{IsLaid, laid_over}
 use Rattle.pb_c.specs.declared.pool.field.FieldReport.{FieldReport}
 use Rattle.pb_c.specs.declared.schema.counts.PoolCounts.{PoolCounts}
 use Rattle.pb_c.specs.declared.schema.message_type.TypeReport.{TypeReport}

@@ -5,11 +5,11 @@ use Rattle.pb_wire.specs.Limits.{full}
 use Rattle.pb_schema.specs.Types.{Types}
 use Rattle.pb_value.specs.Data.{Message}
 use Rattle.pb_declarations.specs.Decls.{DeclaredFile}
-use Rattle.pb_descr.specs.Causes.{set_causes}
-use Rattle.pb_descr.specs.Lenient.{IsLenientSetOf}
-use Rattle.pb_descr.specs.Omitted.{OmittedView, omitted_in}
-use Rattle.pb_descr.specs.Sets.{IsSetOf, IsSetText, SetFault, HasSetFault, set_bytes}
-use Rattle.pb_descr.specs.Without.{without_parts}
+use Rattle.pb_descr_message.specs.Causes.{set_causes}
+use Rattle.pb_descr_message.specs.Lenient.{IsLenientSetOf}
+use Rattle.pb_descr_message.specs.Omitted.{OmittedView, omitted_in}
+use Rattle.pb_descr_message.specs.Sets.{IsSetOf, IsSetText, SetFault, HasSetFault, set_bytes}
+use Rattle.pb_descr_message.specs.Without.{without_parts}
 use Rattle.pb_link.specs.Linking.{Links}
 use Rattle.pb_link.specs.ToDecls.{decls_of}
 use Rattle.pb_link_rules.specs.Faults.{LinkFault}

@@ -4,20 +4,20 @@ ghost use Rattle.std.specs.Prelude.{◌≡◌, ◌≢◌, ◌⊎◌, ℕ, List, 
 ghost use Rattle.pb_wire.specs.CauseName.{number_of as wire_number};
 ghost use Rattle.pb_value.specs.ErrorName.{number_of as value_number};
 ghost use Rattle.pb_source_tokens.specs.CauseName.{number_of as source_number};
-ghost use Rattle.pb_descr.specs.CauseName.{number_of as set_number};
+ghost use Rattle.pb_descr_message.specs.CauseName.{number_of as set_number};
 ghost use Rattle.pb_link_rules.specs.CauseName.{cause_number as link_number};
 ghost use Rattle.pb_wire.specs.declared.fault.Cause.{Cause};
 ghost use Rattle.pb_value.specs.declared.error.ValueError.{ValueError};
 ghost use Rattle.pb_source_tokens.specs.declared.fault.SourceCause.{SourceCause};
-ghost use Rattle.pb_descr.specs.declared.cause.DeclCause.{DeclCause};
+ghost use Rattle.pb_descr_message.specs.declared.cause.DeclCause.{DeclCause};
 ghost use Rattle.pb_link_rules.specs.declared.cause.LinkCause.{LinkCause};
 ghost use Rattle.pb_json.specs.declared.error.JsonCause.{JsonCause};
 ghost use Rattle.pb_json_read.specs.declared.error.JsonReadCause.{JsonReadCause};
-ghost use Rattle.pb_c_json.specs.Numbers.{json_number, read_number};
+ghost use Rattle.pb_c_answers.specs.Json.Numbers.{json_number, read_number};
 ghost use Rattle.pb_c.specs.CauseNames.{Names};
-ghost use Rattle.pb_c_reports.specs.Reporting.{IsLaid};
+ghost use Rattle.pb_c_answers.specs.Reporting.{IsLaid};
 
-use pb_c_reports::{ABSENT, DONE, TOO_LARGE, write_out};
+use pb_c_answers::{ABSENT, DONE, TOO_LARGE, write_out};
 use pb_descr::DeclCause;
 use pb_json::JsonCause;
 use pb_json_read::JsonReadCause;
@@ -282,7 +282,8 @@ fn name_of(number: u32) -> Option<&'static str>
 /// Answers DONE, or ABSENT where no cause has this number. Name and length are written at DONE alone.
 #[unsafe(no_mangle)]
 pub extern "C" fn mb_cause_name(cause: u32, name: &mut [u8], size: &mut usize) -> u32
-    ensures named { result ≡ DONE → (s : List ℕ) × Names cause s × IsLaid s name.old name.new size.new }
+    ensures named { result ≡ DONE → (s : List ℕ) × Names cause s
+        × IsLaid s name.old name.new size.new }
     ensures absent { result ≡ ABSENT → (s : List ℕ) → ¬ Names cause s }
     ensures unwritten { result ≢ DONE → (name.new ≡ name.old) × (size.new ≡ size.old) }
     ensures answers { (result ≡ DONE) ⊎ (result ≡ ABSENT) }

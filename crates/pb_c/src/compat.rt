@@ -5,14 +5,14 @@ ghost use Rattle.pb_schema.specs.Types.{Types};
 ghost use Rattle.pb_compat.specs.Pairs.{IsComparison};
 ghost use Rattle.pb_compat.specs.declared.difference.ComparedTypes.{ComparedTypes as Compared};
 ghost use Rattle.pb_c.specs.Compared.{IsReported, difference_row, rows_of, severity_number};
-ghost use Rattle.pb_c.specs.Held.{types_held};
-ghost use Rattle.pb_c_reports.specs.Reporting.{laid_over};
-ghost use Rattle.pb_c_reports.specs.Typed.{HasType, LacksType};
+ghost use Rattle.pb_c_handles.specs.Held.{types_held};
+ghost use Rattle.pb_c_answers.specs.Reporting.{laid_over};
+ghost use Rattle.pb_c_answers.specs.Typed.{HasType, LacksType};
 
 pub(crate) mod witness;
 
-use crate::handle::{PoolHandle, put, take};
-use pb_c_reports::{DONE, EMPTY, MEMORY, NO_TYPE, type_numbered};
+use pb_c_answers::{DONE, EMPTY, MEMORY, NO_TYPE, type_numbered};
+use pb_c_handles::pool::{PoolHandle, put, take};
 use pb_compat::{ComparedTypes, Difference, Severity, compare};
 use pb_schema::Pool;
 use std::alloc::{AllocError, Global};
@@ -78,7 +78,8 @@ fn push_rows(
     new_type: usize,
     differences: &[Difference],
 ) -> Result<(), AllocError>
-    ensures { OnOk result (rows.new.items ≡ rows.old.items ++ map (difference_row old_type new_type) differences.now) }
+    ensures { OnOk result (rows.new.items ≡ rows.old.items ++ map
+        (difference_row old_type new_type) differences.now) }
 {
     for difference in differences {
         rows.push(row_of(old_type, new_type, *difference))?;
@@ -113,8 +114,10 @@ fn differences_of(
     new: &Pool,
     new_type: u32,
 ) -> Result<Vec<DifferenceReport>, u32>
-    ensures compared { IfOk result (λ v. (cs : List Compared) × IsComparison old.now new.now (old_type, new_type) cs × (v.items ≡ rows_of cs)) }
-    ensures no_type { result ≡ Err NO_TYPE ↔ (length old.now.messages ≤ old_type) ⊎ (length new.now.messages ≤ new_type) }
+    ensures compared { IfOk result (λ v. (cs : List Compared)
+        × IsComparison old.now new.now (old_type, new_type) cs × (v.items ≡ rows_of cs)) }
+    ensures no_type { result ≡ Err NO_TYPE ↔ (length old.now.messages ≤ old_type)
+        ⊎ (length new.now.messages ≤ new_type) }
     ensures answers { IfErr result (λ a. (a ≡ NO_TYPE) ⊎ (a ≡ MEMORY)) }
 {
     let Some(from) = type_numbered(old, old_type) else {
@@ -142,9 +145,11 @@ fn report_differences(
     out: &mut [DifferenceReport],
     count: &mut usize,
 ) -> u32
-    ensures reported { result ≡ DONE → IsReported old.now old_type new.now new_type out.old out.new count.new }
+    ensures reported { result ≡ DONE
+        → IsReported old.now old_type new.now new_type out.old out.new count.new }
     ensures unreported { result ≢ DONE → (out.new ≡ out.old) × (count.new ≡ count.old) }
-    ensures no_type { result ≡ NO_TYPE ↔ (length old.now.messages ≤ old_type) ⊎ (length new.now.messages ≤ new_type) }
+    ensures no_type { result ≡ NO_TYPE ↔ (length old.now.messages ≤ old_type)
+        ⊎ (length new.now.messages ≤ new_type) }
     ensures answers { (result ≡ DONE) ⊎ (result ≡ NO_TYPE) ⊎ (result ≡ MEMORY) }
 {
     match differences_of(alloc, old, old_type, new, new_type) {
@@ -173,15 +178,20 @@ pub extern "C" fn mb_compat(
     out: &mut [DifferenceReport],
     count: &mut usize,
 ) -> u32
-    ensures reported { result ≡ DONE → (ts us : Types) × HasType (types_held old_pool.old) old_type ts
-        × HasType (types_held new_pool.old) new_type us × IsReported ts old_type us new_type out.old out.new count.new }
+    ensures reported { result ≡ DONE → (ts us : Types)
+        × HasType (types_held old_pool.old) old_type ts
+        × HasType (types_held new_pool.old) new_type us
+        × IsReported ts old_type us new_type out.old out.new count.new }
     ensures unreported { result ≢ DONE → (out.new ≡ out.old) × (count.new ≡ count.old) }
-    ensures empty { result ≡ EMPTY ↔ (types_held old_pool.old ≡ None) ⊎ (types_held new_pool.old ≡ None) }
-    ensures no_type { result ≡ NO_TYPE → LacksType (types_held old_pool.old) old_type ⊎ LacksType (types_held new_pool.old) new_type }
-    ensures typed { (ts us : Types) → HasType (types_held old_pool.old) old_type ts → HasType (types_held new_pool.old) new_type us
-        → (result ≡ DONE) ⊎ (result ≡ MEMORY) }
+    ensures empty { result ≡ EMPTY ↔ (types_held old_pool.old ≡ None)
+        ⊎ (types_held new_pool.old ≡ None) }
+    ensures no_type { result ≡ NO_TYPE → LacksType (types_held old_pool.old) old_type
+        ⊎ LacksType (types_held new_pool.old) new_type }
+    ensures typed { (ts us : Types) → HasType (types_held old_pool.old) old_type ts
+        → HasType (types_held new_pool.old) new_type us → (result ≡ DONE) ⊎ (result ≡ MEMORY) }
     ensures answers { (result ≡ DONE) ⊎ (result ≡ EMPTY) ⊎ (result ≡ NO_TYPE) ⊎ (result ≡ MEMORY) }
-    ensures same { (old_pool.new.seal.pool ≡ old_pool.old.seal.pool) × (new_pool.new.seal.pool ≡ new_pool.old.seal.pool) }
+    ensures same { (old_pool.new.seal.pool ≡ old_pool.old.seal.pool)
+        × (new_pool.new.seal.pool ≡ new_pool.old.seal.pool) }
 {
     let Some(from) = take(alloc, old_pool) else {
         return EMPTY;

@@ -6,6 +6,7 @@ pub(crate) mod free;
 pub(crate) mod link;
 pub(crate) mod link_lenient;
 mod linking;
+pub(crate) mod path;
 pub(crate) mod refusal;
 pub(crate) mod set;
 pub(crate) mod share;

@@ -1,10 +1,9 @@
 //! What is asked of places that C says.
 
 use super::schema::Schema;
-use pb_c_keys::{KeyCounts, keys_at};
-use pb_c_values::{
-    Miss, PlainValue, bytes_at, fields_at, key_at, key_bytes, key_value, oneof_at, unknown_at,
-    value_at,
+use pb_c_message::{
+    KeyCounts, Miss, PlainValue, bytes_at, fields_at, key_at, key_bytes, key_value, keys_at,
+    oneof_at, unknown_at, value_at,
 };
 use pb_test_types::body_of;
 use pb_value::DynamicMessage;
@@ -135,7 +134,7 @@ fn step_of(word: &str) -> Result<PlainValue, Fail> {
     })
 }
 
-fn place_of(alloc: Global, words: &str) -> Result<Vec<PlainValue>, Fail> {
+pub(crate) fn place_of(alloc: Global, words: &str) -> Result<Vec<PlainValue>, Fail> {
     let mut place = Vec::new(alloc);
     for word in words.split_whitespace() {
         place.push(step_of(word)?)?;

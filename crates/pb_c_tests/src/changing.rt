@@ -1,8 +1,7 @@
 //! Changes at places that C says.
 
 use super::schema::Schema;
-use pb_c_changes::{PlainChange, Put, Unchanged, change};
-use pb_c_values::PlainValue;
+use pb_c_message::{PlainChange, PlainValue, Put, Unchanged, change};
 use pb_test_types::body_of;
 use std::alloc::Global;
 use std::test::Fail;

@@ -1,10 +1,11 @@
 //! Messages that are held as their canonical bytes.
 
-ghost use Rattle.pb_c_held.specs.Holds.{IsHeld};
+ghost use Rattle.pb_c_message.specs.Holds.{IsHeld};
 
 use super::schema::Schema;
-use pb_c_held::{Held, bytes_held, bytes_to_hold, canonical_bytes, plain_held, take_body};
-use pb_c_values::PlainValue;
+use pb_c_message::{
+    Held, PlainValue, bytes_held, bytes_to_hold, canonical_bytes, plain_held, take_body,
+};
 use pb_canonical::is_canonical;
 use pb_test_types::body_of;
 use pb_value::Body;

@@ -1,5 +1,5 @@
-//! Tests of what the calls for C do with a message: reading, holding and changing it, by the public calls of `pb_c_values`, `pb_c_keys`, `pb_c_held`
-//! and `pb_c_changes`.
+//! Tests of what the calls for C do with a message: reading, holding and changing it, by the public calls of
+//! `pb_c_message` and `pb_c_paths`.
 #![tactic(auto)]
 
 #[cfg(test)]
@@ -8,6 +8,8 @@ mod asking;
 mod changing;
 #[cfg(test)]
 mod holding;
+#[cfg(test)]
+mod paths;
 #[cfg(test)]
 mod schema;
 #[cfg(test)]

@@ -22,9 +22,11 @@ impl Schema {
     }
 }
 
-/// package a.b; message T { int32 a = 1; string b = 2; T c = 3; repeated int32 e = 6; oneof o { uint32 x = 7; T y = 8; }
-/// map<string, int32> m = 9; optional bool p = 10; map<uint32, T> n = 12; repeated string u = 13; repeated T r = 19;
-/// N l = 20; double d = 21; float f = 22; int64 g = 23; uint64 h = 24; bytes i = 25; map<bool, int64> k = 27; } message N { string z = 1; }
+/// package a.b; message T { int32 a = 1; string b = 2; T c = 3; repeated int32 e = 6; oneof o { uint32 x = 7;
+/// T y = 8; } map<string, int32> m = 9; optional bool p = 10; map<uint32, T> n = 12; repeated string u = 13;
+/// repeated T r = 19; N l = 20; double d = 21; float f = 22; int64 g = 23; uint64 h = 24; bytes i = 25;
+/// map<bool, int64> k = 27; map<sint32, int32> s = 28; map<int64, int32> v = 29; map<fixed64, int32> w = 30;
+/// } message N { string z = 1; }
 pub(crate) fn sample(alloc: Global) -> Result<Schema, Fail> {
     let pool = pool_of(alloc, &[("t.proto", "a.b", false)], TYPES, ENUMS)?;
     let message_type = pool.message_by_name("a.b.T").ok_or("no type")?;
@@ -59,6 +61,9 @@ const FIELDS_OF_T: &[FieldRow] = &[
     ("h", 24, Kind::Uint64, Shape::Implicit),
     ("i", 25, Kind::Bytes, Shape::Implicit),
     ("k", 27, Kind::Int64, Shape::Map { key: Kind::Bool }),
+    ("s", 28, Kind::Int32, Shape::Map { key: Kind::Sint32 }),
+    ("v", 29, Kind::Int32, Shape::Map { key: Kind::Int64 }),
+    ("w", 30, Kind::Int32, Shape::Map { key: Kind::Fixed64 }),
 ];
 
 const FIELDS_OF_N: &[FieldRow] = &[("z", 1, Kind::Text, Shape::Implicit)];

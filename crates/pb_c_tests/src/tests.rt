@@ -63,3 +63,23 @@ fn holding(rt: HostRuntime) -> Result<(), Fail> {
     assert!(rt; wrong.is_none(), "{wrong:?}");
     Ok(())
 }
+
+/// The first row that does not hold.
+fn wrong_paths(alloc: Global) -> Result<Option<&'static str>, Fail> {
+    let schema: Schema = sample(alloc)?;
+    for table in &[super::paths::ROWS] {
+        for row in table.lines() {
+            if !row.is_empty() && !super::paths::is_right(alloc, &schema, row)? {
+                return Ok(Some(row));
+            }
+        }
+    }
+    Ok(None)
+}
+
+#[test]
+fn paths(rt: HostRuntime) -> Result<(), Fail> {
+    let wrong = wrong_paths(rt.alloc())?;
+    assert!(rt; wrong.is_none(), "{wrong:?}");
+    Ok(())
+}

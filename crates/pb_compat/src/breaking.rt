@@ -47,10 +47,11 @@ fn any_break(compared: &[ComparedTypes]) -> bool
 /// differences; nothing is allocated.
 pub fn breaks_reading(compared: &[ComparedTypes]) -> bool
     ensures exact { result ≡ break_in compared.now }
-    ensures read { (old new : Types) (m n : ℕ) → IsPool old → IsPool new → IsComparison old new (m, n) compared.now → result ≡ false
-        → IsReadAs old new m n }
-    ensures each_read { (old new : Types) (starts : List (ℕ × ℕ)) (m n : ℕ) → IsPool old → IsPool new → IsComparisonFrom old new starts compared.now
-        → Contains starts (m, n) → result ≡ false → IsReadAs old new m n }
+    ensures read { (old new : Types) (m n : ℕ) → IsPool old → IsPool new
+        → IsComparison old new (m, n) compared.now → result ≡ false → IsReadAs old new m n }
+    ensures each_read { (old new : Types) (starts : List (ℕ × ℕ)) (m n : ℕ) → IsPool old
+        → IsPool new → IsComparisonFrom old new starts compared.now → Contains starts (m, n)
+        → result ≡ false → IsReadAs old new m n }
 {
     any_break(compared)
 }

@@ -42,8 +42,10 @@ fn compare_types(
     requires size { index < length (steps_of pairs.old) }
     ensures types { IfOk result (λ c. types_of c ≡ (old_type.0, new_type.0)) }
     ensures step { IfOk result (λ c. slice_get (steps_of pairs.new) index ≡ Some c.reached_by) }
-    ensures differences { IfOk result (λ c. AreDifferences old.now new.now old_type.0 new_type.0 c.differences.items) }
-    ensures followed { OnOk result (FollowsAll old.now new.now index (old_type.0, new_type.0) pairs.old pairs.new) }
+    ensures differences { IfOk result
+        (λ c. AreDifferences old.now new.now old_type.0 new_type.0 c.differences.items) }
+    ensures followed { OnOk result
+        (FollowsAll old.now new.now index (old_type.0, new_type.0) pairs.old pairs.new) }
 {
     let numbers = numbers_in(alloc, old, old_type)?;
     pairs.follow(old, old_type, new, new_type, index, &numbers)?;
@@ -138,9 +140,11 @@ pub fn compare(
 ) -> Result<Vec<ComparedTypes>, AllocError>
     requires old { old_type.0 < length old.now.messages }
     requires new { new_type.0 < length new.now.messages }
-    ensures compared { IfOk result (λ v. IsComparison old.now new.now (old_type.0, new_type.0) v.items) }
+    ensures compared { IfOk result
+        (λ v. IsComparison old.now new.now (old_type.0, new_type.0) v.items) }
     ensures linked { IfOk result (λ v. AreLinked old.now new.now v.items) }
-    ensures began { IfOk result (λ v. (start : ℕ × ℕ) (n i : ℕ) → IsReachedFrom v.items start n i → start ≡ (old_type.0, new_type.0)) }
+    ensures began { IfOk result (λ v. (start : ℕ × ℕ) (n i : ℕ) → IsReachedFrom v.items start n i
+        → start ≡ (old_type.0, new_type.0)) }
 {
     compare_pairs(alloc, old, new, &[(old_type.0, new_type.0)])
 }
@@ -149,7 +153,8 @@ pub fn compare(
 /// number lead to if both hold messages, as `compare` does. The types of the same names come first, in the order of the old pool. A type that
 /// the new pool lacks is in no pair by its name: `namesake` finds none.
 pub fn compare_all(alloc: Global, old: &Pool, new: &Pool) -> Result<Vec<ComparedTypes>, AllocError>
-    ensures compared { IfOk result (λ v. IsComparisonFrom old.now new.now (namesakes_of old.now new.now) v.items) }
+    ensures compared { IfOk result
+        (λ v. IsComparisonFrom old.now new.now (namesakes_of old.now new.now) v.items) }
     ensures linked { IfOk result (λ v. AreLinked old.now new.now v.items) }
 {
     let starts = namesakes(alloc, old, new)?;

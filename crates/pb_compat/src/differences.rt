@@ -36,9 +36,10 @@ fn add_changes(
     from: &Field,
     to: &Field,
 ) -> Result<(), AllocError>
-    ensures { OnOk result (differences.new.items ≡ differences.old.items ++ differences_of number
-        (option_to_list (change_of_field old.now new.now crowded (field_view from.now) (field_view to.now))
-        ++ renaming_of (field_view from.now) (field_view to.now))) }
+    ensures { OnOk result (differences.new.items
+        ≡ differences.old.items ++ differences_of number
+        (option_to_list (change_of_field old.now new.now crowded (field_view from.now)
+        (field_view to.now)) ++ renaming_of (field_view from.now) (field_view to.now))) }
 {
     if let Some(severity) = change_of(old, new, crowded, from, to) {
         differences.push(Difference { number, severity })?;
@@ -65,7 +66,8 @@ fn add_differences(
     requires old { old_type.0 < length old.now.messages }
     requires new { new_type.0 < length new.now.messages }
     requires crowds { HasCrowds old.now old_type.0 new.now new_type.0 crowded.now }
-    ensures { OnOk result (differences.new.items ≡ differences.old.items ++ differences_at old.now new.now old_type.0 new_type.0 number) }
+    ensures { OnOk result (differences.new.items
+        ≡ differences.old.items ++ differences_at old.now new.now old_type.0 new_type.0 number) }
 {
     let Some(from) = old.field_by_number(old_type, number) else {
         return Ok(());

@@ -155,7 +155,8 @@ pub(crate) fn change_of(
     from: &Field,
     to: &Field,
 ) -> Option<Severity>
-    ensures { result ≡ change_of_field old.now new.now crowded (field_view from.now) (field_view to.now) }
+    ensures { result ≡ change_of_field old.now new.now crowded (field_view from.now)
+        (field_view to.now) }
 {
     if !keeps_field(old, new, crowded, from, to) {
         Some(Severity::BreaksReading)

@@ -12,7 +12,8 @@ ghost use Rattle.pb_schema.specs.Rules.{IsPool};
 /// Where the table keeps the scalars of a kind, the new kind reads of what the old kind wrote for each of them a value of its own, which
 /// means the same.
 pub fn scalars_kept()
-    ensures { (old new : Types) (a b : Kind) → IsTrue (keeps_scalars old new a b) → KeepsScalars old new a b }
+    ensures { (old new : Types) (a b : Kind) → IsTrue (keeps_scalars old new a b)
+        → KeepsScalars old new a b }
 {}
 
 /// Where no difference breaks reading, between any two types that at most 100 fields lead to, the new type reads of the canonical records of a

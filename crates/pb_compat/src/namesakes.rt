@@ -26,7 +26,8 @@ fn add_namesake(
     index: usize,
 ) -> Result<(), AllocError>
     requires { index < length old.now.messages }
-    ensures added { OnOk result (pairs.new.items ≡ pairs.old.items ++ namesake_at old.now new.now index) }
+    ensures added { OnOk result (pairs.new.items
+        ≡ pairs.old.items ++ namesake_at old.now new.now index) }
     ensures within { AllByRecursion (IsWithin old.now new.now) pairs.old.items
         → OnOk result (AllByRecursion (IsWithin old.now new.now) pairs.new.items) }
 {

@@ -32,7 +32,8 @@ fn body_round(
     requires old { old_type.0 < length old.now.messages }
     requires new { new_type.0 < length new.now.messages }
     requires field { is_some (field_numbered number (message_fields old.now old_type.0)) ≡ true }
-    ensures { IfOk result (λ b. IsBuiltRound old.now new.now old_type.0 new_type.0 number (body_view inner) (body_view b)) }
+    ensures { IfOk result (λ b. IsBuiltRound old.now new.now old_type.0 new_type.0 number
+        (body_view inner) (body_view b)) }
 {
     if let Some(body) = witness_body(alloc, old, old_type, new, new_type, number)? {
         return Ok(body);
@@ -56,10 +57,14 @@ fn nested_body(
 ) -> Result<Option<(MessageId, Body)>, AllocError>
     requires linked { AreLinked old.now new.now compared.now }
     requires index { index < length compared.now }
-    ensures shown { IfOk result (λ o. IfSome o (λ r. IsNestedWitness old.now new.now compared.now index r.0.0 (body_view r.1))) }
+    ensures shown { IfOk result
+        (λ o. IfSome o (λ r. IsNestedWitness old.now new.now compared.now index r.0.0
+        (body_view r.1))) }
     ensures within { IfOk result (λ o. IfSome o (λ r. r.0.0 < length old.now.messages)) }
-    ensures exact { (c : Compared) (start : ℕ × ℕ) (n : ℕ) → slice_get compared.now index ≡ Some c → IsReachedFrom compared.now start n index
-        → IfOk result (λ o. is_some o ≡ (break_among (differences_at old.now new.now c.old.0 c.new.0 number) && nat_lt n 100)) }
+    ensures exact { (c : Compared) (start : ℕ × ℕ) (n : ℕ) → slice_get compared.now index ≡ Some c
+        → IsReachedFrom compared.now start n index
+        → IfOk result (λ o. is_some o
+        ≡ (break_among (differences_at old.now new.now c.old.0 c.new.0 number) && nat_lt n 100)) }
 {
     let mut types = &compared[index];
     let found = witness_body(alloc, old, types.old, new, types.new, number)?;
@@ -97,10 +102,14 @@ pub fn nested_witness<'p>(
     requires linked { AreLinked old.now new.now compared.now }
     requires index { index < length compared.now }
     ensures typed { IfOk result (λ o. IfSome o (λ w. w.pool ≡ old.now)) }
-    ensures shown { IfOk result (λ o. IfSome o (λ w. IsNestedWitness old.now new.now compared.now index w.kind w.body)) }
-    ensures exact { (c : Compared) (start : ℕ × ℕ) (n : ℕ) → slice_get compared.now index ≡ Some c → IsReachedFrom compared.now start n index
-        → IfOk result (λ o. is_some o ≡ (break_among (differences_at old.now new.now c.old.0 c.new.0 number) && nat_lt n 100)) }
-    ensures reachable { IfOk result (λ o. IsFoundWhereNear old.now new.now compared.now index number (is_some o)) }
+    ensures shown { IfOk result
+        (λ o. IfSome o (λ w. IsNestedWitness old.now new.now compared.now index w.kind w.body)) }
+    ensures exact { (c : Compared) (start : ℕ × ℕ) (n : ℕ) → slice_get compared.now index ≡ Some c
+        → IsReachedFrom compared.now start n index
+        → IfOk result (λ o. is_some o
+        ≡ (break_among (differences_at old.now new.now c.old.0 c.new.0 number) && nat_lt n 100)) }
+    ensures reachable { IfOk result
+        (λ o. IsFoundWhereNear old.now new.now compared.now index number (is_some o)) }
 {
     match nested_body(alloc, old, new, compared, index, number)? {
         Some((message_type, body)) => Ok(Some(from_well_formed(alloc, old, message_type, body))),

@@ -75,8 +75,10 @@ pub(crate) fn is_in_crowd(
 ) -> bool
     requires within { new_type.0 < length new.now.messages }
     requires crowds { HasCrowds old.now old_type.0 new.now new_type.0 crowded.now }
-    requires oneof { IfSome (slice_get new.now.messages new_type.0) (λ t. NamesOneof (length t.oneofs) shape) }
-    ensures { result ≡ in_crowd (is_crowded (message_fields old.now old_type.0) (message_fields new.now new_type.0)) shape }
+    requires oneof { IfSome (slice_get new.now.messages new_type.0)
+        (λ t. NamesOneof (length t.oneofs) shape) }
+    ensures { result ≡ in_crowd
+        (is_crowded (message_fields old.now old_type.0) (message_fields new.now new_type.0)) shape }
 {
     match shape {
         Shape::OneofMember(oneof) => match crowded.get(oneof as usize) {

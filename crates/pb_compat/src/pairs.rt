@@ -51,7 +51,9 @@ impl Pairs {
 
     /// The pairs where a comparison begins, which differ.
     pub(crate) fn begin(alloc: Global, starts: &[(usize, usize)]) -> Result<Pairs, AllocError>
-        ensures { (old new : Types) → AllDiffer starts.now → AllByRecursion (IsWithin old new) starts.now → IfOk result (HasBegun old new starts.now (length starts.now)) }
+        ensures { (old new : Types) → AllDiffer starts.now
+            → AllByRecursion (IsWithin old new) starts.now
+            → IfOk result (HasBegun old new starts.now (length starts.now)) }
     {
         let mut pairs = Pairs::new(alloc);
         for start in starts {
@@ -84,7 +86,8 @@ impl Pairs {
         requires old { old_type.0 < length old.now.messages }
         requires new { new_type.0 < length new.now.messages }
         requires rising { AreRising (message_fields old.now old_type.0) numbers.now }
-        ensures { OnOk result (Follows old.now new.now index (old_type.0, new_type.0) numbers.now self.old self.new) }
+        ensures { OnOk result (Follows old.now new.now index
+            (old_type.0, new_type.0) numbers.now self.old self.new) }
     {
         for number in numbers {
             if let Some(pair) = pair_at(old, old_type, new, new_type, *number) {

@@ -29,7 +29,8 @@ impl ComparedTypes {
 
     /// A difference of these types as a line. The pools are those that were compared.
     pub fn report<'p>(&self, old: &'p Pool, new: &'p Pool, difference: Difference) -> Report<'p>
-        ensures { reported result ≡ difference_text old.now new.now self.now.old.0 self.now.new.0 difference }
+        ensures { reported result
+            ≡ difference_text old.now new.now self.now.old.0 self.now.new.0 difference }
     {
         Report {
             old,
@@ -128,7 +129,8 @@ fn write_oneof<W: fmt::Write>(
     message: MessageId,
     oneof: u32,
 ) -> fmt::Result
-    ensures { WritesOnOk W.write_str_gives f.old result (oneof_word pool.now message.0 oneof) f.new }
+    ensures { WritesOnOk W.write_str_gives f.old result
+        (oneof_word pool.now message.0 oneof) f.new }
 {
     let Some(message) = pool.messages().get(message.0) else {
         return Ok(());
@@ -157,7 +159,8 @@ fn write_type<W: fmt::Write>(
     shape: Shape,
     kind: Kind,
 ) -> fmt::Result
-    ensures { WritesOnOk W.write_str_gives f.old result (type_text pool.now message.0 shape kind) f.new }
+    ensures { WritesOnOk W.write_str_gives f.old result
+        (type_text pool.now message.0 shape kind) f.new }
 {
     match shape {
         Shape::Implicit => write_kind(f, pool, kind),
@@ -183,7 +186,9 @@ fn write_map<W: fmt::Write>(
     key: Kind,
     kind: Kind,
 ) -> fmt::Result
-    ensures { WritesOnOk W.write_str_gives f.old result (codes "map<" ++ kind_text pool.now key ++ codes ", " ++ kind_text pool.now kind ++ codes ">") f.new }
+    ensures { WritesOnOk W.write_str_gives f.old result
+        (codes "map<" ++ kind_text pool.now key ++ codes ", " ++ kind_text pool.now kind
+        ++ codes ">") f.new }
 {
     f.write_str("map<")?;
     write_kind(f, pool, key)?;
@@ -200,7 +205,8 @@ fn write_head<W: fmt::Write>(
     number: u32,
     word: &str,
 ) -> fmt::Result
-    ensures { WritesOnOk W.write_str_gives f.old result (head_text message.now field.now number word.now) f.new }
+    ensures { WritesOnOk W.write_str_gives f.old result
+        (head_text message.now field.now number word.now) f.new }
 {
     write!(f, "{message}.{field} {number} {word} ")
 }
@@ -208,15 +214,18 @@ fn write_head<W: fmt::Write>(
 impl Report<'_> {
     /// The field that the new type has.
     fn new_field(&self) -> Option<&Field>
-        ensures { option_map (λ f. field_view f.now) result ≡ field_at self.now.new.now self.now.new_type.0 self.now.difference.number }
+        ensures { option_map (λ f. field_view f.now) result
+            ≡ field_at self.now.new.now self.now.new_type.0 self.now.difference.number }
     {
         field_of(self.new, self.new_type, self.difference.number)
     }
 
     /// Writes what the field is, and what it was.
     fn write_types<W: fmt::Write>(&self, f: &mut fmt::Formatter<W>, from: &Field) -> fmt::Result
-        ensures { WritesOnOk W.write_str_gives f.old result (types_text self.now.old.now self.now.new.now self.now.old_type.0 self.now.new_type.0
-            (field_view from.now) (field_at self.now.new.now self.now.new_type.0 self.now.difference.number)) f.new }
+        ensures { WritesOnOk W.write_str_gives f.old result
+            (types_text self.now.old.now self.now.new.now self.now.old_type.0 self.now.new_type.0
+            (field_view from.now)
+            (field_at self.now.new.now self.now.new_type.0 self.now.difference.number)) f.new }
     {
         if let Some(to) = self.new_field() {
             write_type(f, self.new, self.new_type, to.shape, to.kind)?;
@@ -239,7 +248,8 @@ impl Report<'_> {
 
     /// Writes the field's full name, its number, what the change does, and what it is.
     fn write_field<W: fmt::Write>(&self, f: &mut fmt::Formatter<W>, from: &Field) -> fmt::Result
-        ensures { WritesOnOk W.write_str_gives f.old result (field_text self.now.old.now self.now.new.now self.now.old_type.0 self.now.new_type.0
+        ensures { WritesOnOk W.write_str_gives f.old result
+            (field_text self.now.old.now self.now.new.now self.now.old_type.0 self.now.new_type.0
             self.now.difference (field_view from.now)) f.new }
     {
         write_head(
@@ -254,8 +264,10 @@ impl Report<'_> {
 
     /// Writes what the change is.
     fn write_change<W: fmt::Write>(&self, f: &mut fmt::Formatter<W>, from: &Field) -> fmt::Result
-        ensures { WritesOnOk W.write_str_gives f.old result (change_text self.now.old.now self.now.new.now self.now.old_type.0 self.now.new_type.0
-            self.now.difference.severity (field_view from.now) (field_at self.now.new.now self.now.new_type.0 self.now.difference.number)) f.new }
+        ensures { WritesOnOk W.write_str_gives f.old result
+            (change_text self.now.old.now self.now.new.now self.now.old_type.0 self.now.new_type.0
+            self.now.difference.severity (field_view from.now)
+            (field_at self.now.new.now self.now.new_type.0 self.now.difference.number)) f.new }
     {
         match self.difference.severity {
             Severity::Renames => self.write_names(f, from),

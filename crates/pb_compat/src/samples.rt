@@ -75,7 +75,8 @@ fn first_number(pool: &Pool, entry: EnumId) -> i32
 pub(crate) fn any_value(alloc: Global, pool: &Pool, kind: Kind) -> Result<Value, AllocError>
     requires { NamesType (length pool.now.messages) (length pool.now.enums) kind }
     ensures value { IfOk result (λ v. IsValue pool.now kind (value_view v)) }
-    ensures other { closed_enum kind ≡ None → IfOk result (λ v. is_default_datum (value_view v) ≡ false) }
+    ensures other { closed_enum kind ≡ None
+        → IfOk result (λ v. is_default_datum (value_view v) ≡ false) }
 {
     match kind {
         Kind::ClosedEnum(entry) => Ok(Value::Enum(first_number(pool, entry))),
@@ -130,8 +131,10 @@ fn number_lost(pool: &Pool, entry: EnumId) -> i32
 
 /// A value of the old kind that the new kind, which does not keep the old one, reads otherwise or not at all, of other pairs than the above.
 fn open_value(alloc: Global, from: Kind, to: Kind) -> Result<Value, AllocError>
-    ensures same { IfOk result (λ v. wire_type_of from ≡ wire_type_of to → value_view v ≡ edge_of from) }
-    ensures other { IfOk result (λ v. (wire_type_of from == wire_type_of to) ≡ false → value_view v ≡ sample_of from) }
+    ensures same { IfOk result (λ v. wire_type_of from ≡ wire_type_of to
+        → value_view v ≡ edge_of from) }
+    ensures other { IfOk result (λ v. (wire_type_of from == wire_type_of to) ≡ false
+        → value_view v ≡ sample_of from) }
 {
     if from.wire_type() == to.wire_type() {
         edge(alloc, from)

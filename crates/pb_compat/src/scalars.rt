@@ -51,7 +51,9 @@ fn holds_values(new: &Pool, kind: Kind, values: &[(String, i32)]) -> bool
 /// A number, or the one that has all its bits turned, that an enum does not declare. 0 is not looked for.
 fn undeclared_at(pool: &Pool, entry: EnumId, size: u32) -> Option<i32>
     requires { size < 2 ^ 31 }
-    ensures all { is_none result ≡ (((size == 0) || declares_in pool.now entry.0 (pos size)) && declares_in pool.now entry.0 (negsuc size)) }
+    ensures all { is_none result
+        ≡ (((size == 0) || declares_in pool.now entry.0 (pos size)) && declares_in pool.now entry.0
+        (negsuc size)) }
     ensures some { IfSome result (λ z. declares_in pool.now entry.0 z ≡ false) }
     ensures other { IfSome result (λ z. z ≢ pos 0) }
 {

@@ -33,7 +33,8 @@ pub(crate) fn content_of(
     value: Value,
 ) -> Result<Content, AllocError>
     requires { may_fill shape (is_some key) (value_view value) ≡ true }
-    ensures made { IfOk result (λ c. IsMadeOf (option_map key_view key) (value_view value) (content_view c)) }
+    ensures made { IfOk result
+        (λ c. IsMadeOf (option_map key_view key) (value_view value) (content_view c)) }
     ensures shaped { IfOk result (λ c. IsOfShape shape (content_view c)) }
 {
     match (shape, key) {
@@ -84,7 +85,8 @@ fn entry_lost(
     requires settable { IsSettable old.now (field_view from.now) }
     requires map { from.now.shape ≡ shape.Map key }
     requires key { keeps_value old.now new.now key to ≡ false }
-    ensures { IfOk result (λ c. (x : Scalar) × (d : Datum) × IsValue old.now from.now.kind d × IsLostValue old.now new.now key to (scalar x)
+    ensures { IfOk result (λ c. (x : Scalar) × (d : Datum) × IsValue old.now from.now.kind d
+        × IsLostValue old.now new.now key to (scalar x)
         × (content_view c ≡ map (entry x d no_entries))) }
 {
     let value = any_value(alloc, old, from.kind)?;
@@ -102,7 +104,8 @@ fn content_by_shape(
 ) -> Result<Content, AllocError>
     requires settable { IsSettable old.now (field_view from.now) }
     requires shape { keeps_form old.now new.now from.now.shape to.now.shape ≡ false }
-    ensures { IfOk result (λ c. IsLost old.now new.now (field_view from.now) (field_view to.now) (content_view c)) }
+    ensures { IfOk result (λ c. IsLost old.now new.now (field_view from.now) (field_view to.now)
+        (content_view c)) }
 {
     match (from.shape, to.shape) {
         (Shape::Map { key }, Shape::Map { key: other }) => {
@@ -122,7 +125,8 @@ fn content_by_values(
 ) -> Result<Content, AllocError>
     requires settable { IsSettable old.now (field_view from.now) }
     requires values { keeps_all old.now new.now (field_view from.now) (field_view to.now) ≡ false }
-    ensures { IfOk result (λ c. HoldsLost old.now new.now (field_view from.now) (field_view to.now) (content_view c)) }
+    ensures { IfOk result (λ c. HoldsLost old.now new.now (field_view from.now) (field_view to.now)
+        (content_view c)) }
 {
     let value = lost_value(alloc, old, new, from.kind, to.kind)?;
     let key = any_key(alloc, old, from.shape)?;
@@ -155,7 +159,8 @@ fn partner_among<'p>(
     requires { old_type.0 < length old.now.messages }
     ensures settable { IfSome result (λ f. IsSettable old.now (field_view f.now)) }
     ensures found { option_map (λ f. field_view f.now) result
-        ≡ find (are_beside (field_view from.now)) (fields_at (message_fields old.now old_type.0) numbers.now) }
+        ≡ find (are_beside (field_view from.now))
+        (fields_at (message_fields old.now old_type.0) numbers.now) }
 {
     for number in numbers {
         if let Some(other) = old.field_by_number(old_type, *number) {
@@ -180,7 +185,8 @@ fn partner<'p>(
     requires new { new_type.0 < length new.now.messages }
     ensures settable { IfSome result (λ f. IsSettable old.now (field_view f.now)) }
     ensures found { option_map (λ f. field_view f.now) result
-        ≡ partner_of (message_fields old.now old_type.0) (message_fields new.now new_type.0) (field_view from.now) to.now.shape }
+        ≡ partner_of (message_fields old.now old_type.0) (message_fields new.now new_type.0)
+        (field_view from.now) to.now.shape }
 {
     match to.shape {
         Shape::OneofMember(oneof) => {
@@ -194,7 +200,8 @@ fn partner<'p>(
 fn body_of_two(alloc: Global, old: &Pool, from: &Field, other: &Field) -> Result<Body, AllocError>
     requires from { IsSettable old.now (field_view from.now) }
     requires other { IsSettable old.now (field_view other.now) }
-    ensures { IfOk result (λ b. IsPairOf old.now (field_view from.now) (field_view other.now) (body_view b)) }
+    ensures { IfOk result (λ b. IsPairOf old.now (field_view from.now) (field_view other.now)
+        (body_view b)) }
 {
     let content = any_content(alloc, old, from)?;
     let second = any_content(alloc, old, other)?;
@@ -212,9 +219,12 @@ fn content_lost(
     to: &Field,
 ) -> Result<Option<Content>, AllocError>
     requires { IsSettable old.now (field_view from.now) }
-    ensures lost { IfOk result (λ o. IfSome o (λ c. IsLost old.now new.now (field_view from.now) (field_view to.now) (content_view c))) }
-    ensures exact { IfOk result (λ o. is_some o ≡ not (keeps_all old.now new.now (field_view from.now) (field_view to.now)
-        && keeps_form old.now new.now from.now.shape to.now.shape)) }
+    ensures lost { IfOk result
+        (λ o. IfSome o (λ c. IsLost old.now new.now (field_view from.now) (field_view to.now)
+        (content_view c))) }
+    ensures exact { IfOk result (λ o. is_some o
+        ≡ not (keeps_all old.now new.now (field_view from.now)
+        (field_view to.now) && keeps_form old.now new.now from.now.shape to.now.shape)) }
 {
     if !keeps_shape(old, new, from.shape, to.shape) {
         Ok(Some(content_by_shape(alloc, old, new, from, to)?))
@@ -238,8 +248,12 @@ fn witness_between(
     requires old { old_type.0 < length old.now.messages }
     requires new { new_type.0 < length new.now.messages }
     requires settable { IsSettable old.now (field_view from.now) }
-    ensures built { IfOk result (λ o. IfSome o (λ b. IsBuilt old.now new.now old_type.0 new_type.0 (field_view from.now) (field_view to.now) (body_view b))) }
-    ensures exact { IfOk result (λ o. is_some o ≡ has_witness old.now new.now old_type.0 new_type.0 (field_view from.now) (field_view to.now)) }
+    ensures built { IfOk result
+        (λ o. IfSome o (λ b. IsBuilt old.now new.now old_type.0 new_type.0 (field_view from.now)
+        (field_view to.now) (body_view b))) }
+    ensures exact { IfOk result (λ o. is_some o
+        ≡ has_witness old.now new.now old_type.0 new_type.0 (field_view from.now)
+        (field_view to.now)) }
 {
     if let Some(content) = content_lost(alloc, old, new, from, to)? {
         return Ok(Some(body_of(alloc, from.number, content)?));
@@ -261,10 +275,14 @@ pub(crate) fn witness_body(
 ) -> Result<Option<Body>, AllocError>
     requires old { old_type.0 < length old.now.messages }
     requires new { new_type.0 < length new.now.messages }
-    ensures built { IfOk result (λ o. IfSome o (λ b. IsBuiltAt old.now new.now old_type.0 new_type.0 number (body_view b))) }
+    ensures built { IfOk result
+        (λ o. IfSome o (λ b. IsBuiltAt old.now new.now old_type.0 new_type.0 number
+        (body_view b))) }
     ensures rules { IfOk result (λ o. IfSome o (λ b. IsPool old.now × IsPool new.now)) }
-    ensures shown { IfOk result (λ o. IfSome o (λ b. IsWitness old.now new.now old_type.0 new_type.0 (body_view b))) }
-    ensures exact { IfOk result (λ o. is_some o ≡ break_among (differences_at old.now new.now old_type.0 new_type.0 number)) }
+    ensures shown { IfOk result
+        (λ o. IfSome o (λ b. IsWitness old.now new.now old_type.0 new_type.0 (body_view b))) }
+    ensures exact { IfOk result (λ o. is_some o
+        ≡ break_among (differences_at old.now new.now old_type.0 new_type.0 number)) }
 {
     let Some(from) = old.field_by_number(old_type, number) else {
         return Ok(None);
@@ -290,8 +308,10 @@ pub fn witness<'p>(
     requires old { old_type.0 < length old.now.messages }
     requires new { new_type.0 < length new.now.messages }
     ensures typed { IfOk result (λ o. IfSome o (λ w. (w.pool ≡ old.now) × (w.kind ≡ old_type.0))) }
-    ensures shown { IfOk result (λ o. IfSome o (λ w. IsWitness old.now new.now old_type.0 new_type.0 w.body)) }
-    ensures exact { IfOk result (λ o. is_some o ≡ break_among (differences_at old.now new.now old_type.0 new_type.0 number)) }
+    ensures shown { IfOk result
+        (λ o. IfSome o (λ w. IsWitness old.now new.now old_type.0 new_type.0 w.body)) }
+    ensures exact { IfOk result (λ o. is_some o
+        ≡ break_among (differences_at old.now new.now old_type.0 new_type.0 number)) }
 {
     match witness_body(alloc, old, old_type, new, new_type, number)? {
         Some(body) => Ok(Some(from_well_formed(alloc, old, old_type, body))),

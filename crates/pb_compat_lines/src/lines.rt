@@ -39,7 +39,8 @@ fn add_missing_type(
     message: MessageId,
 ) -> Result<bool, AllocError>
     requires { message.0 < length old.now.messages }
-    ensures added { OnOk result (text.new.items ≡ text.old.items ++ missing_line prefix.now old.now message.0) }
+    ensures added { OnOk result (text.new.items
+        ≡ text.old.items ++ missing_line prefix.now old.now message.0) }
     ensures lacks { IfOk result (λ b. b ≡ true) }
 {
     text.extend_from_slice(prefix)?;
@@ -57,7 +58,8 @@ fn add_if_missing(
     message: MessageId,
 ) -> Result<bool, AllocError>
     requires { message.0 < length old.now.messages }
-    ensures added { OnOk result (text.new.items ≡ text.old.items ++ missing_at prefix.now old.now new.now message.0) }
+    ensures added { OnOk result (text.new.items
+        ≡ text.old.items ++ missing_at prefix.now old.now new.now message.0) }
     ensures lacks { IfOk result (λ b. b ≡ lacks old.now new.now message.0) }
 {
     match namesake(old, message, new) {
@@ -80,7 +82,8 @@ pub(crate) fn add_missing(
     old: &Pool,
     new: &Pool,
 ) -> Result<bool, AllocError>
-    ensures added { OnOk result (text.new.items ≡ text.old.items ++ missing_below prefix.now old.now new.now (length old.now.messages)) }
+    ensures added { OnOk result (text.new.items
+        ≡ text.old.items ++ missing_below prefix.now old.now new.now (length old.now.messages)) }
     ensures lacks { IfOk result (λ b. b ≡ lacks_below old.now new.now (length old.now.messages)) }
 {
     let mut some_lack = false;
@@ -118,7 +121,8 @@ fn add_field(
     message: MessageId,
     number: u32,
 ) -> Result<(), AllocError>
-    ensures { OnOk result (note.new.items ≡ note.old.items ++ field_lead old.now message.0 (field_at old.now message.0 number)) }
+    ensures { OnOk result (note.new.items ≡ note.old.items ++ field_lead old.now message.0
+        (field_at old.now message.0 number)) }
 {
     let Some(field) = field_of(old, message, number) else {
         return Ok(());
@@ -182,7 +186,8 @@ pub(crate) fn add_compared(
     new: &Pool,
     compared: &[ComparedTypes],
 ) -> Result<(), AllocError>
-    ensures { OnOk result (text.new.items ≡ text.old.items ++ compared_lines prefix.now old.now new.now compared.now) }
+    ensures { OnOk result (text.new.items ≡ text.old.items
+        ++ compared_lines prefix.now old.now new.now compared.now) }
 {
     for types in compared {
         add_types(text, alloc, prefix, old, new, compared, types)?;
@@ -200,7 +205,8 @@ fn add_types(
     compared: &[ComparedTypes],
     types: &ComparedTypes,
 ) -> Result<(), AllocError>
-    ensures { OnOk result (text.new.items ≡ text.old.items ++ types_lines prefix.now old.now new.now compared.now types.now) }
+    ensures { OnOk result (text.new.items ≡ text.old.items
+        ++ types_lines prefix.now old.now new.now compared.now types.now) }
 {
     let note = note_of(alloc, old, new, compared, types)?;
     for difference in &types.differences {
@@ -212,7 +218,8 @@ fn add_types(
 
 /// Adds a line that ends with a note.
 fn add_noted(text: &mut Vec<u8>, prefix: &[u8], line: &[u8], note: &[u8]) -> Result<(), AllocError>
-    ensures { OnOk result (text.new.items ≡ text.old.items ++ line_of prefix.now (line.now ++ note.now)) }
+    ensures { OnOk result (text.new.items ≡ text.old.items ++ line_of prefix.now
+        (line.now ++ note.now)) }
 {
     text.extend_from_slice(prefix)?;
     text.extend_from_slice(line)?;

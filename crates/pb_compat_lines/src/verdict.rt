@@ -51,7 +51,8 @@ fn report_both(
     new: &Pool,
     name: Option<&str>,
 ) -> Result<Option<Verdict>, AllocError>
-    ensures { IfOk result (Judges Readers.Both old.now new.now (option_map (λ n. n.now) name.entry)) }
+    ensures { IfOk result (Judges Readers.Both old.now new.now
+        (option_map (λ n. n.now) name.entry)) }
 {
     let Some(first) = report(alloc, b"backward ", old, new, name)? else {
         return Ok(None);
@@ -73,7 +74,8 @@ fn report(
     new: &Pool,
     name: Option<&str>,
 ) -> Result<Option<Verdict>, AllocError>
-    ensures { IfOk result (Reports prefix.now old.now new.now (option_map (λ n. n.now) name.entry)) }
+    ensures { IfOk result (Reports prefix.now old.now new.now
+        (option_map (λ n. n.now) name.entry)) }
 {
     match name {
         None => Ok(Some(report_all(alloc, prefix, old, new)?)),
@@ -109,7 +111,8 @@ fn report_types(
 ) -> Result<Verdict, AllocError>
     requires old { old_type.0 < length old.now.messages }
     requires new { new_type.0 < length new.now.messages }
-    ensures { IfOk result (λ v. IsReportOfTypes prefix.now old.now new.now old_type.0 new_type.0 v.text.items v.breaks) }
+    ensures { IfOk result (λ v.
+        IsReportOfTypes prefix.now old.now new.now old_type.0 new_type.0 v.text.items v.breaks) }
 {
     let compared = compare(alloc, old, old_type, new, new_type)?;
     let mut text = Vec::new(alloc);

@@ -68,24 +68,24 @@ pub(crate) fn answer_text(
 pub(crate) fn is_answered(
     alloc: Global,
     answer: Result<DynamicMessage<'_>, DecodeError>,
-    told: &str,
+    expected: &str,
 ) -> Result<bool, Fail> {
-    Ok(answer_text(alloc, answer)?.as_str() == told)
+    Ok(answer_text(alloc, answer)?.as_str() == expected)
 }
 
 /// Whether an answer is as expected, or Memory.
 pub(crate) fn is_answered_or_memory(
     alloc: Global,
     answer: Result<DynamicMessage<'_>, DecodeError>,
-    told: &str,
+    expected: &str,
 ) -> Result<bool, Fail> {
     if matches!(answer, Err(DecodeError::Memory)) {
         return Ok(true);
     }
-    is_answered(alloc, answer, told)
+    is_answered(alloc, answer, expected)
 }
 
 /// Whether a refusal is as expected.
-pub(crate) fn is_refused(alloc: Global, error: DecodeError, told: &str) -> Result<bool, Fail> {
-    Ok(refusal_text(alloc, error)?.as_str() == told)
+pub(crate) fn is_refused(alloc: Global, error: DecodeError, expected: &str) -> Result<bool, Fail> {
+    Ok(refusal_text(alloc, error)?.as_str() == expected)
 }

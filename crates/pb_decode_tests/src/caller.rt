@@ -49,7 +49,7 @@ fn decode_pieces<'p>(
 }
 
 /// Whether three pieces, of which the second is empty, are answered as expected, and so are their bytes at once.
-fn is_joined(schema: &Schema, bytes: &[u8], cut: usize, told: &str) -> Result<bool, Fail>
+fn is_joined(schema: &Schema, bytes: &[u8], cut: usize, expected: &str) -> Result<bool, Fail>
     requires { cut < length bytes.now }
 {
     let (first, rest) = bytes.split_at(cut);
@@ -62,15 +62,15 @@ fn is_joined(schema: &Schema, bytes: &[u8], cut: usize, told: &str) -> Result<bo
         Limits::FULL,
     );
     let whole = decode_whole(schema.alloc, &schema.pool, schema.kind, bytes, Limits::FULL);
-    Ok(is_answered(schema.alloc, fed, told)? && is_answered(schema.alloc, whole, told)?)
+    Ok(is_answered(schema.alloc, fed, expected)? && is_answered(schema.alloc, whole, expected)?)
 }
 
 /// The first cut of a row at which it is answered otherwise, or none.
 fn first_wrong(schema: &Schema, row: &str) -> Result<Option<usize>, Fail> {
-    let (input, told) = word(row);
+    let (input, expected) = word(row);
     let bytes = bytes_of(schema.alloc, input)?;
     for cut in 0..bytes.len() {
-        if !is_joined(schema, &bytes, cut, told)? {
+        if !is_joined(schema, &bytes, cut, expected)? {
             return Ok(Some(cut));
         }
     }

@@ -20,8 +20,8 @@ fn read_text(
 }
 
 /// Whether the failure after this number of calls is reported, or the fault before it.
-fn is_failure(answer: &str, calls: u64, told: &str) -> bool {
-    answer == "device" || calls > 0 && told.starts_with('!') && answer == told
+fn is_failure(answer: &str, calls: u64, expected: &str) -> bool {
+    answer == "device" || calls > 0 && expected.starts_with('!') && answer == expected
 }
 
 fn failing_after(calls: u64) -> FailurePlan {
@@ -35,10 +35,10 @@ fn is_cut(
     limits: Limits,
     bytes: &[u8],
     calls: u64,
-    told: &str,
+    expected: &str,
 ) -> Result<bool, Fail> {
     let answer = read_text(schema, limits, bytes, failing_after(calls))?;
-    Ok(is_failure(answer.as_str(), calls, told))
+    Ok(is_failure(answer.as_str(), calls, expected))
 }
 
 /// Whether each failing read, in turn, is reported.
@@ -46,28 +46,28 @@ fn is_cut_at_each_read(
     schema: &Schema,
     limits: Limits,
     bytes: &[u8],
-    told: &str,
+    expected: &str,
 ) -> Result<bool, Fail> {
     for calls in 0..=bytes.len() {
-        if !is_cut(schema, limits, bytes, calls as u64, told)? {
+        if !is_cut(schema, limits, bytes, calls as u64, expected)? {
             return Ok(false);
         }
     }
     Ok(true)
 }
 
-fn is_whole(schema: &Schema, limits: Limits, bytes: &[u8], told: &str) -> Result<bool, Fail> {
+fn is_whole(schema: &Schema, limits: Limits, bytes: &[u8], expected: &str) -> Result<bool, Fail> {
     let answer = read_text(schema, limits, bytes, FailurePlan::NEVER)?;
-    Ok(answer.as_str() == told)
+    Ok(answer.as_str() == expected)
 }
 
 /// Whether the answer is as expected from an input that gives a byte a call, and what is reported where a read fails.
 pub(crate) fn is_read(schema: &Schema, limits: Limits, words: &str) -> Result<bool, Fail> {
-    let (input, told) = word(words);
+    let (input, expected) = word(words);
     let bytes = bytes_of(schema.alloc, input)?;
     Ok(
-        is_whole(schema, limits, &bytes, told)?
-            && is_cut_at_each_read(schema, limits, &bytes, told)?,
+        is_whole(schema, limits, &bytes, expected)?
+            && is_cut_at_each_read(schema, limits, &bytes, expected)?,
     )
 }
 
@@ -82,13 +82,13 @@ pub(crate) fn is_framed(schema: &Schema, limits: Limits, words: &str) -> Result<
     let (start, words) = word(words);
     let (size, words) = word(words);
     let (input, words) = word(words);
-    let (left, told) = word(words);
+    let (left, expected) = word(words);
     let start = start.parse::<u64>()?;
     let size = size.parse::<u32>()?;
     let bytes = bytes_of(schema.alloc, input)?;
     Ok(
-        is_frame(schema, limits, start, size, &bytes, left, told)?
-            && is_frame_cut_at_each_read(schema, limits, start, size, &bytes, told)?,
+        is_frame(schema, limits, start, size, &bytes, left, expected)?
+            && is_frame_cut_at_each_read(schema, limits, start, size, &bytes, expected)?,
     )
 }
 
@@ -122,11 +122,11 @@ fn is_frame(
     size: u32,
     bytes: &[u8],
     left: &str,
-    told: &str,
+    expected: &str,
 ) -> Result<bool, Fail> {
     let mut input = MemInput::new(bytes, 16, FailurePlan::NEVER);
     let answer = frame_text(schema, limits, start, size, &mut input)?;
-    Ok(answer.as_str() == told && is_number(left_of(&mut input)?, left)?)
+    Ok(answer.as_str() == expected && is_number(left_of(&mut input)?, left)?)
 }
 
 fn is_frame_cut(
@@ -136,11 +136,11 @@ fn is_frame_cut(
     size: u32,
     bytes: &[u8],
     calls: u64,
-    told: &str,
+    expected: &str,
 ) -> Result<bool, Fail> {
     let mut input = MemInput::new(bytes, 1, failing_after(calls));
     let answer = frame_text(schema, limits, start, size, &mut input)?;
-    Ok(is_failure(answer.as_str(), calls, told))
+    Ok(is_failure(answer.as_str(), calls, expected))
 }
 
 /// Whether each failing read of a byte of the frame, in turn, is reported, and that of its end where the input is shorter.
@@ -150,12 +150,12 @@ fn is_frame_cut_at_each_read(
     start: u64,
     size: u32,
     bytes: &[u8],
-    told: &str,
+    expected: &str,
 ) -> Result<bool, Fail> {
     for calls in 0..=bytes.len() {
         let calls = calls as u64;
         if calls < u64::from(size)
-            && !is_frame_cut(schema, limits, start, size, bytes, calls, told)?
+            && !is_frame_cut(schema, limits, start, size, bytes, calls, expected)?
         {
             return Ok(false);
         }

@@ -29,23 +29,23 @@ fn is_taken(
     decoder: &mut PushDecoder<'_>,
     piece: &[u8],
     times: (u32, u32),
-    told: &str,
+    expected: &str,
 ) -> Result<bool, Fail> {
     let (taken, end) = repeat(decoder, piece, times.0);
-    let is_told = match end {
-        Ok(()) => is_answered(alloc, decoder.finish(), told)?,
-        Err(error) => is_refused(alloc, error, told)?,
+    let is_expected = match end {
+        Ok(()) => is_answered(alloc, decoder.finish(), expected)?,
+        Err(error) => is_refused(alloc, error, expected)?,
     };
-    Ok(is_told && taken == times.1 && is_finished(decoder))
+    Ok(is_expected && taken == times.1 && is_finished(decoder))
 }
 
 fn are_taken(alloc: Global, decoder: &mut PushDecoder<'_>, words: &str) -> Result<bool, Fail> {
     let (piece, words) = word(words);
     let (times, words) = word(words);
-    let (taken, told) = word(words);
+    let (taken, expected) = word(words);
     let times = (times.parse::<u32>()?, taken.parse::<u32>()?);
     let piece = bytes_of(alloc, piece)?;
-    is_taken(alloc, decoder, &piece, times, told)
+    is_taken(alloc, decoder, &piece, times, expected)
 }
 
 /// Whether a piece that comes again and again is answered as expected, and nothing is taken after it.
@@ -57,10 +57,11 @@ pub(crate) fn is_repeated(schema: &Schema, limits: Limits, words: &str) -> Resul
 /// The front of the bytes up to a place is a message, or ends there inside a record.
 fn is_front(schema: &Schema, limits: Limits, bytes: &[u8], end: usize) -> Result<bool, Fail> {
     let front = bytes.get(..end).ok_or("no front")?;
-    let told = answer_text(schema.alloc, schema.decode(front, limits))?;
+    let expected = answer_text(schema.alloc, schema.decode(front, limits))?;
     let place = format!(in schema.alloc; "! {end} ")?;
-    let is_cut = told.as_str().starts_with(place.as_str()) && told.as_str().ends_with(" Truncated");
-    Ok(told.as_str().starts_with("= ") || is_cut)
+    let is_cut = expected.as_str().starts_with(place.as_str())
+        && expected.as_str().ends_with(" Truncated");
+    Ok(expected.as_str().starts_with("= ") || is_cut)
 }
 
 pub(crate) fn are_fronts(schema: &Schema, limits: Limits, words: &str) -> Result<bool, Fail> {
@@ -125,10 +126,10 @@ fn fed<'p>(
 }
 
 /// Whether each decoder holds nothing, and answers as expected.
-fn are_told(alloc: Global, decoders: &mut [PushDecoder<'_>], told: &str) -> Result<bool, Fail> {
+fn are_told(alloc: Global, decoders: &mut [PushDecoder<'_>], expected: &str) -> Result<bool, Fail> {
     for decoder in decoders {
         let is_empty = decoder.pending() == 0 && decoder.frames() == 1;
-        if !is_empty || !is_answered(alloc, decoder.finish(), told)? {
+        if !is_empty || !is_answered(alloc, decoder.finish(), expected)? {
             return Ok(false);
         }
     }
@@ -138,11 +139,11 @@ fn are_told(alloc: Global, decoders: &mut [PushDecoder<'_>], told: &str) -> Resu
 /// Whether `count` decoders, alive at once, each answer as expected.
 pub(crate) fn are_alive(schema: &Schema, limits: Limits, words: &str) -> Result<bool, Fail> {
     let (piece, words) = word(words);
-    let (count, told) = word(words);
+    let (count, expected) = word(words);
     let count = count.parse::<u32>()?;
     let piece = bytes_of(schema.alloc, piece)?;
     let mut decoders = fed(schema, limits, &piece, count)?;
-    are_told(schema.alloc, &mut decoders, told)
+    are_told(schema.alloc, &mut decoders, expected)
 }
 
 /// Entries of a map of messages, of which the last, under the key 20, has a message of these bytes.
@@ -176,13 +177,16 @@ fn maps_around(
 pub(crate) fn are_nested(schema: &Schema, limits: Limits, words: &str) -> Result<bool, Fail> {
     let (levels, words) = word(words);
     let (before, words) = word(words);
-    let (innermost, told) = word(words);
+    let (innermost, expected) = word(words);
     let levels = levels.parse::<u32>()?;
     let before = bytes_of(schema.alloc, before)?;
     let innermost = bytes_of(schema.alloc, innermost)?;
     let bytes = maps_around(schema.alloc, &before, innermost, levels)?;
     let at_once = schema.decode(&bytes, limits);
-    Ok(is_answered(schema.alloc, at_once, told)? && is_fed(schema, limits, b"", &bytes, 1, told)?)
+    Ok(
+        is_answered(schema.alloc, at_once, expected)?
+            && is_fed(schema, limits, (b"", &bytes), 1, expected)?,
+    )
 }
 
 /// The field 1 of T that many times, and then a record of number 0.

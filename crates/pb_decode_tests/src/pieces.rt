@@ -13,14 +13,14 @@ fn is_taken(
     alloc: Global,
     decoder: &mut PushDecoder<'_>,
     piece: &str,
-    told: &str,
+    expected: &str,
 ) -> Result<bool, Fail> {
     if piece == "finish" {
-        return is_answered(alloc, decoder.finish(), told);
+        return is_answered(alloc, decoder.finish(), expected);
     }
     match decoder.feed(&bytes_of(alloc, piece)?) {
-        Ok(()) => Ok(told == "ok"),
-        Err(error) => is_refused(alloc, error, told),
+        Ok(()) => Ok(expected == "ok"),
+        Err(error) => is_refused(alloc, error, expected),
     }
 }
 
@@ -29,10 +29,10 @@ fn are_taken(
     alloc: Global,
     decoder: &mut PushDecoder<'_>,
     pieces: &str,
-    told: &str,
+    expected: &str,
 ) -> Result<bool, Fail> {
-    for (piece, told) in pieces.split(',').zip(told.split(';')) {
-        if !is_taken(alloc, decoder, piece, told)? {
+    for (piece, expected) in pieces.split(',').zip(expected.split(';')) {
+        if !is_taken(alloc, decoder, piece, expected)? {
             return Ok(false);
         }
     }
@@ -51,8 +51,8 @@ fn are_taken_and_held(
 ) -> Result<bool, Fail> {
     let (pending, words) = word(words);
     let (frames, words) = word(words);
-    let (pieces, told) = word(words);
-    Ok(are_taken(alloc, decoder, pieces, told)? && holds(decoder, pending, frames)?)
+    let (pieces, expected) = word(words);
+    Ok(are_taken(alloc, decoder, pieces, expected)? && holds(decoder, pending, frames)?)
 }
 
 /// Whether the answers to pieces are as expected, and what is held and open after the last.

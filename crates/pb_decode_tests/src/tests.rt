@@ -19,7 +19,7 @@ use std::alloc::Global;
 use std::test::Fail;
 
 /// Whether a row is answered as it says.
-fn is_told(schema: &Schema, row: &str) -> Result<bool, Fail> {
+fn is_expected(schema: &Schema, row: &str) -> Result<bool, Fail> {
     let (verb, words) = word(row);
     let (_, words) = word(words);
     let (length, words) = word(words);
@@ -44,7 +44,7 @@ fn is_told(schema: &Schema, row: &str) -> Result<bool, Fail> {
 /// The first row that is answered otherwise, or none.
 fn first_wrong<'a>(schema: &Schema, rows: &'a str) -> Result<Option<&'a str>, Fail> {
     for row in rows.lines() {
-        if !row.is_empty() && !is_told(schema, row)? {
+        if !row.is_empty() && !is_expected(schema, row)? {
             return Ok(Some(row));
         }
     }

@@ -40,27 +40,31 @@ fn in_pieces<'p>(
 pub(crate) fn is_fed(
     schema: &Schema,
     limits: Limits,
-    first: &[u8],
-    rest: &[u8],
+    pieces: (&[u8], &[u8]),
     size: usize,
-    told: &str,
+    expected: &str,
 ) -> Result<bool, Fail>
     requires { 0 < size }
 {
+    let (first, rest) = pieces;
     let mut decoder = schema.decoder(limits)?;
-    let is_told = is_answered(
+    let is_expected = is_answered(
         schema.alloc,
         in_pieces(&mut decoder, first, rest, size),
-        told,
+        expected,
     )?;
-    Ok(is_told && is_finished(&mut decoder))
+    Ok(is_expected && is_finished(&mut decoder))
 }
 
 /// Whether the answer is as expected at every cut into two.
-fn is_fed_at_cuts(schema: &Schema, limits: Limits, bytes: &[u8], told: &str) -> Result<bool, Fail> {
+fn is_fed_at_cuts(
+    schema: &Schema,
+    limits: Limits,
+    bytes: &[u8],
+    expected: &str,
+) -> Result<bool, Fail> {
     for cut in 0..bytes.len() {
-        let (first, rest) = bytes.split_at(cut);
-        if !is_fed(schema, limits, first, rest, usize::MAX, told)? {
+        if !is_fed(schema, limits, bytes.split_at(cut), usize::MAX, expected)? {
             return Ok(false);
         }
     }
@@ -68,20 +72,25 @@ fn is_fed_at_cuts(schema: &Schema, limits: Limits, bytes: &[u8], told: &str) -> 
 }
 
 /// Whether `validate` accepts bytes whose answer is a message, and reports the same fault of others.
-fn is_validated(schema: &Schema, limits: Limits, bytes: &[u8], told: &str) -> Result<bool, Fail> {
+fn is_validated(
+    schema: &Schema,
+    limits: Limits,
+    bytes: &[u8],
+    expected: &str,
+) -> Result<bool, Fail> {
     match schema.validate(bytes, limits) {
-        Ok(()) => Ok(told.starts_with("= ")),
-        Err(error) => is_refused(schema.alloc, error, told),
+        Ok(()) => Ok(expected.starts_with("= ")),
+        Err(error) => is_refused(schema.alloc, error, expected),
     }
 }
 
 /// Whether `build` makes the message of bytes whose answer is one, so that `decode` does not read them again, and none of others. Out of memory
 /// is passed on.
-fn is_built(schema: &Schema, limits: Limits, bytes: &[u8], told: &str) -> Result<bool, Fail> {
+fn is_built(schema: &Schema, limits: Limits, bytes: &[u8], expected: &str) -> Result<bool, Fail> {
     match schema.build(bytes, limits) {
-        Ok(message) => is_answered(schema.alloc, Ok(message), told),
+        Ok(message) => is_answered(schema.alloc, Ok(message), expected),
         Err(NoMemory) => {
-            if told.starts_with("= ") {
+            if expected.starts_with("= ") {
                 return Err(Fail::from(AllocError));
             }
             Ok(true)
@@ -91,15 +100,15 @@ fn is_built(schema: &Schema, limits: Limits, bytes: &[u8], told: &str) -> Result
 
 /// Whether the answer is as expected at once, byte by byte and at every cut into two.
 pub(crate) fn is_decoded(schema: &Schema, limits: Limits, words: &str) -> Result<bool, Fail> {
-    let (input, told) = word(words);
+    let (input, expected) = word(words);
     let bytes = bytes_of(schema.alloc, input)?;
     let at_once = schema.decode(&bytes, limits);
     Ok(
-        is_answered(schema.alloc, at_once, told)?
-            && is_validated(schema, limits, &bytes, told)?
-            && is_built(schema, limits, &bytes, told)?
-            && is_fed(schema, limits, b"", &bytes, 1, told)?
-            && is_fed_at_cuts(schema, limits, &bytes, told)?,
+        is_answered(schema.alloc, at_once, expected)?
+            && is_validated(schema, limits, &bytes, expected)?
+            && is_built(schema, limits, &bytes, expected)?
+            && is_fed(schema, limits, (b"", &bytes), 1, expected)?
+            && is_fed_at_cuts(schema, limits, &bytes, expected)?,
     )
 }
 
@@ -108,23 +117,23 @@ fn is_fed_or_memory(
     schema: &Schema,
     limits: Limits,
     bytes: &[u8],
-    told: &str,
+    expected: &str,
 ) -> Result<bool, Fail> {
     let Ok(mut decoder) = schema.decoder(limits) else {
         return Ok(true);
     };
     let answer = in_pieces(&mut decoder, b"", bytes, 3);
-    let is_told = is_answered_or_memory(schema.alloc, answer, told)?;
-    Ok(is_told && is_finished(&mut decoder))
+    let is_expected = is_answered_or_memory(schema.alloc, answer, expected)?;
+    Ok(is_expected && is_finished(&mut decoder))
 }
 
 /// Whether each answer is as expected, or Memory where an allocation is refused.
 pub(crate) fn is_grown(schema: &Schema, limits: Limits, words: &str) -> Result<bool, Fail> {
-    let (input, told) = word(words);
+    let (input, expected) = word(words);
     let bytes = bytes_of(schema.alloc, input)?;
     let at_once = schema.decode(&bytes, limits);
     Ok(
-        is_answered_or_memory(schema.alloc, at_once, told)?
-            && is_fed_or_memory(schema, limits, &bytes, told)?,
+        is_answered_or_memory(schema.alloc, at_once, expected)?
+            && is_fed_or_memory(schema, limits, &bytes, expected)?,
     )
 }

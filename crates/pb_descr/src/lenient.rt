@@ -9,23 +9,19 @@ ghost use Rattle.pb_value.specs.Data.{Message};
 ghost use Rattle.pb_value.specs.View.{body_view};
 ghost use Rattle.pb_declarations.specs.Decls.{DeclaredFile};
 ghost use Rattle.pb_declarations.specs.View.{file_view};
-ghost use Rattle.pb_descr.specs.Pool.{the_set, descriptor_types};
-ghost use Rattle.pb_descr.specs.Reading.{files_in};
-ghost use Rattle.pb_descr.specs.Causes.{set_causes};
-ghost use Rattle.pb_descr.specs.Sets.{IsSetText, IsRefusedSet, TellsFault, TellsCause};
-ghost use Rattle.pb_descr.specs.Without.{without_parts};
-ghost use Rattle.pb_descr.specs.Omitted.{OmittedView, omitted_view, omitted_in};
-ghost use Rattle.pb_descr.specs.Lenient.{IsLenientSetOf, IsUnreadLeniently};
-ghost use Rattle.pb_descr.specs.declared.cause.DeclCause.{DeclCause};
-ghost use Rattle.pb_descr.specs.declared.error.DescrError.TheVariants.{Memory};
+ghost use Rattle.pb_descr_message.specs.Pool.{the_set, descriptor_types};
+ghost use Rattle.pb_descr_message.specs.Reading.{files_in};
+ghost use Rattle.pb_descr_message.specs.Causes.{set_causes};
+ghost use Rattle.pb_descr_message.specs.Sets.{IsSetText, IsRefusedSet, TellsFault, TellsCause};
+ghost use Rattle.pb_descr_message.specs.Without.{without_parts};
+ghost use Rattle.pb_descr_message.specs.Omitted.{OmittedView, omitted_view, omitted_in};
+ghost use Rattle.pb_descr_message.specs.Lenient.{IsLenientSetOf, IsUnreadLeniently};
+ghost use Rattle.pb_descr_message.specs.declared.cause.DeclCause.{DeclCause};
+ghost use Rattle.pb_descr_message.specs.declared.error.DescrError.TheVariants.{Memory};
 
-use crate::error::DescrError;
-use crate::omitted::Omitted;
-use crate::omitting::omitted_in;
-use crate::pool::descriptor_pool;
 use crate::reading::{declared_files, decode_by};
-use crate::stripping::strip_set;
 use pb_declarations::FileDecl;
+use pb_descr_message::{DescrError, Omitted, descriptor_pool, omitted_in, strip_set};
 use pb_schema::Pool;
 use pb_value::Body;
 use std::alloc::Global;
@@ -39,8 +35,10 @@ pub struct LenientSet {
 
 /// The files that the message of a set declares without its parts, and these parts.
 fn lenient_set(alloc: Global, mut set: Body) -> Result<LenientSet, DescrError>
-    ensures declared { IfOk result (λ s. map file_view s.files.items ≡ files_in (without_parts (body_view set))) }
-    ensures left_out { IfOk result (λ s. map omitted_view s.omitted.items ≡ omitted_in (body_view set)) }
+    ensures declared { IfOk result (λ s. map file_view s.files.items
+        ≡ files_in (without_parts (body_view set))) }
+    ensures left_out { IfOk result (λ s. map omitted_view s.omitted.items
+        ≡ omitted_in (body_view set)) }
     ensures silent { OnOk result (set_causes (without_parts (body_view set)) ≡ []) }
     ensures refused { IfErr result (IsRefusedSet (without_parts (body_view set))) }
 {
@@ -53,12 +51,19 @@ fn lenient_set(alloc: Global, mut set: Body) -> Result<LenientSet, DescrError>
 /// What a set declares and what of it was left out, or why it is none.
 fn read_leniently(alloc: Global, pool: &Pool, bytes: &[u8]) -> Result<LenientSet, DescrError>
     requires { pool.now ≡ descriptor_types }
-    ensures declared { IfOk result (λ s. IsLenientSetOf full bytes.now (map file_view s.files.items) (map omitted_view s.omitted.items)) }
+    ensures declared { IfOk result
+        (λ s. IsLenientSetOf full bytes.now (map file_view s.files.items)
+        (map omitted_view s.omitted.items)) }
     ensures refused { IfErr result (IsUnreadLeniently full bytes.now) }
-    ensures accepted { (files : List DeclaredFile) (omitted : List OmittedView) → IsLenientSetOf full bytes.now files omitted
-        → MatchResult result (λ s. (map file_view s.files.items ≡ files) × (map omitted_view s.omitted.items ≡ omitted)) (λ e. e ≡ Memory) }
-    ensures fault { (f : Fault) → HasFault (schema_of descriptor_types) (a_message the_set) full bytes.now f → IsErrAnd result (TellsFault f) }
-    ensures cause { (set : Message) (i : ℕ) (c : DeclCause) → IsSetText full bytes.now set → slice_get (set_causes (without_parts set)) 0 ≡ Some (i, c)
+    ensures accepted { (files : List DeclaredFile) (omitted : List OmittedView)
+        → IsLenientSetOf full bytes.now files omitted
+        → MatchResult result (λ s. (map file_view s.files.items ≡ files)
+        × (map omitted_view s.omitted.items ≡ omitted)) (λ e. e ≡ Memory) }
+    ensures fault { (f : Fault)
+        → HasFault (schema_of descriptor_types) (a_message the_set) full bytes.now f
+        → IsErrAnd result (TellsFault f) }
+    ensures cause { (set : Message) (i : ℕ) (c : DeclCause) → IsSetText full bytes.now set
+        → slice_get (set_causes (without_parts set)) 0 ≡ Some (i, c)
         → IsErrAnd result (TellsCause i c) }
 {
     let set = decode_by(alloc, pool, bytes)?;
@@ -74,12 +79,19 @@ fn read_leniently(alloc: Global, pool: &Pool, bytes: &[u8]) -> Result<LenientSet
 /// file of proto2 whose values are of an enum is the list of its entries. Else the set is read as by `read_set`, and refused for the
 /// fault of its bytes or the first cause of what is left.
 pub fn read_set_lenient(alloc: Global, bytes: &[u8]) -> Result<LenientSet, DescrError>
-    ensures declared { IfOk result (λ s. IsLenientSetOf full bytes.now (map file_view s.files.items) (map omitted_view s.omitted.items)) }
+    ensures declared { IfOk result
+        (λ s. IsLenientSetOf full bytes.now (map file_view s.files.items)
+        (map omitted_view s.omitted.items)) }
     ensures refused { IfErr result (IsUnreadLeniently full bytes.now) }
-    ensures accepted { (files : List DeclaredFile) (omitted : List OmittedView) → IsLenientSetOf full bytes.now files omitted
-        → MatchResult result (λ s. (map file_view s.files.items ≡ files) × (map omitted_view s.omitted.items ≡ omitted)) (λ e. e ≡ Memory) }
-    ensures fault { (f : Fault) → HasFault (schema_of descriptor_types) (a_message the_set) full bytes.now f → IsErrAnd result (TellsFault f) }
-    ensures cause { (set : Message) (i : ℕ) (c : DeclCause) → IsSetText full bytes.now set → slice_get (set_causes (without_parts set)) 0 ≡ Some (i, c)
+    ensures accepted { (files : List DeclaredFile) (omitted : List OmittedView)
+        → IsLenientSetOf full bytes.now files omitted
+        → MatchResult result (λ s. (map file_view s.files.items ≡ files)
+        × (map omitted_view s.omitted.items ≡ omitted)) (λ e. e ≡ Memory) }
+    ensures fault { (f : Fault)
+        → HasFault (schema_of descriptor_types) (a_message the_set) full bytes.now f
+        → IsErrAnd result (TellsFault f) }
+    ensures cause { (set : Message) (i : ℕ) (c : DeclCause) → IsSetText full bytes.now set
+        → slice_get (set_causes (without_parts set)) 0 ≡ Some (i, c)
         → IsErrAnd result (TellsCause i c) }
 {
     let pool = descriptor_pool(alloc)?;

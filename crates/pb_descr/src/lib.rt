@@ -17,31 +17,16 @@
 //! ```
 #![tactic(auto)]
 
-mod bodies;
-mod cause;
-mod checking;
-mod contents;
-mod declaring;
-mod error;
-mod held;
-pub mod laws;
 mod lenient;
-mod messages;
-mod omitted;
-mod omitting;
-mod pool;
-mod ranges;
 mod reading;
-mod stripping;
 mod writing;
 
-pub use cause::DeclCause;
-pub use error::{DescrError, WriteSetError};
 pub use lenient::{LenientSet, read_set_lenient};
-pub use omitted::{Omitted, OmittedPart};
 pub use pb_declarations::{
     EnumDecl, FieldDecl, FileDecl, MessageDecl, MethodDecl, ServiceDecl, TypeCode,
 };
-pub use pool::descriptor_pool;
+pub use pb_descr_message::{
+    DeclCause, DescrError, Omitted, OmittedPart, WriteSetError, descriptor_pool, laws,
+};
 pub use reading::read_set;
 pub use writing::write_set;

@@ -8,21 +8,19 @@ ghost use Rattle.pb_schema.specs.Context.{a_message, schema_of};
 ghost use Rattle.pb_value.specs.Data.{Message};
 ghost use Rattle.pb_value.specs.View.{body_view, value_view};
 ghost use Rattle.pb_declarations.specs.Decls.{DeclaredFile};
-ghost use Rattle.pb_descr.specs.Pool.{the_set, descriptor_types};
+ghost use Rattle.pb_descr_message.specs.Pool.{the_set, descriptor_types};
 ghost use Rattle.pb_declarations.specs.View.{file_view};
-ghost use Rattle.pb_descr.specs.Reading.{file_in, files_in};
-ghost use Rattle.pb_descr.specs.Causes.{set_causes};
-ghost use Rattle.pb_descr.specs.Sets.{IsSetText, IsSetOf, IsUnread, IsRefusedSet, TellsFault, TellsCause, AddsSet};
-ghost use Rattle.pb_descr.specs.declared.cause.DeclCause.{DeclCause};
-ghost use Rattle.pb_descr.specs.declared.error.DescrError.TheVariants.{Memory};
+ghost use Rattle.pb_descr_message.specs.Reading.{file_in, files_in};
+ghost use Rattle.pb_descr_message.specs.Causes.{set_causes};
+ghost use Rattle.pb_descr_message.specs.Sets.{IsSetText, IsSetOf, IsUnread, IsRefusedSet, TellsFault, TellsCause, AddsSet};
+ghost use Rattle.pb_descr_message.specs.declared.cause.DeclCause.{DeclCause};
+ghost use Rattle.pb_descr_message.specs.declared.error.DescrError.TheVariants.{Memory};
 
-use crate::checking::first_cause;
-use crate::declaring::{Declared, list_in};
-use crate::error::DescrError;
-use crate::held::values_at;
-use crate::pool::{SET, descriptor_pool};
 use pb_declarations::FileDecl;
 use pb_decode::{DecodeError, decode};
+use pb_descr_message::{
+    Declared, DescrError, SET, descriptor_pool, first_cause, list_in, values_at,
+};
 use pb_schema::Pool;
 use pb_value::{Body, Value};
 use pb_wire::{Limits, read_varint};
@@ -39,8 +37,11 @@ pub(crate) fn decode_by(alloc: Global, pool: &Pool, bytes: &[u8]) -> Result<Body
     requires { pool.now ≡ descriptor_types }
     ensures text { IfOk result (λ b. IsSetText full bytes.now (body_view b)) }
     ensures fault { IfErr result (IsUnread full bytes.now) }
-    ensures accepted { (set : Message) → IsSetText full bytes.now set → MatchResult result (λ b. body_view b ≡ set) (λ e. e ≡ Memory) }
-    ensures refused { (f : Fault) → HasFault (schema_of descriptor_types) (a_message the_set) full bytes.now f → IsErrAnd result (TellsFault f) }
+    ensures accepted { (set : Message) → IsSetText full bytes.now set
+        → MatchResult result (λ b. body_view b ≡ set) (λ e. e ≡ Memory) }
+    ensures refused { (f : Fault)
+        → HasFault (schema_of descriptor_types) (a_message the_set) full bytes.now f
+        → IsErrAnd result (TellsFault f) }
 {
     match decode(alloc, pool, SET, bytes, Limits::FULL) {
         Ok(message) => Ok(message.into_body()),
@@ -71,10 +72,13 @@ fn read_whole(alloc: Global, pool: &Pool, bytes: &[u8]) -> Result<Vec<FileDecl>,
     requires { pool.now ≡ descriptor_types }
     ensures declared { IfOk result (λ v. IsSetOf full bytes.now (map file_view v.items)) }
     ensures refused { IfErr result (IsUnread full bytes.now) }
-    ensures accepted { (files : List DeclaredFile) → IsSetOf full bytes.now files → MatchResult result (λ v. map file_view v.items ≡ files) (λ e. e ≡ Memory) }
-    ensures fault { (f : Fault) → HasFault (schema_of descriptor_types) (a_message the_set) full bytes.now f → IsErrAnd result (TellsFault f) }
-    ensures cause { (set : Message) (i : ℕ) (c : DeclCause) → IsSetText full bytes.now set → slice_get (set_causes set) 0 ≡ Some (i, c)
-        → IsErrAnd result (TellsCause i c) }
+    ensures accepted { (files : List DeclaredFile) → IsSetOf full bytes.now files
+        → MatchResult result (λ v. map file_view v.items ≡ files) (λ e. e ≡ Memory) }
+    ensures fault { (f : Fault)
+        → HasFault (schema_of descriptor_types) (a_message the_set) full bytes.now f
+        → IsErrAnd result (TellsFault f) }
+    ensures cause { (set : Message) (i : ℕ) (c : DeclCause) → IsSetText full bytes.now set
+        → slice_get (set_causes set) 0 ≡ Some (i, c) → IsErrAnd result (TellsCause i c) }
 {
     let set = decode_by(alloc, pool, bytes)?;
     let files = declared_files(alloc, set)?;
@@ -83,7 +87,8 @@ fn read_whole(alloc: Global, pool: &Pool, bytes: &[u8]) -> Result<Vec<FileDecl>,
 
 /// Adds what each of a set's files declares.
 fn add_files(alloc: Global, files: &mut Vec<FileDecl>, values: &[Value]) -> Result<(), AllocError>
-    ensures { OnOk result (map file_view files.new.items ≡ map file_view files.old.items ++ map file_in (map value_view values.now)) }
+    ensures { OnOk result (map file_view files.new.items
+        ≡ map file_view files.old.items ++ map file_in (map value_view values.now)) }
 {
     for value in values {
         let file = FileDecl::declared(alloc, value)?;
@@ -96,7 +101,8 @@ fn add_files(alloc: Global, files: &mut Vec<FileDecl>, values: &[Value]) -> Resu
 fn add_declared(alloc: Global, files: &mut Vec<FileDecl>, set: Body) -> Result<bool, AllocError>
     ensures silent { IfOk result (λ is_silent. IsTrue is_silent → set_causes (body_view set) ≡ []) }
     ensures added { IfOk result (λ is_silent. IsTrue is_silent
-        → map file_view files.new.items ≡ map file_view files.old.items ++ files_in (body_view set)) }
+        → map file_view files.new.items ≡ map file_view files.old.items ++ files_in
+        (body_view set)) }
 {
     let set = Value::Message(set);
     let values = values_at(&set, 1);
@@ -115,7 +121,8 @@ fn add_part(
     bytes: &[u8],
 ) -> Result<bool, AllocError>
     requires { pool.now ≡ descriptor_types }
-    ensures { IfOk result (λ is_set. IsTrue is_set → AddsSet bytes.now (map file_view files.old.items) (map file_view files.new.items)) }
+    ensures { IfOk result (λ is_set. IsTrue is_set
+        → AddsSet bytes.now (map file_view files.old.items) (map file_view files.new.items)) }
 {
     match decode_by(alloc, pool, bytes) {
         Ok(set) => add_declared(alloc, files, set),
@@ -192,10 +199,13 @@ fn read_parts(alloc: Global, pool: &Pool, bytes: &[u8]) -> Result<Option<Vec<Fil
 pub fn read_set(alloc: Global, bytes: &[u8]) -> Result<Vec<FileDecl>, DescrError>
     ensures declared { IfOk result (λ v. IsSetOf full bytes.now (map file_view v.items)) }
     ensures refused { IfErr result (IsUnread full bytes.now) }
-    ensures accepted { (files : List DeclaredFile) → IsSetOf full bytes.now files → MatchResult result (λ v. map file_view v.items ≡ files) (λ e. e ≡ Memory) }
-    ensures fault { (f : Fault) → HasFault (schema_of descriptor_types) (a_message the_set) full bytes.now f → IsErrAnd result (TellsFault f) }
-    ensures cause { (set : Message) (i : ℕ) (c : DeclCause) → IsSetText full bytes.now set → slice_get (set_causes set) 0 ≡ Some (i, c)
-        → IsErrAnd result (TellsCause i c) }
+    ensures accepted { (files : List DeclaredFile) → IsSetOf full bytes.now files
+        → MatchResult result (λ v. map file_view v.items ≡ files) (λ e. e ≡ Memory) }
+    ensures fault { (f : Fault)
+        → HasFault (schema_of descriptor_types) (a_message the_set) full bytes.now f
+        → IsErrAnd result (TellsFault f) }
+    ensures cause { (set : Message) (i : ℕ) (c : DeclCause) → IsSetText full bytes.now set
+        → slice_get (set_causes set) 0 ≡ Some (i, c) → IsErrAnd result (TellsCause i c) }
 {
     let pool = descriptor_pool(alloc)?;
     match read_parts(alloc, &pool, bytes) {

@@ -4,17 +4,15 @@ ghost use Rattle.std.specs.Prelude.{◌≡◌, ◌≤◌, [], map, IfOk, IfErr, 
 ghost use Rattle.pb_wire.specs.Limits.{full};
 ghost use Rattle.pb_value.specs.Data.{message_depth};
 ghost use Rattle.pb_value.specs.WellFormed.{IsWellFormed};
-ghost use Rattle.pb_descr.specs.Pool.{the_set, descriptor_types};
+ghost use Rattle.pb_descr_message.specs.Pool.{the_set, descriptor_types};
 ghost use Rattle.pb_declarations.specs.View.{file_view};
-ghost use Rattle.pb_descr.specs.Causes.{set_causes};
-ghost use Rattle.pb_descr.specs.Writing.{set_body};
-ghost use Rattle.pb_descr.specs.Sets.{CutAt, IsSetOf, IsUnwritten, IsWritable, set_bytes};
-ghost use Rattle.pb_descr.specs.declared.error.WriteSetError.TheVariants.{TooDeep, TooLarge, Memory};
+ghost use Rattle.pb_descr_message.specs.Causes.{set_causes};
+ghost use Rattle.pb_descr_message.specs.Writing.{set_body};
+ghost use Rattle.pb_descr_message.specs.Sets.{CutAt, IsSetOf, IsUnwritten, IsWritable, set_bytes};
+ghost use Rattle.pb_descr_message.specs.declared.error.WriteSetError.TheVariants.{TooDeep, TooLarge, Memory};
 
-use crate::error::WriteSetError;
-use crate::messages::set_body;
-use crate::pool::{SET, descriptor_pool};
 use pb_declarations::FileDecl;
+use pb_descr_message::{SET, WriteSetError, descriptor_pool, set_body};
 use pb_encode::{EncodeError, encode};
 use pb_schema::Pool;
 use pb_value::{DynamicMessage, ValueError};
@@ -27,9 +25,16 @@ fn set_message<'p>(
     files: &[FileDecl],
 ) -> Result<DynamicMessage<'p>, WriteSetError>
     requires { pool.now ≡ descriptor_types }
-    ensures made { IfOk result (λ m. m ≡ record { pool = descriptor_types; kind = the_set; body = set_body (map file_view files.now) }) }
-    ensures well_formed { OnOk result (IsWellFormed descriptor_types the_set (set_body (map file_view files.now))) }
-    ensures refused { IfErr result (CutAt 100 (message_depth (set_body (map file_view files.now)))) }
+    ensures made { IfOk result
+        (λ m. m ≡ record {
+          pool = descriptor_types;
+          kind = the_set;
+          body = set_body (map file_view files.now);
+        }) }
+    ensures well_formed { OnOk result
+        (IsWellFormed descriptor_types the_set (set_body (map file_view files.now))) }
+    ensures refused { IfErr result
+        (CutAt 100 (message_depth (set_body (map file_view files.now)))) }
 {
     let body = set_body(alloc, files)?;
     match DynamicMessage::from_body(alloc, pool, SET, body) {
@@ -49,9 +54,11 @@ fn set_message<'p>(
 /// when memory runs out.
 pub fn write_set(alloc: Global, files: &[FileDecl]) -> Result<Vec<u8>, WriteSetError>
     ensures canonical { IfOk result (λ b. b.items ≡ set_bytes (map file_view files.now)) }
-    ensures fits { OnOk result ((message_depth (set_body (map file_view files.now)) ≤ 100) × IsWritable (map file_view files.now)) }
+    ensures fits { OnOk result ((message_depth (set_body (map file_view files.now)) ≤ 100)
+        × IsWritable (map file_view files.now)) }
     ensures refused { IfErr result (IsUnwritten (map file_view files.now)) }
-    ensures read_back { set_causes (set_body (map file_view files.now)) ≡ [] → IfOk result (λ b. IsSetOf full b.items (map file_view files.now)) }
+    ensures read_back { set_causes (set_body (map file_view files.now)) ≡ []
+        → IfOk result (λ b. IsSetOf full b.items (map file_view files.now)) }
 {
     let Ok(pool) = descriptor_pool(alloc) else {
         return Err(WriteSetError::Memory);

@@ -1,5 +1,5 @@
 -- How floats are written.
-use Rattle.std.proofs.Common.{◌≡◌, ℕ, List, Some, refl, subst}
+use Rattle.std.proofs.Common.{◌≡◌, ℕ, ◌≤◌, List, length, Some, refl, subst}
 use Rattle.std.specs.Prelude.{Bool, true, false, codes}
 use Rattle.std.specs.Float.{float_is_finite, is_sign_negative}
 use lib.Ieee.{Float, Format, nan, inf, fin, is_nan}
@@ -17,11 +17,11 @@ nan_text layout indent f (fin s m e) h = absurd (cc)
 
 finite_text :
     (layout : Layout) (indent : ℕ) (f : Format) (x : Float) (s : List ℕ) → float_is_finite x ≡ true → IsPlainNumber s → parse_float f s ≡ Some x
-    → IsJsonText layout indent (float_json f x) s
+    → length s ≤ 25 → IsJsonText layout indent (float_json f x) s
 unfolding float_is_finite
-finite_text layout indent f nan s h plain parses = absurd (cc)
-finite_text layout indent f (inf n) s h plain parses = absurd (cc)
-finite_text layout indent f (fin n m e) s h plain parses = (plain, parses)
+finite_text layout indent f nan s h plain parses short = absurd (cc)
+finite_text layout indent f (inf n) s h plain parses short = absurd (cc)
+finite_text layout indent f (fin n m e) s h plain parses short = (plain, parses, short)
 
 infinite_text :
     (layout : Layout) (indent : ℕ) (f : Format) (x : Float) (negative : Bool) → is_nan x ≡ false → float_is_finite x ≡ false → negative ≡ is_sign_negative x
@@ -39,9 +39,9 @@ nan_written layout indent f number x same h =
 
 pub finite_written :
     (layout : Layout) (indent : ℕ) (f : Format) (number x : Float) (s : List ℕ) → number ≡ x → float_is_finite number ≡ true → IsPlainNumber s
-    → parse_float f s ≡ Some number → IsJsonText layout indent (float_json f x) s
-finite_written layout indent f number x s same h plain parses =
-    subst (λ (y : Float). IsJsonText layout indent (float_json f y) s) same (finite_text layout indent f number s h plain parses)
+    → parse_float f s ≡ Some number → length s ≤ 25 → IsJsonText layout indent (float_json f x) s
+finite_written layout indent f number x s same h plain parses short =
+    subst (λ (y : Float). IsJsonText layout indent (float_json f y) s) same (finite_text layout indent f number s h plain parses short)
 
 pub infinite_written :
     (layout : Layout) (indent : ℕ) (f : Format) (number x : Float) (negative : Bool) → number ≡ x → is_nan number ≡ false → float_is_finite number ≡ false

@@ -1,6 +1,6 @@
 -- What is refused, part by part.
 use Rattle.std.proofs.Common.{◌≡◌, ℕ, suc, ◌+◌, ◌<◌, List, [], ◌∷◌, length, drop, get_or, Option, None, Some, inl, inr, sym, ap, ◌∙◌, subst, refl}
-use Rattle.std.specs.Prelude.{Bool, true, false, is_some, option_map, slice_get, Result, if◌then◌else◌}
+use Rattle.std.specs.Prelude.{Bool, true, false, is_some, option_map, slice_get, Result, Ok, Err, IfErr, IfOk, if◌then◌else◌}
 use Rattle.std.specs.Option.{option_map_or, option_or}
 use Rattle.std.proofs.lemmas.List.{drop_more}
 use Rattle.pb_schema.specs.declared.types.Kind.{Kind}
@@ -173,3 +173,9 @@ pub refused_whole :
 refused_whole m levels pool k b x e0 e1 e2 e3 h =
     refuses_as m x (subst (λ (r : Option Refused). RefusesWith m.pool r x) (whole_judged m levels pool k b e0 e1 e2 e3)
     (subst (λ (p : Types). RefusesWith p (message_refused pool levels k b) x) e1 h))
+
+pub judged_whole :
+    (m : Dynamic) (levels : ℕ) (pool : Types) (k : ℕ) (b : Message) (r : Result Unit JsonError) → levels ≡ 101 → pool ≡ m.pool → k ≡ m.kind → b ≡ m.body
+    → Judges pool (message_refused pool levels k b) r → IfOk r (λ u. refused m ≡ None) × IfErr r (RefusedAs m)
+judged_whole m levels pool k b (Ok u) e0 e1 e2 e3 h = (sym (whole_judged m levels pool k b e0 e1 e2 e3) ∙ h, tt)
+judged_whole m levels pool k b (Err x) e0 e1 e2 e3 h = (tt, refused_whole m levels pool k b x e0 e1 e2 e3 h)

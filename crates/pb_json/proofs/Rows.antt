@@ -1,5 +1,5 @@
 -- Worked rows: what some messages are as JSON, computed.
-use Rattle.std.proofs.Common.{◌≡◌, ℕ, zero, suc, List, [], ◌∷◌, ◌++◌, Option, ap, refl, codes, arith, rules}
+use Rattle.std.proofs.Common.{◌≡◌, ℕ, ◌≤◌, zero, suc, List, [], ◌∷◌, ◌++◌, Option, ap, refl, codes, arith, rules}
 use Rattle.std.specs.Prelude.{pos, neg_ℤ, true, false, None, Some, replicate}
 use Rattle.std.specs.Float.{binary32, binary64, fin, float_is_finite}
 use Rattle.std.specs.Option.{option_map_or}
@@ -161,6 +161,10 @@ on_lines = (
     (codes "{}", codes "\n}", refl, (codes "}", refl, refl), refl),
   ),
 )
+
+-- a float has at most 25 characters
+long_float : IsJsonText Compact 0 (real binary64 (fin false 1 (pos 0))) (codes "1.000000000000000000000000") → ⊥
+long_float (is_plain, parses, short) = let e : 26 ≤ 25 = short in absurd (omega (arith, e))
 
 -- POINTS IN TIME
 

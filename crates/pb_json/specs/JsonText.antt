@@ -1,6 +1,7 @@
 -- What a JSON value is written as (RFC 8259): on one line without blanks, or with each element and each member on a line of its own, two blanks
 -- deeper than what holds it.
-use Rattle.std.specs.Prelude.{◌≡◌, ℕ, ◌+◌, ◌*◌, List, [], ◌∷◌, ◌++◌, Bool, true, false, ◌==◌, nat_lt, unsigned_abs, Option, Some, None, codes, replicate, if◌then◌else◌}
+use Rattle.std.specs.Prelude.{◌≡◌, ℕ, ◌+◌, ◌*◌, ◌≤◌, List, [], ◌∷◌, ◌++◌, length, Bool, true, false, ◌==◌, nat_lt, unsigned_abs, Option, Some, None, codes, replicate}
+use Rattle.std.specs.Prelude.{if◌then◌else◌}
 use Rattle.std.specs.List.{flat_map}
 use Rattle.hex.specs.Hex.{encode_lower}
 use Rattle.ryu.specs.Parse.{parse_float}
@@ -66,12 +67,12 @@ member_start layout indent is_first name = separator is_first ++ new_line layout
 
 module _ (layout : Layout) where
   abbrev mutual
-    -- the bytes are the value's, which begins on a line of this indentation; a float is written in any digits that read back as it
+    -- the bytes are the value's, which begins on a line of this indentation; a float is written in at most 25 characters, any that read back as it
     pub IsJsonText : ℕ → Json → List ℕ → Type 0
     IsJsonText indent null s = s ≡ codes "null"
     IsJsonText indent (truth b) s = s ≡ bool_text b
     IsJsonText indent (number digits) s = s ≡ digits
-    IsJsonText indent (real f x) s = IsPlainNumber s × (parse_float f s ≡ Some x)
+    IsJsonText indent (real f x) s = IsPlainNumber s × (parse_float f s ≡ Some x) × (length s ≤ 25)
     IsJsonText indent (plain c) s = s ≡ in_quotes c
     IsJsonText indent (string c) s = s ≡ string_text c
     IsJsonText indent (instant z n) s = (t : List ℕ) × (s ≡ in_quotes t) × IsInstantText z (unsigned_abs n) t

@@ -1,12 +1,12 @@
 //! Whether a message has a JSON form.
 
-ghost use Rattle.std.specs.Prelude.{◌≡◌, ◌<◌, length, option_map, true, Some};
+ghost use Rattle.std.specs.Prelude.{◌≡◌, ◌<◌, length, option_map, true, None, Some, IfErr, IfOk};
 ghost use Rattle.pb_schema.specs.Rules.{NamesType};
 ghost use Rattle.pb_schema.specs.Types.{Types, message_fields};
 ghost use Rattle.pb_value.specs.View.{body_view, content_view, entries_view, fields_view, value_view, values_view};
-ghost use Rattle.pb_json.specs.Answers.{Judges, RefusesWith};
+ghost use Rattle.pb_json.specs.Answers.{Judges, RefusedAs, RefusesWith};
 ghost use Rattle.pb_json.specs.Refusals.{any_refused, below, datum_cause, datum_refused, datums_refused, double_cause, entries_refused, fields_refused};
-ghost use Rattle.pb_json.specs.Refusals.{held_cause, here, holding_refused, message_refused, own_cause, refused_here, value_cause};
+ghost use Rattle.pb_json.specs.Refusals.{held_cause, here, holding_refused, message_refused, own_cause, refused, refused_here, value_cause};
 ghost use Rattle.pb_json.specs.WellKnown.{declares_any};
 
 use crate::anys::{VALUE, is_unset, open_any};
@@ -15,13 +15,26 @@ use crate::masks::mask_cause;
 use crate::times::{duration_cause, timestamp_cause};
 use crate::well_known::{WellKnown, well_known};
 use pb_schema::{Kind, MessageId, Pool};
-use pb_value::{Body, Content, DynamicMessage, MapKey, Value};
+use pb_value::{Body, Content, DynamicMessage, MapKey, MessageRef, Value};
 use std::alloc::Global;
 use std::collections::BTreeMap;
 use std::num::f64_from_bits_with_nan;
 
 /// The levels of a message, 0 to 100.
 pub(crate) const LEVELS: usize = 101;
+
+/// Whether a message has a JSON form. Where a part of it has none, the answer says which.
+///
+/// Only the path of that part, and the message in an Any, take memory.
+pub fn judge_json(alloc: Global, message: &MessageRef<'_>) -> Result<(), JsonError>
+    ensures has_form { IfOk result (λ _. refused message.now ≡ None) }
+    ensures failed { IfErr result (RefusedAs message.now) }
+{
+    let body = message.body();
+    let pool = message.pool();
+    let id = message.message_type();
+    judge_message(alloc, pool, LEVELS, id, body)
+}
 
 /// A message that has no JSON form itself.
 fn formless(alloc: Global, cause: JsonCause) -> JsonError

@@ -19,4 +19,5 @@ pub mod well_known;
 pub use error::{JsonCause, JsonError, Refusal};
 pub use form::{JsonForm, Layout, Names};
 pub use given::JsonNames;
+pub use judging::judge_json;
 pub use messages::{put_json, write_json};

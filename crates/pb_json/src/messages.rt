@@ -16,7 +16,7 @@ use crate::anys::{is_unset, open_any, type_url};
 use crate::context::{Context, Place};
 use crate::error::JsonError;
 use crate::form::JsonForm;
-use crate::judging::{LEVELS, judge_message};
+use crate::judging::{LEVELS, judge_json};
 use crate::masks::put_mask;
 use crate::names::{put_entry_start, put_field_start, put_type, put_value_start};
 use crate::scalars::put_scalar;
@@ -61,10 +61,10 @@ pub fn put_json<O: Output>(
     ensures put { OnOk result (Prints O.written O.failures out.old out.new sink.old sink.new (IsJsonOf form.entry message.now)) }
     ensures failed { IfErr result (λ e. RefusedAs message.now e × (out.new ≡ out.old) × (sink.new ≡ sink.old)) }
 {
+    judge_json(alloc, message)?;
     let body = message.body();
     let pool = message.pool();
     let id = message.message_type();
-    judge_message(alloc, pool, LEVELS, id, body)?;
     let context = Context { alloc, pool, form };
     put_judged(sink, out, &context, id, body)?;
     Ok(())

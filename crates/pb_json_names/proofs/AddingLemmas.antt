@@ -19,8 +19,8 @@ use Rattle.pb_value.proofs.Views.{value_view-Message}
 use Rattle.pb_json.specs.Anys.{typed}
 use Rattle.pb_json.specs.Encoded.{message_encoded}
 use Rattle.pb_json.specs.Given.{NamesGiven, name_given, none_given}
-use Rattle.pb_descr.specs.Held.{data_at, elements, fields_in, list_held, name_at, number_at}
-use Rattle.pb_descr.specs.Pool.{descriptor_types, the_set}
+use Rattle.pb_descr_message.specs.Held.{data_at, elements, fields_in, list_held, name_at, number_at}
+use Rattle.pb_descr_message.specs.Pool.{descriptor_types, the_set}
 use Rattle.pb_json_names.specs.Adding.{Adds}
 use Rattle.pb_json_names.specs.Name.{name_in, natural}
 use Rattle.pb_json_names.specs.Names.{field_named, fields_named, file_named, held_named, last_given, listed_named, message_named, named, named_at, set_named, AreNamesOf}

@@ -6,7 +6,7 @@ use Rattle.std.specs.Str.{bytes_eq, is_utf8}
 use Rattle.pb_wire.specs.Record.{Payload, varint, fixed64, len, group, fixed32, Record}
 use Rattle.pb_value.specs.Data.{Datum, scalar, message, unknown_of}
 use Rattle.pb_json.specs.JsonNames.{lower_camel}
-use Rattle.pb_descr.specs.Held.{fields_in, name_at}
+use Rattle.pb_descr_message.specs.Held.{fields_in, name_at}
 
 abbrev pub unknown_in : Datum → List Record
 unknown_in (message m) = unknown_of m

@@ -8,8 +8,8 @@ use Rattle.pb_schema.specs.Types.{Types}
 use Rattle.pb_value.specs.Data.{Datum, scalar, message, Datums, no_datums, datum, Holding, one, list, map, Fields, no_fields, field, Message, body, fields_of}
 use Rattle.pb_json.specs.Encoded.{message_encoded}
 use Rattle.pb_json.specs.Given.{NamesGiven, name_given}
-use Rattle.pb_descr.specs.Held.{fields_in, data_at, name_at, number_at}
-use Rattle.pb_descr.specs.Pool.{descriptor_types, the_set}
+use Rattle.pb_descr_message.specs.Held.{fields_in, data_at, name_at, number_at}
+use Rattle.pb_descr_message.specs.Pool.{descriptor_types, the_set}
 use Rattle.pb_json_names.specs.Name.{name_in, natural}
 
 -- the name of a field of the message type at an index, if it has a number and is given one

@@ -4,7 +4,7 @@ ghost use Rattle.std.specs.Prelude.{◌≡◌, map, option_map};
 ghost use Rattle.pb_value.specs.View.{content_view, value_view};
 ghost use Rattle.pb_wire.specs.Unknown.{records_of};
 ghost use Rattle.pb_value.specs.Data.{get_field};
-ghost use Rattle.pb_descr.specs.Held.{data_at, datum_at, fields_in, int_in, name_at, number_at, text_in};
+ghost use Rattle.pb_descr_message.specs.Held.{data_at, datum_at, fields_in, int_in, name_at, number_at, text_in};
 ghost use Rattle.pb_json_names.specs.Name.{bytes_if, last_bytes, unknown_in};
 ghost use Rattle.pb_wire.specs.Unknown.{payload_of};
 
@@ -12,7 +12,8 @@ use pb_value::{Content, Value};
 use pb_wire::Unknown;
 
 fn content_at(message: &Value, number: u32) -> Option<&Content>
-    ensures { option_map (λ c. content_view c.now) result ≡ get_field number (fields_in (value_view message.now)) }
+    ensures { option_map (λ c. content_view c.now) result
+        ≡ get_field number (fields_in (value_view message.now)) }
 {
     match message {
         Value::Message(body) => body.fields.get(&number),
@@ -22,7 +23,8 @@ fn content_at(message: &Value, number: u32) -> Option<&Content>
 
 /// The one value of a field.
 fn value_at(message: &Value, number: u32) -> Option<&Value>
-    ensures { option_map (λ v. value_view v.now) result ≡ datum_at number (fields_in (value_view message.now)) }
+    ensures { option_map (λ v. value_view v.now) result
+        ≡ datum_at number (fields_in (value_view message.now)) }
 {
     match content_at(message, number) {
         Some(Content::One(value)) => Some(value),
@@ -80,7 +82,8 @@ pub(crate) fn number_at(message: &Value, number: u32) -> i32
 
 /// The payload of the last unknown record of a number that has a length.
 pub(crate) fn last_bytes(message: &Value, number: u32) -> Option<&[u8]>
-    ensures { option_map (λ s. s.now) result ≡ last_bytes number (unknown_in (value_view message.now)) }
+    ensures { option_map (λ s. s.now) result ≡ last_bytes number
+        (unknown_in (value_view message.now)) }
 {
     match message {
         Value::Message(body) => last_of(body.unknown.as_slice(), number),

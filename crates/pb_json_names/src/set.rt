@@ -3,13 +3,13 @@
 ghost use Rattle.std.specs.Prelude.{◌≡◌, ◌<◌, ◌++◌, [], flat_map, length, map, option_map, string_bytes, IfOk, OnOk};
 ghost use Rattle.pb_schema.specs.Names.{in_scope};
 ghost use Rattle.pb_value.specs.View.{value_view};
-ghost use Rattle.pb_descr.specs.Held.{data_at, fields_in};
+ghost use Rattle.pb_descr_message.specs.Held.{data_at, fields_in};
 ghost use Rattle.pb_json_names.specs.Adding.{Adds};
 ghost use Rattle.pb_json_names.specs.Names.{field_named, fields_named, file_named, message_named, AreNamesOf};
 
 use crate::held::{name_at, number_at, values_at};
 use crate::name::{name_in, natural};
-use pb_descr::descriptor_pool;
+use pb_descr_message::descriptor_pool;
 use pb_json::JsonNames;
 use pb_json::anys::open;
 use pb_schema::{MessageId, Pool};
@@ -37,7 +37,9 @@ pub fn names_of_set(alloc: Global, pool: &Pool, set: &[u8]) -> Result<JsonNames,
 
 /// The names that a set's message gives.
 fn names_in(alloc: Global, pool: &Pool, set: &Value) -> Result<JsonNames, AllocError>
-    ensures { IfOk result (λ names. Adds (flat_map (file_named pool.now) (data_at 1 (fields_in (value_view set.now)))) [] names) }
+    ensures { IfOk result (λ names.
+        Adds (flat_map (file_named pool.now) (data_at 1 (fields_in (value_view set.now)))) []
+        names) }
 {
     let mut names = JsonNames::none(alloc);
     add_files(alloc, &mut names, pool, values_at(set, 1))?;
@@ -51,7 +53,8 @@ fn add_files(
     pool: &Pool,
     files: &[Value],
 ) -> Result<(), AllocError>
-    ensures { OnOk result (Adds (flat_map (file_named pool.now) (map value_view files.now)) names.old names.new) }
+    ensures { OnOk result (Adds
+        (flat_map (file_named pool.now) (map value_view files.now)) names.old names.new) }
 {
     for file in files {
         add_messages(alloc, names, pool, name_at(file, 2), values_at(file, 4))?;
@@ -68,7 +71,9 @@ fn add_messages(
     scope: &str,
     messages: &[Value],
 ) -> Result<(), AllocError>
-    ensures { OnOk result (Adds (flat_map (message_named pool.now scope.now) (map value_view messages.now)) names.old names.new) }
+    ensures { OnOk result (Adds
+        (flat_map (message_named pool.now scope.now) (map value_view messages.now)) names.old
+        names.new) }
 {
     for message in messages {
         add_message(alloc, names, pool, scope, message)?;
@@ -85,7 +90,8 @@ fn add_message(
     scope: &str,
     message: &Value,
 ) -> Result<(), AllocError>
-    ensures { OnOk result (Adds (message_named pool.now scope.now (value_view message.now)) names.old names.new) }
+    ensures { OnOk result (Adds
+        (message_named pool.now scope.now (value_view message.now)) names.old names.new) }
 {
     let full = full_name(alloc, scope, name_at(message, 1))?;
     add_fields(alloc, names, pool, full.as_str(), values_at(message, 2))?;
@@ -114,7 +120,8 @@ fn add_fields(
     full: &str,
     fields: &[Value],
 ) -> Result<(), AllocError>
-    ensures { OnOk result (Adds (fields_named pool.now full.now (map value_view fields.now)) names.old names.new) }
+    ensures { OnOk result (Adds
+        (fields_named pool.now full.now (map value_view fields.now)) names.old names.new) }
 {
     match pool.message_by_name(full) {
         Some(message) => {
@@ -132,7 +139,8 @@ fn add_fields_of(
     message: MessageId,
     fields: &[Value],
 ) -> Result<(), AllocError>
-    ensures { OnOk result (Adds (flat_map (field_named message.0) (map value_view fields.now)) names.old names.new) }
+    ensures { OnOk result (Adds
+        (flat_map (field_named message.0) (map value_view fields.now)) names.old names.new) }
 {
     for field in fields {
         add_field(alloc, names, message, field)?;
@@ -147,7 +155,8 @@ fn add_field(
     message: MessageId,
     field: &Value,
 ) -> Result<(), AllocError>
-    ensures { OnOk result (Adds (field_named message.0 (value_view field.now)) names.old names.new) }
+    ensures { OnOk result (Adds
+        (field_named message.0 (value_view field.now)) names.old names.new) }
 {
     let Some(number) = natural(number_at(field, 3)) else {
         return Ok(());

@@ -1,6 +1,6 @@
 -- The parts of an Any: its members `@type`, the message in it and its bytes.
 use Rattle.std.proofs.Common.{◌≡◌, ℕ, ◌+◌, ◌<◌, ◌≤◌, ◌^◌, List, [], ◌∷◌, length, drop, get_or, string_bytes, Bool, true, false, Option, Some, None, Result, Ok, Err, inl, inr, refl, sym, ap, ◌∙◌, subst}
-use Rattle.std.specs.Prelude.{◌⊎◌, ◌==◌, is_some, option_and_then, option_map}
+use Rattle.std.specs.Prelude.{◌⊎◌, ◌==◌, is_some, option_map}
 use Rattle.std.proofs.lemmas.Bool.{false≢true}
 use Rattle.pb_schema.specs.Types.{FieldView, Types, message_fields}
 use Rattle.pb_value.specs.Canon.{canon_bytes}
@@ -16,7 +16,7 @@ use Rattle.pb_json_read.specs.declared.error.JsonReadCause.TheVariants.{Repeated
 use Rattle.pb_json_read.specs.declared.error.JsonReadError.{JsonReadError}
 use Rattle.pb_json_read.specs.declared.rules.JsonRules.{JsonRules}
 use Rattle.pb_json_read.specs.Answers.{Answers, Changes}
-use Rattle.pb_json_read.specs.Anys.{Tag, any_fields, beside, field_of, is_tag, message_beside, message_held, only_tag, tag_before, tags, untagged, value_field}
+use Rattle.pb_json_read.specs.Anys.{Tag, any_fields, beside, field_of, is_empty_type, is_tag, message_beside, message_held, only_tag, tag_before, tags, untagged, value_field}
 use Rattle.pb_json_read.specs.Anys.{Encodes, ReadsAnyOf, ReadsNamed, ReadsTagged, url_meant}
 use Rattle.pb_json_read.specs.Faults.{fault, out_of_memory}
 use Rattle.pb_json_read.specs.Names.{field_meant}
@@ -129,7 +129,7 @@ module _ (pool : Types) (rules : JsonRules) (names : NamesGiven) (at : ℕ) (ms 
   Beside meant o = ReadsBeside pool rules names meant nothing ms o
 
   abbrev Inside : ℕ → Option FieldView → Read Message → Type 0
-  Inside t f o = Then (Beside (beside f (field_meant names pool t))) (λ p r. r ≡ given at (message_beside f p.message)) o
+  Inside t f o = Then (Beside (beside f (field_meant names pool t))) (λ p r. r ≡ given at (message_beside (is_empty_type pool t) f p.message)) o
 
   -- the message in an Any
   module _ (t : ℕ) where
@@ -139,11 +139,11 @@ module _ (pool : Types) (rules : JsonRules) (names : NamesGiven) (at : ℕ) (ms 
 
     pub in_any_held : (b : Message) (r : Result Body JsonReadError) → field_of pool t ≡ Some (value_field t)
         → Made (Beside (beside (Some (value_field t)) (field_meant names pool t))) (λ p. p.message) (Ok b)
-        → Answers body_view (λ o. o ≡ given at (option_and_then message_held (get_field 1 (fields_of b)))) r → Answers body_view (InAnyOf pool rules names at ms t) r
+        → Answers body_view (λ o. o ≡ given at (message_held (is_empty_type pool t) (get_field 1 (fields_of b)))) r → Answers body_view (InAnyOf pool rules names at ms t) r
     in_any_held b r is (Ok p, first, same) h =
         subst (λ (f : Option FieldView). Answers body_view (Inside t f) r) (sym is)
-        (answers_weaker body_view (λ o. o ≡ given at (option_and_then message_held (get_field 1 (fields_of b)))) (Inside t (Some (value_field t))) r
-        (λ o held. (Ok p, first, subst (λ (v : Message). o ≡ given at (option_and_then message_held (get_field 1 (fields_of v)))) (ok_ok b p.message same) held)) h)
+        (answers_weaker body_view (λ o. o ≡ given at (message_held (is_empty_type pool t) (get_field 1 (fields_of b)))) (Inside t (Some (value_field t))) r
+        (λ o held. (Ok p, first, subst (λ (v : Message). o ≡ given at (message_held (is_empty_type pool t) (get_field 1 (fields_of v)))) (ok_ok b p.message same) held)) h)
     in_any_held b r is (Err e, first, same) h = absurd (ok_err b e same)
 
     pub in_any_stops : (e : JsonReadError) → field_of pool t ≡ Some (value_field t)

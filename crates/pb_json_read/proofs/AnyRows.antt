@@ -1,5 +1,5 @@
 -- An Any: small cases, worked out by the definitions.
-use Rattle.std.proofs.Common.{ℕ, List, [], ◌∷◌, true, false, Some, None, Ok, Err, refl, codes, arith}
+use Rattle.std.proofs.Common.{◌≡◌, ℕ, List, [], ◌∷◌, true, false, Some, None, Ok, Err, refl, codes, arith}
 use Rattle.std.specs.Path.{rsplit_once}
 use Rattle.pb_wire.specs.Varint.{shortest, shortest_within}
 use Rattle.pb_schema.specs.declared.types.Kind.{Kind}
@@ -13,6 +13,7 @@ use Rattle.pb_json.specs.Given.{none_given}
 use Rattle.pb_json_text.specs.Json as json
 use Rattle.pb_json_read.specs.declared.rules.JsonRules.TheVariants.{Strict}
 use Rattle.pb_json_read.specs.declared.error.JsonReadCause.TheVariants.{BadValue, RepeatedName, UnknownName}
+use Rattle.pb_json_read.specs.Anys.{has_members, is_empty_type}
 use Rattle.pb_json_read.specs.Faults.{fault}
 use Rattle.pb_json_read.specs.Reads.{ReadsMessage}
 use Rattle.pb_json_read.specs.Steps.{Parts, nothing}
@@ -28,7 +29,8 @@ pool = record {
   files = record { name = codes "s"; package_name = codes "google.protobuf"; imports = []; proto2 = false } ∷ [];
   messages =
       the_type (codes "Any") (the_field 1 (codes "type_url") kind.Text ∷ the_field 2 (codes "value") kind.Bytes ∷ [])
-      ∷ the_type (codes "T") (the_field 1 (codes "is_on") kind.Bool ∷ []) ∷ the_type (codes "BoolValue") (the_field 1 (codes "value") kind.Bool ∷ []) ∷ [];
+      ∷ the_type (codes "T") (the_field 1 (codes "is_on") kind.Bool ∷ []) ∷ the_type (codes "BoolValue") (the_field 1 (codes "value") kind.Bool ∷ [])
+      ∷ the_type (codes "Empty") [] ∷ [];
   enums = [];
 }
 
@@ -156,6 +158,96 @@ no_value = (Err (fault 0 BadValue), (Err (fault 0 BadValue), (Ok nothing, (Ok no
 no_member_of_bool : ReadsMessage pool Strict none_given 0 0 (tag (json.string bool_url) (json.member 30 (codes "isOn") 38 (json.boolean true) json.no_members)) (Err (fault 30 UnknownName))
 unfolding rsplit_once
 no_member_of_bool = (
+  Err (fault 30 UnknownName),
+  (Err (fault 30 UnknownName), (Err (fault 30 UnknownName), (Ok nothing, refl, (Err (fault 30 UnknownName), refl, refl)), refl), refl),
+  refl,
+)
+
+-- ---- of `google.protobuf.Empty`: with the member `value`, and without it
+
+abbrev empty_url : List ℕ
+empty_url = codes "/google.protobuf.Empty"
+
+an_empty : is_empty_type pool 3 ≡ true
+an_empty = refl
+
+another_type : is_empty_type pool 1 ≡ false
+another_type = refl
+
+a_form : has_members pool 2 ≡ false
+a_form = refl
+
+-- one that has a field
+abbrev own_pool : Types
+own_pool = record {
+  files = record { name = codes "s"; package_name = codes "google.protobuf"; imports = []; proto2 = false } ∷ [];
+  messages = the_type (codes "Empty") (the_field 1 (codes "is_on") kind.Bool ∷ []) ∷ [];
+  enums = [];
+}
+
+own_empty : has_members own_pool 0 ≡ true
+own_empty = refl
+
+empty_well : IsWellFormed pool 3 empty
+empty_well = record { parts = (tt, tt, tt, tt); depth = omega arith }
+
+abbrev any_of_empty : Message
+any_of_empty = body (field 1 (one (scalar (text empty_url))) no_fields) []
+
+abbrev held_empty : Parts
+held_empty = record { message = body (field 1 (one (message empty)) no_fields) []; numbers = 1 ∷ []; oneofs = [] }
+
+of_empty : ReadsMessage pool Strict none_given 0 0 (tag (json.string empty_url) (json.member 30 (codes "value") 38 (json.object json.no_members) json.no_members)) (Ok any_of_empty)
+unfolding rsplit_once shortest shortest_within
+of_empty = (
+  Ok [],
+  (
+    Ok empty,
+    (
+      Ok held_empty,
+      (
+        Ok nothing,
+        refl,
+        (
+          Ok held_empty,
+          (Ok (Some (one (message empty))), (Ok (Some (message empty)), (Ok empty, (Ok nothing, refl, refl), refl), refl), refl),
+          refl,
+        ),
+      ),
+      refl,
+    ),
+    (empty_well, omega arith, refl),
+  ),
+  refl,
+)
+
+of_empty_alone : ReadsMessage pool Strict none_given 0 0 (tag (json.string empty_url) json.no_members) (Ok any_of_empty)
+unfolding rsplit_once shortest shortest_within
+of_empty_alone = (Ok [], (Ok empty, (Ok nothing, (Ok nothing, refl, refl), refl), (empty_well, omega arith, refl)), refl)
+
+no_empty : ReadsMessage pool Strict none_given 0 0 (tag (json.string empty_url) (json.member 30 (codes "value") 38 (json.boolean true) json.no_members)) (Err (fault 38 BadValue))
+unfolding rsplit_once
+no_empty = (
+  Err (fault 38 BadValue),
+  (
+    Err (fault 38 BadValue),
+    (
+      Err (fault 38 BadValue),
+      (
+        Ok nothing,
+        refl,
+        (Err (fault 38 BadValue), (Err (fault 38 BadValue), (Err (fault 38 BadValue), (Err (fault 38 BadValue), refl, refl), refl), refl), refl),
+      ),
+      refl,
+    ),
+    refl,
+  ),
+  refl,
+)
+
+no_member_of_empty : ReadsMessage pool Strict none_given 0 0 (tag (json.string empty_url) (json.member 30 (codes "isOn") 38 (json.boolean true) json.no_members)) (Err (fault 30 UnknownName))
+unfolding rsplit_once
+no_member_of_empty = (
   Err (fault 30 UnknownName),
   (Err (fault 30 UnknownName), (Err (fault 30 UnknownName), (Ok nothing, refl, (Err (fault 30 UnknownName), refl, refl)), refl), refl),
   refl,

@@ -1,22 +1,24 @@
 -- Members of messages and entries of maps: small cases, worked out by the definitions.
-use Rattle.std.proofs.Common.{◌≡◌, ℕ, List, [], ◌∷◌, true, false, Some, None, Ok, Err, refl, arith, inl, inr, pos, codes}
+use Rattle.std.proofs.Common.{◌≡◌, ℕ, List, [], ◌∷◌, true, false, Option, Some, None, IsSomeAnd, Ok, Err, refl, sym, subst, arith, inl, inr, pos, codes}
 use Rattle.pb_schema.specs.declared.types.Kind.TheVariants as kind
 use Rattle.pb_schema.specs.declared.types.Shape.TheVariants as shape
 use Rattle.pb_schema.specs.Types.{FieldView, Types}
 use Rattle.pb_schema.specs.Scalar.{boolean, uint64}
-use Rattle.pb_value.specs.Data.{Datum, Entries, entry, no_entries, scalar, one, map, body, field, no_fields, empty, Message}
+use Rattle.pb_value.specs.Data.{Entries, entry, no_entries, scalar, map, body, field, no_fields, empty, Message}
 use Rattle.pb_value.specs.WellFormed.{IsWellFormed}
 use Rattle.pb_json.specs.Given.{NamesGiven, none_given}
+use Rattle.pb_json.specs.Refusals.{Refused, refused}
+use Rattle.pb_json.specs.declared.error.JsonCause.TheVariants as form
 use Rattle.pb_json_scalars.specs.Numbers.{IsIntegerText, none}
 use Rattle.pb_json_text.specs.Json as json
 use Rattle.pb_json_read.specs.declared.rules.JsonRules.{JsonRules}
 use Rattle.pb_json_read.specs.declared.rules.JsonRules.TheVariants.{Strict, Lenient}
-use Rattle.pb_json_read.specs.declared.error.JsonReadCause.TheVariants.{BadKey, RepeatedName, TooDeep, UnknownName}
+use Rattle.pb_json_read.specs.declared.error.JsonReadCause.TheVariants.{BadKey, BadValue, RepeatedName, TooDeep, UnknownName}
 use Rattle.pb_json_read.specs.Answers.{HasReadFault}
 use Rattle.pb_json_read.specs.Anys.{Encodes}
-use Rattle.pb_json_read.specs.Faults.{fault}
+use Rattle.pb_json_read.specs.Faults.{cause_of_form, fault}
 use Rattle.pb_json_read.specs.Reads.{ReadsMessage}
-use Rattle.pb_json_read.specs.Steps.{Parts, nothing, ReadsEntry, ReadsField, ReadsUnder}
+use Rattle.pb_json_read.specs.Steps.{Entered, Parts, none_entered, nothing, ReadsEntry, ReadsField, ReadsUnder}
 use Rattle.pb_json_read.specs.Values.{IsUint64}
 
 abbrev choice : FieldView
@@ -53,6 +55,9 @@ unknown_passed = (Ok nothing, (Ok nothing, refl, refl), refl)
 abbrev an_entry : Entries
 an_entry = entry (boolean true) (scalar (boolean false)) no_entries
 
+abbrev entered : Entered
+entered = record { entries = an_entry; passed = no_entries }
+
 abbrev with_entries : Parts
 with_entries = record { message = body (field 3 (map an_entry) no_fields) []; numbers = 3 ∷ []; oneofs = [] }
 
@@ -68,8 +73,12 @@ an_entry_read = (
       (
         Ok an_entry,
         (
-          Ok an_entry,
-          (boolean true, (true, refl, refl), (Ok (Some (scalar (boolean false))), (false, refl, refl), refl)),
+          Ok entered,
+          (
+            Ok entered,
+            (boolean true, (true, refl, refl), (Ok (Some (scalar (boolean false))), (false, refl, refl), refl)),
+            refl,
+          ),
           refl,
         ),
         refl,
@@ -81,21 +90,27 @@ an_entry_read = (
   refl,
 )
 
-second_key : ReadsUnder (boolean true) 9 (λ r. r ≡ Ok (Some (scalar (boolean true)))) an_entry (Err (fault 9 RepeatedName))
+second_key : ReadsUnder (boolean true) 9 (λ r. r ≡ Ok (Some (scalar (boolean true)))) entered (Err (fault 9 RepeatedName))
 second_key = refl
 
-another_key : ReadsUnder (boolean false) 9 (λ r. r ≡ Ok (Some (scalar (boolean true)))) an_entry
-    (Ok (entry (boolean false) (scalar (boolean true)) an_entry))
+another_key : ReadsUnder (boolean false) 9 (λ r. r ≡ Ok (Some (scalar (boolean true)))) entered
+    (Ok (record { entries = entry (boolean false) (scalar (boolean true)) an_entry; passed = no_entries }))
 another_key = (Ok (Some (scalar (boolean true))), refl, refl)
 
--- a value that is passed over does not note its key, and a key that was read is not read again for one
-passed_key_is_free : ReadsUnder (boolean true) 9 (λ r. r ≡ Ok None) no_entries (Ok no_entries)
-passed_key_is_free = (Ok None, refl, refl)
+-- a value that is passed over notes its key too, so that it is named once in any order
+abbrev passed_true : Entered
+passed_true = record { entries = no_entries; passed = an_entry }
 
-passed_key_is_taken : ReadsUnder (boolean true) 9 (λ r. r ≡ Ok None) an_entry (Err (fault 9 RepeatedName))
-passed_key_is_taken = refl
+passed_key_is_noted : ReadsUnder (boolean true) 9 (λ r. r ≡ Ok None) none_entered (Ok passed_true)
+passed_key_is_noted = (Ok None, refl, refl)
 
-no_key : ReadsEntry kind.Bool (codes "yes") 9 (λ r. ⊥) no_entries (Err (fault 9 BadKey))
+second_key_after_a_passed_one : ReadsUnder (boolean true) 9 (λ r. r ≡ Ok (Some (scalar (boolean true)))) passed_true (Err (fault 9 RepeatedName))
+second_key_after_a_passed_one = refl
+
+second_key_is_not_passed : ReadsUnder (boolean true) 9 (λ r. r ≡ Ok None) entered (Err (fault 9 RepeatedName))
+second_key_is_not_passed = refl
+
+no_key : ReadsEntry kind.Bool (codes "yes") 9 (λ r. ⊥) none_entered (Err (fault 9 BadKey))
 no_key = inr (λ x h. cc, refl)
 
 -- ---- 64-bit integers, in a string too
@@ -117,7 +132,30 @@ uint64_as_a_number = (7, (seven, omega arith), refl)
 
 too_deep : (types : Types) (rules : JsonRules) (names : NamesGiven) (m at : ℕ) (j : json.Json) (v : Message)
     → ReadsMessage types rules names m at j (Ok v) → ¬ IsWellFormed types m v → HasReadFault types rules names m (at, j) (fault at TooDeep)
-too_deep types rules names m at j v reads deep = inr (v, reads, deep, refl)
+too_deep types rules names m at j v reads deep = inr (v, reads, inl (deep, refl))
 
 too_deep_in_an_any : (types : Types) (t at : ℕ) (b : Message) → ¬ IsWellFormed types t b → Encodes types t at b (Err (fault at TooDeep))
 too_deep_in_an_any types t at b deep = inl (deep, refl)
+
+-- ---- and so is what has no JSON form
+
+no_form : (types : Types) (rules : JsonRules) (names : NamesGiven) (m at : ℕ) (j : json.Json) (v : Message) (r : Refused)
+    → ReadsMessage types rules names m at j (Ok v) → IsWellFormed types m v → refused (record { pool = types; kind = m; body = v }) ≡ Some r
+    → HasReadFault types rules names m (at, j) (fault at (cause_of_form r.cause))
+no_form types rules names m at j v r reads well is =
+    inr (v, reads, inr (well, subst (λ (o : Option Refused). IsSomeAnd o (λ s. fault at (cause_of_form r.cause) ≡ fault at (cause_of_form s.cause))) (sym is) refl))
+
+deep_anys : cause_of_form form.Unsupported ≡ TooDeep
+deep_anys = refl
+
+no_kind : cause_of_form form.NoKind ≡ BadValue
+no_kind = refl
+
+not_finite : cause_of_form form.NotFinite ≡ BadValue
+not_finite = refl
+
+out_of_range : cause_of_form form.OutOfRange ≡ BadValue
+out_of_range = refl
+
+bad_path : cause_of_form form.BadPath ≡ BadValue
+bad_path = refl

@@ -6,7 +6,7 @@ use Rattle.pb_schema.specs.declared.types.Kind.{Kind}
 use Rattle.pb_schema.specs.declared.types.Shape.{Shape}
 use Rattle.pb_schema.specs.Types.{FieldView, Types}
 use Rattle.pb_schema.specs.Kinds.{message_of_kind}
-use Rattle.pb_value.specs.Data.{Datum, message, Datums, Entries, Holding}
+use Rattle.pb_value.specs.Data.{Datum, message, Datums, Holding}
 use Rattle.pb_value.specs.View.{body_view}
 use Rattle.pb_value.specs.declared.body.Body.{Body}
 use Rattle.pb_json.specs.declared.well_known.WellKnown.{WellKnown}
@@ -23,7 +23,7 @@ use Rattle.pb_json_read.specs.declared.rules.JsonRules.{JsonRules}
 use Rattle.pb_json_read.specs.Answers.{Answers, Changes, named}
 use Rattle.pb_json_read.specs.Faults.{fault, out_of_memory}
 use Rattle.pb_json_read.specs.Forms.{ReadsForm}
-use Rattle.pb_json_read.specs.Steps.{Read, After, Then, Made, NoValue, Parts, with_datum}
+use Rattle.pb_json_read.specs.Steps.{Read, After, Then, Made, NoValue, Parts, Entered, with_datum}
 use Rattle.pb_json_read.specs.Steps.{ReadsSingle, ReadsOf, ReadsShape, ReadsScalar}
 use Rattle.pb_json_read.specs.Reads.{ReadsMember, ReadsMemberBeside, ReadsMemberEntry}
 use Rattle.pb_json_read.specs.Reads.{ReadsMembers, ReadsBeside, ReadsEntries, ReadsElements, ReadsValue, ReadsContent, ReadsMessage, ReadsObject, ReadsList, ReadsMap}
@@ -100,13 +100,13 @@ module _ (pool : Types) (rules : JsonRules) (names : NamesGiven) where
   beside_stop meant p ms i m below is e first =
       subst (λ (l : Members). ReadsBeside pool rules names meant p l (Err e)) (sym (members_next ms i m below is)) (Err e, first, refl)
 
-  pub entries_step : (key k : Kind) (es fs : Entries) (ms : List JsonMember) (i : ℕ) (m : JsonMember) → i < length ms → m ≡ get_or ms i m
-      → ReadsMemberEntry pool rules names key k (named m) es (Ok fs) → (o : Read Entries) → ReadsEntries pool rules names key k fs (members_view (drop (i + 1) ms)) o
+  pub entries_step : (key k : Kind) (es fs : Entered) (ms : List JsonMember) (i : ℕ) (m : JsonMember) → i < length ms → m ≡ get_or ms i m
+      → ReadsMemberEntry pool rules names key k (named m) es (Ok fs) → (o : Read Entered) → ReadsEntries pool rules names key k fs (members_view (drop (i + 1) ms)) o
       → ReadsEntries pool rules names key k es (members_view (drop i ms)) o
   entries_step key k es fs ms i m below is first o rest =
       subst (λ (l : Members). ReadsEntries pool rules names key k es l o) (sym (members_next ms i m below is)) (Ok fs, first, rest)
 
-  pub entries_stop : (key k : Kind) (es : Entries) (ms : List JsonMember) (i : ℕ) (m : JsonMember) → i < length ms → m ≡ get_or ms i m → (e : JsonReadError)
+  pub entries_stop : (key k : Kind) (es : Entered) (ms : List JsonMember) (i : ℕ) (m : JsonMember) → i < length ms → m ≡ get_or ms i m → (e : JsonReadError)
       → ReadsMemberEntry pool rules names key k (named m) es (Err e) → ReadsEntries pool rules names key k es (members_view (drop i ms)) (Err e)
   entries_stop key k es ms i m below is e first =
       subst (λ (l : Members). ReadsEntries pool rules names key k es l (Err e)) (sym (members_next ms i m below is)) (Err e, first, refl)

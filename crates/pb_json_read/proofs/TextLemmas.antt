@@ -1,11 +1,12 @@
 -- What the whole call answers, by what the text is read as.
 use Rattle.std.proofs.Common.{◌≡◌, ℕ, List, Result, Ok, Err, IfOk, IfErr, inl, inr, refl, sym, ap, ◌∙◌, subst}
-use Rattle.std.specs.Prelude.{◌⊎◌, MatchResult, IsErrAnd}
+use Rattle.std.specs.Prelude.{◌⊎◌, MatchResult, IsErrAnd, IsSomeAnd, Option, None, Some}
 use Rattle.pb_schema.specs.Types.{Types}
 use Rattle.pb_value.specs.Data.{Message}
 use Rattle.pb_value.specs.Dynamic.{Dynamic}
 use Rattle.pb_value.specs.WellFormed.{IsWellFormed}
 use Rattle.pb_json.specs.Given.{NamesGiven}
+use Rattle.pb_json.specs.Refusals.{Refused, refused}
 use Rattle.pb_json_text.specs.Json.{Placed}
 use Rattle.pb_json_text.specs.Texts.{IsJson, HasFault}
 use Rattle.pb_json_text.specs.Fault as text
@@ -14,11 +15,10 @@ use Rattle.pb_json_text.proofs.ViewLemmas.{value_view-parts}
 use Rattle.pb_json_text.specs.declared.fault.JsonCause.{JsonCause}
 use Rattle.pb_json_text.specs.declared.fault.JsonFault.{JsonFault}
 use Rattle.pb_json_text.specs.declared.value.JsonValue.{JsonValue}
-use Rattle.pb_json_read.specs.declared.error.JsonReadCause.TheVariants.{TooDeep}
 use Rattle.pb_json_read.specs.declared.error.JsonReadError.{JsonReadError}
 use Rattle.pb_json_read.specs.declared.rules.JsonRules.{JsonRules}
-use Rattle.pb_json_read.specs.Answers.{IsReadBy, IsRefusedBy}
-use Rattle.pb_json_read.specs.Faults.{fault, fault_of, out_of_memory}
+use Rattle.pb_json_read.specs.Answers.{HasForm, IsReadBy, IsRefusedBy, IsUnfit}
+use Rattle.pb_json_read.specs.Faults.{cause_of_form, fault, fault_of, out_of_memory}
 use Rattle.pb_json_read.specs.Reads.{ReadsMessage}
 use Rattle.pb_json_read.proofs.UniqueReads.{message_one}
 
@@ -41,6 +41,24 @@ ok_ok x y same = cc
 err_err : (e f : JsonReadError) → Same (Err e) (Err f) → e ≡ f
 err_err e f same = cc
 
+-- ---- what has no JSON form, or nests too deep
+
+fit_or_not : (pool : Types) (m at : ℕ) (v : Message) (e : JsonReadError) → IsWellFormed pool m v → HasForm pool m v → IsUnfit pool m at v e → ⊥
+fit_or_not pool m at v e well form (inl (ill, k)) = ill well
+fit_or_not pool m at v e well form (inr (also, some)) =
+    subst (λ (o : Option Refused). IsSomeAnd o (λ r. e ≡ fault at (cause_of_form r.cause))) form some
+
+one_cause : (at : ℕ) (e f : JsonReadError) (o : Option Refused) → IsSomeAnd o (λ r. e ≡ fault at (cause_of_form r.cause))
+    → IsSomeAnd o (λ r. f ≡ fault at (cause_of_form r.cause)) → e ≡ f
+one_cause at e f None h k = absurd h
+one_cause at e f (Some r) h k = h ∙ sym k
+
+unfit_one : (pool : Types) (m at : ℕ) (v : Message) (e f : JsonReadError) → IsUnfit pool m at v e → IsUnfit pool m at v f → e ≡ f
+unfit_one pool m at v e f (inl (ill, k)) (inl (also, l)) = k ∙ sym l
+unfit_one pool m at v e f (inl (ill, k)) (inr (well, some)) = absurd (ill well)
+unfit_one pool m at v e f (inr (well, some)) (inl (ill, l)) = absurd (ill well)
+unfit_one pool m at v e f (inr (well, some)) (inr (also, other)) = one_cause at e f (refused (record { pool = pool; kind = m; body = v })) some other
+
 module _ (pool : Types) (rules : JsonRules) (names : NamesGiven) (m : ℕ) (b : List ℕ) where
   -- ---- the bytes are no JSON text
 
@@ -49,7 +67,7 @@ module _ (pool : Types) (rules : JsonRules) (names : NamesGiven) (m : ℕ) (b : 
   no_text_fault e (inr has) = inr (inl (e.byte, e.cause, has, refl))
 
   pub no_text_accepted : (e : JsonFault) → Accepts b (Err e) → (v : Message) → IsReadBy pool rules names m b v → fault_of e ≡ out_of_memory
-  no_text_accepted e accepts v (j, is, reads, well) = ap fault_of (accepts j is)
+  no_text_accepted e accepts v (j, is, reads, well, form) = ap fault_of (accepts j is)
 
   pub no_text_refused : (e : JsonFault) → Accepts b (Err e) → Refuses b (Err e) → (f : JsonReadError) → IsRefusedBy pool rules names m b f
       → (fault_of e ≡ out_of_memory) ⊎ (fault_of e ≡ f)
@@ -74,7 +92,7 @@ module _ (pool : Types) (rules : JsonRules) (names : NamesGiven) (m : ℕ) (b : 
     pub fault_accepted : (e : JsonReadError) → (e ≡ out_of_memory) ⊎ ReadsMessage pool rules names m (value_view w).0 (value_view w).1 (Err e)
         → (v : Message) → IsReadBy pool rules names m b v → e ≡ out_of_memory
     fault_accepted e (inl same) v read = same
-    fault_accepted e (inr reads) v (j, also, other, well) =
+    fault_accepted e (inr reads) v (j, also, other, well, form) =
         absurd (ok_err v e (message_one pool rules names m (value_view w).0 (value_view w).1 (Ok v) (Err e) (same_read j also (Ok v) other) reads))
 
     pub fault_refused : (e : JsonReadError) → (e ≡ out_of_memory) ⊎ ReadsMessage pool rules names m (value_view w).0 (value_view w).1 (Err e)
@@ -83,7 +101,7 @@ module _ (pool : Types) (rules : JsonRules) (names : NamesGiven) (m : ℕ) (b : 
     fault_refused e (inr reads) f (inl (n, c, has, k)) = absurd (refuses n c has)
     fault_refused e (inr reads) f (inr (j, also, inl other)) =
         inr (err_err e f (message_one pool rules names m (value_view w).0 (value_view w).1 (Err e) (Err f) reads (same_read j also (Err f) other)))
-    fault_refused e (inr reads) f (inr (j, also, inr (v, other, ill, k))) =
+    fault_refused e (inr reads) f (inr (j, also, inr (v, other, unfit))) =
         absurd (ok_err v e (message_one pool rules names m (value_view w).0 (value_view w).1 (Ok v) (Err e) (same_read j also (Ok v) other) reads))
 
     module _ (body : Message) (reads : ReadsMessage pool rules names m (value_view w).0 (value_view w).1 (Ok body)) where
@@ -95,35 +113,44 @@ module _ (pool : Types) (rules : JsonRules) (names : NamesGiven) (m : ℕ) (b : 
       no_fault j also e other =
           ok_err body e (message_one pool rules names m (value_view w).0 (value_view w).1 (Ok body) (Err e) reads (same_read j also (Err e) other))
 
-      pub done_read : IsWellFormed pool m body → IsReadBy pool rules names m b body
-      done_read well = (value_view w, is, reads, well)
+      pub done_read : IsWellFormed pool m body → HasForm pool m body → IsReadBy pool rules names m b body
+      done_read well form = (value_view w, is, reads, well, form)
 
       pub done_same : (v : Message) → IsReadBy pool rules names m b v → body ≡ v
-      done_same v (j, also, other, well) = sym (same_body j also v other)
+      done_same v (j, also, other, well, form) = sym (same_body j also v other)
 
-      pub done_refused : IsWellFormed pool m body → (f : JsonReadError) → IsRefusedBy pool rules names m b f → ⊥
-      done_refused well f (inl (n, c, has, k)) = refuses n c has
-      done_refused well f (inr (j, also, inl other)) = no_fault j also f other
-      done_refused well f (inr (j, also, inr (v, other, ill, k))) = ill (subst (λ (x : Message). IsWellFormed pool m x) (sym (same_body j also v other)) well)
+      -- what the other reading is refused with, at this value
+      same_unfit : (j : Placed) → IsJson j b → (v : Message) → ReadsMessage pool rules names m j.0 j.1 (Ok v) → (f : JsonReadError) → IsUnfit pool m j.0 v f
+          → IsUnfit pool m (value_view w).0 body f
+      same_unfit j also v other f unfit =
+          subst (λ (x : Message). IsUnfit pool m (value_view w).0 x f) (same_body j also v other)
+          (subst (λ (p : Placed). IsUnfit pool m p.0 v f) (sym (accepts j also)) unfit)
 
-      -- a message that nests too deep, or memory ran out
-      abbrev pub IsDeep : JsonReadError → Type 0
-      IsDeep e = (e ≡ out_of_memory) ⊎ ((¬ IsWellFormed pool m body) × (e ≡ fault (value_view w).0 TooDeep))
+      pub done_refused : IsWellFormed pool m body → HasForm pool m body → (f : JsonReadError) → IsRefusedBy pool rules names m b f → ⊥
+      done_refused well form f (inl (n, c, has, k)) = refuses n c has
+      done_refused well form f (inr (j, also, inl other)) = no_fault j also f other
+      done_refused well form f (inr (j, also, inr (v, other, unfit))) = fit_or_not pool m (value_view w).0 body f well form (same_unfit j also v other f unfit)
 
-      pub deep_fault : (e : JsonReadError) → IsDeep e → (e ≡ out_of_memory) ⊎ IsRefusedBy pool rules names m b e
-      deep_fault e (inl same) = inl same
-      deep_fault e (inr (ill, k)) = inr (inr (value_view w, is, inr (body, reads, ill, k)))
+      -- a message that nests too deep or has no JSON form, or memory ran out
+      abbrev pub MayBeUnfit : JsonReadError → Type 0
+      MayBeUnfit e = (e ≡ out_of_memory) ⊎ IsUnfit pool m (value_view w).0 body e
 
-      pub deep_accepted : (e : JsonReadError) → IsDeep e → (v : Message) → IsReadBy pool rules names m b v → e ≡ out_of_memory
-      deep_accepted e (inl same) v read = same
-      deep_accepted e (inr (ill, k)) v (j, also, other, well) = absurd (ill (subst (λ (x : Message). IsWellFormed pool m x) (same_body j also v other) well))
+      pub unfit_fault : (e : JsonReadError) → MayBeUnfit e → (e ≡ out_of_memory) ⊎ IsRefusedBy pool rules names m b e
+      unfit_fault e (inl same) = inl same
+      unfit_fault e (inr unfit) = inr (inr (value_view w, is, inr (body, reads, unfit)))
 
-      pub deep_refused : (e : JsonReadError) → IsDeep e → (f : JsonReadError) → IsRefusedBy pool rules names m b f → (e ≡ out_of_memory) ⊎ (e ≡ f)
-      deep_refused e (inl same) f has = inl same
-      deep_refused e (inr deep) f (inl (n, c, has, k)) = absurd (refuses n c has)
-      deep_refused e (inr deep) f (inr (j, also, inl other)) = absurd (no_fault j also f other)
-      deep_refused e (inr (ill, k)) f (inr (j, also, inr (v, other, also_ill, l))) =
-          inr (k ∙ ap (λ (p : Placed). fault p.0 TooDeep) (accepts j also) ∙ sym l)
+      pub unfit_accepted : (e : JsonReadError) → MayBeUnfit e → (v : Message) → IsReadBy pool rules names m b v → e ≡ out_of_memory
+      unfit_accepted e (inl same) v read = same
+      unfit_accepted e (inr unfit) v (j, also, other, well, form) =
+          absurd (fit_or_not pool m (value_view w).0 body e (subst (λ (x : Message). IsWellFormed pool m x) (same_body j also v other) well)
+          (subst (λ (x : Message). HasForm pool m x) (same_body j also v other) form) unfit)
+
+      pub unfit_refused : (e : JsonReadError) → MayBeUnfit e → (f : JsonReadError) → IsRefusedBy pool rules names m b f → (e ≡ out_of_memory) ⊎ (e ≡ f)
+      unfit_refused e (inl same) f has = inl same
+      unfit_refused e (inr unfit) f (inl (n, c, has, k)) = absurd (refuses n c has)
+      unfit_refused e (inr unfit) f (inr (j, also, inl other)) = absurd (no_fault j also f other)
+      unfit_refused e (inr unfit) f (inr (j, also, inr (v, other, also_unfit))) =
+          inr (unfit_one pool m (value_view w).0 body e f unfit (same_unfit j also v other f also_unfit))
 
 -- as the functions say where a value is
 pub at_value : {C : Type 0} (pool : Types) (rules : JsonRules) (names : NamesGiven) (m : ℕ) (w : JsonValue) (o : Result Message JsonReadError) → C ⊎ ReadsMessage pool rules names m w.at (form_view w.form) o
@@ -136,12 +163,12 @@ module _ (pool : Types) (rules : JsonRules) (names : NamesGiven) (m : ℕ) (b : 
   here : ReadsMessage pool rules names m (value_view w).0 (value_view w).1 (Ok body)
   here = subst (λ (p : Placed). ReadsMessage pool rules names m p.0 p.1 (Ok body)) (sym (value_view-parts w)) reads
 
-  abbrev Deep : JsonReadError → Type 0
-  Deep e = (e ≡ out_of_memory) ⊎ ((¬ IsWellFormed pool m body) × (e ≡ fault w.at TooDeep))
+  abbrev Unfit : JsonReadError → Type 0
+  Unfit e = (e ≡ out_of_memory) ⊎ IsUnfit pool m w.at body e
 
-  deep : (e : JsonReadError) → Deep e → (e ≡ out_of_memory) ⊎ ((¬ IsWellFormed pool m body) × (e ≡ fault (value_view w).0 TooDeep))
-  deep e (inl same) = inl same
-  deep e (inr (ill, k)) = inr (ill, k ∙ ap (λ (p : Placed). fault p.0 TooDeep) (sym (value_view-parts w)))
+  unfit_here : (e : JsonReadError) → Unfit e → (e ≡ out_of_memory) ⊎ IsUnfit pool m (value_view w).0 body e
+  unfit_here e (inl same) = inl same
+  unfit_here e (inr unfit) = inr (subst (λ (p : Placed). IsUnfit pool m p.0 body e) (sym (value_view-parts w)) unfit)
 
   abbrev Made : Result Dynamic JsonReadError → Type 0
   Made r = IfOk r (λ d. d ≡ record { pool = pool; kind = m; body = body })
@@ -149,21 +176,24 @@ module _ (pool : Types) (rules : JsonRules) (names : NamesGiven) (m : ℕ) (b : 
   abbrev Well : Result Dynamic JsonReadError → Type 0
   Well r = IfOk r (λ d. IsWellFormed pool m body)
 
-  pub all_read : (r : Result Dynamic JsonReadError) → Made r → Well r → IfOk r (λ d. IsReadBy pool rules names m b d.body)
-  all_read (Ok d) made well =
-      subst (λ (x : Message). IsReadBy pool rules names m b x) (sym (ap (λ (x : Dynamic). x.body) made)) (done_read pool rules names m b w accepts refuses is body here well)
-  all_read (Err e) made well = tt
+  abbrev Formed : Result Dynamic JsonReadError → Type 0
+  Formed r = IfOk r (λ d. HasForm pool m body)
 
-  pub all_fault : (r : Result Dynamic JsonReadError) → IfErr r Deep → IfErr r (λ e. (e ≡ out_of_memory) ⊎ IsRefusedBy pool rules names m b e)
+  pub all_read : (r : Result Dynamic JsonReadError) → Made r → Well r → Formed r → IfOk r (λ d. IsReadBy pool rules names m b d.body)
+  all_read (Ok d) made well form =
+      subst (λ (x : Message). IsReadBy pool rules names m b x) (sym (ap (λ (x : Dynamic). x.body) made)) (done_read pool rules names m b w accepts refuses is body here well form)
+  all_read (Err e) made well form = tt
+
+  pub all_fault : (r : Result Dynamic JsonReadError) → IfErr r Unfit → IfErr r (λ e. (e ≡ out_of_memory) ⊎ IsRefusedBy pool rules names m b e)
   all_fault (Ok d) h = tt
-  all_fault (Err e) h = deep_fault pool rules names m b w accepts refuses is body here e (deep e h)
+  all_fault (Err e) h = unfit_fault pool rules names m b w accepts refuses is body here e (unfit_here e h)
 
-  pub all_accepted : (r : Result Dynamic JsonReadError) → Made r → IfErr r Deep → (v : Message) → IsReadBy pool rules names m b v
+  pub all_accepted : (r : Result Dynamic JsonReadError) → Made r → IfErr r Unfit → (v : Message) → IsReadBy pool rules names m b v
       → MatchResult r (λ d. d.body ≡ v) (λ e. e ≡ out_of_memory)
   all_accepted (Ok d) made h v read = ap (λ (x : Dynamic). x.body) made ∙ done_same pool rules names m b w accepts refuses is body here v read
-  all_accepted (Err e) made h v read = deep_accepted pool rules names m b w accepts refuses is body here e (deep e h) v read
+  all_accepted (Err e) made h v read = unfit_accepted pool rules names m b w accepts refuses is body here e (unfit_here e h) v read
 
-  pub all_refused : (r : Result Dynamic JsonReadError) → Well r → IfErr r Deep → (f : JsonReadError) → IsRefusedBy pool rules names m b f
+  pub all_refused : (r : Result Dynamic JsonReadError) → Well r → Formed r → IfErr r Unfit → (f : JsonReadError) → IsRefusedBy pool rules names m b f
       → IsErrAnd r (λ e. (e ≡ out_of_memory) ⊎ (e ≡ f))
-  all_refused (Ok d) well h f has = absurd (done_refused pool rules names m b w accepts refuses is body here well f has)
-  all_refused (Err e) well h f has = deep_refused pool rules names m b w accepts refuses is body here e (deep e h) f has
+  all_refused (Ok d) well form h f has = absurd (done_refused pool rules names m b w accepts refuses is body here well form f has)
+  all_refused (Err e) well form h f has = unfit_refused pool rules names m b w accepts refuses is body here e (unfit_here e h) f has

@@ -7,7 +7,7 @@ use Rattle.pb_schema.specs.declared.types.Shape.TheVariants as shape
 use Rattle.pb_schema.specs.Types.{FieldView, Types, field_numbered, message_fields}
 use Rattle.pb_schema.specs.Kinds.{message_of_kind}
 use Rattle.pb_schema.specs.Scalar.{Scalar}
-use Rattle.pb_value.specs.Data.{Datum, Datums, no_datums, Entries, no_entries, Holding, Message}
+use Rattle.pb_value.specs.Data.{Datum, Datums, no_datums, Entries, Holding, Message}
 use Rattle.pb_json.specs.declared.well_known.WellKnown.{WellKnown}
 use Rattle.pb_json.specs.declared.well_known.WellKnown.TheVariants as form
 use Rattle.pb_json.specs.Given.{NamesGiven}
@@ -15,7 +15,7 @@ use Rattle.pb_json.specs.WellKnown.{well_known}
 use Rattle.pb_json_text.specs.Json.{Json, null, boolean, number, string, array, object, Elements, no_elements, element, Members, no_members, member, Placed}
 use Rattle.pb_json_read.specs.declared.rules.JsonRules.{JsonRules}
 use Rattle.pb_json_read.specs.Names.{field_meant}
-use Rattle.pb_json_read.specs.Steps.{Read, After, Then, Made, NoValue, Parts, nothing, with_number, with_oneof, with_held, with_entry, with_datum, is_absent, Unless}
+use Rattle.pb_json_read.specs.Steps.{Read, After, Then, Made, NoValue, Parts, nothing, Entered, none_entered, Mapped, with_number, with_oneof, with_held, with_entry, with_datum, is_absent, Unless}
 use Rattle.pb_json_read.specs.Steps.{ReadsScalar, ReadsOf, ReadsSingle, ReadsShape, ReadsHeld, ReadsField, ReadsUnder, ReadsEntry}
 use Rattle.pb_json_read.specs.Reads.{ReadsMembers, ReadsBeside, ReadsEntries, ReadsElements, ReadsValue, ReadsContent, ReadsMessage}
 use Rattle.pb_json_read.specs.Anys.{any_fields, is_tag, Encodes, ReadsAny, ReadsAnyOf, ReadsEncoded, ReadsInAny, ReadsNamed, ReadsTagged}
@@ -79,11 +79,11 @@ module _ (pool : Types) (rules : JsonRules) (names : NamesGiven) where
       after_one (with_number f.number at p) (λ x r. ReadsHeld f at Content (is_absent pool f.shape f.kind j) x r)
       (λ x. held_one f at Content (is_absent pool f.shape f.kind j) x one) o q a b
 
-  under_one : (x : Scalar) (at : ℕ) (Value : Read (Option Datum) → Type 0) (es : Entries) → IsOne Value → IsOne (ReadsUnder x at Value es)
+  under_one : (x : Scalar) (at : ℕ) (Value : Read (Option Datum) → Type 0) (es : Entered) → IsOne Value → IsOne (ReadsUnder x at Value es)
   under_one x at Value es one =
       after_one _ (λ before r. Made Value (with_entry x before) r) (λ before. made_one Value (with_entry x before) one)
 
-  entry_one : (key : Kind) (name : List ℕ) (at : ℕ) (Value : Read (Option Datum) → Type 0) (es : Entries) → IsOne Value → IsOne (ReadsEntry key name at Value es)
+  entry_one : (key : Kind) (name : List ℕ) (at : ℕ) (Value : Read (Option Datum) → Type 0) (es : Entered) → IsOne Value → IsOne (ReadsEntry key name at Value es)
   entry_one key name at Value es one (Ok o) (Ok p) (x, a, b) (y, c, d) =
       under_one x at Value es one (Ok o) (Ok p) b (subst (λ (z : Scalar). ReadsUnder z at Value es (Ok p)) (key_of_one key name y x c a) d)
   entry_one key name at Value es one (Ok o) (Err e) (x, a, b) (inl (y, c, d)) =
@@ -97,6 +97,9 @@ module _ (pool : Types) (rules : JsonRules) (names : NamesGiven) where
   entry_one key name at Value es one (Err e) (Err f) (inl (x, a, b)) (inr c) = absurd (c.0 x a)
   entry_one key name at Value es one (Err e) (Err f) (inr c) (inl (y, a, b)) = absurd (c.0 y a)
   entry_one key name at Value es one (Err e) (Err f) (inr c) (inr d) = ap Err (c.1 ∙ sym d.1)
+
+  map_one : (Entering : Read Entered → Type 0) → IsOne Entering → IsOne (Mapped Entering)
+  map_one Entering one = made_one Entering (λ s. s.entries) one
 
   alone_one : (f : Option FieldView) (at : ℕ) (Content : Shape → Kind → Read (Option Holding) → Type 0)
       → ((s : Shape) (k : Kind) → IsOne (Content s k)) → IsOne (ReadsAlone f at Content)
@@ -208,7 +211,7 @@ module _ (pool : Types) (rules : JsonRules) (names : NamesGiven) where
     beside_one meant p (member at name value_at j ms) o q a b =
         then_one _ _ (unless_one (is_tag name) p _ (field_one (meant name) at j _ p (λ s k. content_one s k value_at j))) (λ x. beside_one meant x ms) o q a b
 
-    pub entries_one : (key k : Kind) (es : Entries) (ms : Members) → IsOne (ReadsEntries pool rules names key k es ms)
+    pub entries_one : (key k : Kind) (es : Entered) (ms : Members) → IsOne (ReadsEntries pool rules names key k es ms)
     entries_one key k es no_members o q a b = a ∙ sym b
     entries_one key k es (member at name value_at j ms) o q a b =
         then_one _ _ (entry_one key name at _ es (value_one k value_at j)) (λ x. entries_one key k x ms) o q a b
@@ -219,7 +222,7 @@ module _ (pool : Types) (rules : JsonRules) (names : NamesGiven) where
 
     pub value_one : (k : Kind) (at : ℕ) (j : Json) → IsOne (ReadsValue pool rules names k at j)
     value_one k at (object ms) o q a b =
-        single_one k at (object ms) _ (object_one at ms _ _ _ (λ meant. members_one meant nothing ms) (λ meant. beside_one meant nothing ms) (λ key e. entries_one key e no_entries ms)) o q a b
+        single_one k at (object ms) _ (object_one at ms _ _ _ (λ meant. members_one meant nothing ms) (λ meant. beside_one meant nothing ms) (λ key e. map_one (λ r. ReadsEntries pool rules names key e none_entered ms r) (entries_one key e none_entered ms))) o q a b
     value_one k at (array js) o q a b = single_one k at (array js) _ (array_one at js _ (λ e. elements_one e no_datums js)) o q a b
     value_one k at null o q a b = single_one k at null _ (leaf_one at null) o q a b
     value_one k at (boolean c) o q a b = single_one k at (boolean c) _ (leaf_one at (boolean c)) o q a b
@@ -228,8 +231,8 @@ module _ (pool : Types) (rules : JsonRules) (names : NamesGiven) where
 
     pub content_one : (s : Shape) (k : Kind) (at : ℕ) (j : Json) → IsOne (ReadsContent pool rules names s k at j)
     content_one s k at (object ms) o q a b =
-        shape_one s _ _ _ (single_one k at (object ms) _ (object_one at ms _ _ _ (λ meant. members_one meant nothing ms) (λ meant. beside_one meant nothing ms) (λ key e. entries_one key e no_entries ms)))
-        (none_one at) (λ key. entries_one key k no_entries ms) o q a b
+        shape_one s _ _ _ (single_one k at (object ms) _ (object_one at ms _ _ _ (λ meant. members_one meant nothing ms) (λ meant. beside_one meant nothing ms) (λ key e. map_one (λ r. ReadsEntries pool rules names key e none_entered ms r) (entries_one key e none_entered ms))))
+        (none_one at) (λ key. map_one (λ r. ReadsEntries pool rules names key k none_entered ms r) (entries_one key k none_entered ms)) o q a b
     content_one s k at (array js) o q a b =
         shape_one s _ _ _ (single_one k at (array js) _ (array_one at js _ (λ e. elements_one e no_datums js))) (elements_one k no_datums js) (λ key. none_one at)
         o q a b
@@ -240,7 +243,7 @@ module _ (pool : Types) (rules : JsonRules) (names : NamesGiven) where
 
   pub message_one : (m at : ℕ) (j : Json) → IsOne (ReadsMessage pool rules names m at j)
   message_one m at (object ms) =
-      object_one at ms _ _ _ (λ meant. members_one meant nothing ms) (λ meant. beside_one meant nothing ms) (λ key e. entries_one key e no_entries ms) m
+      object_one at ms _ _ _ (λ meant. members_one meant nothing ms) (λ meant. beside_one meant nothing ms) (λ key e. map_one (λ r. ReadsEntries pool rules names key e none_entered ms r) (entries_one key e none_entered ms)) m
   message_one m at (array js) = array_one at js _ (λ e. elements_one e no_datums js) m
   message_one m at null = leaf_one at null m
   message_one m at (boolean b) = leaf_one at (boolean b) m

@@ -1,10 +1,11 @@
 -- A `google.protobuf.Any` from the members of a JSON object (ProtoJSON format, "Any"; any.proto). The member `@type`, wherever it is, is the URL of a
 -- type. The other members are those of a message of the type, or its form as the member `value` where the type has a form of its own.
-use Rattle.std.specs.Prelude.{◌≡◌, ◌⊎◌, ℕ, ◌<◌, ◌≤◌, ◌^◌, List, [], ◌∷◌, length, Bool, true, false, ◌&&◌, Option, Some, None, Ok, Err}
+use Rattle.std.specs.Prelude.{◌≡◌, ◌⊎◌, ℕ, ◌<◌, ◌≤◌, ◌^◌, ◌==◌, List, [], ◌∷◌, length, Bool, true, false, not, ◌&&◌, Option, Some, None, Ok, Err}
 use Rattle.std.specs.Prelude.{option_map, option_and_then, codes, if◌then◌else◌}
 use Rattle.std.specs.Str.{bytes_eq}
 use Rattle.pb_schema.specs.declared.types.Kind.TheVariants as kind
 use Rattle.pb_schema.specs.declared.types.Shape.TheVariants as shape
+use Rattle.pb_schema.specs.Names.{message_names, name_at}
 use Rattle.pb_schema.specs.Types.{FieldView, Types, field_numbered, message_fields}
 use Rattle.pb_schema.specs.Scalar.{text, bytes}
 use Rattle.pb_value.specs.Canon.{canon_bytes}
@@ -63,9 +64,17 @@ abbrev pub only_field : Bool → ℕ → Option FieldView
 only_field true t = None
 only_field false t = Some (value_field t)
 
--- that field, where the type has a form of its own
+-- `google.protobuf.Empty`, as Google's file declares it: it has no fields
+abbrev pub is_empty_type : Types → ℕ → Bool
+is_empty_type pool t = bytes_eq (name_at (message_names pool) t) (codes "google.protobuf.Empty") && length (message_fields pool t) == 0
+
+-- the members of the message are beside `@type`
+abbrev pub has_members : Types → ℕ → Bool
+has_members pool t = is_plain (well_known pool t) && not (is_empty_type pool t)
+
+-- that field, where the type has a form of its own; an Empty has the form of an object, as the member `value` too
 abbrev pub field_of : Types → ℕ → Option FieldView
-field_of pool t = only_field (is_plain (well_known pool t)) t
+field_of pool t = only_field (has_members pool t) t
 
 -- the field that a name means beside `@type`: the one, or that which it means in the type
 abbrev pub beside : Option FieldView → (List ℕ → Option FieldView) → List ℕ → Option FieldView
@@ -76,15 +85,20 @@ abbrev pub message_of : Datum → Option Message
 message_of (message b) = Some b
 message_of (scalar x) = None
 
-abbrev pub message_held : Holding → Option Message
-message_held (one d) = message_of d
-message_held (list ds) = None
-message_held (map es) = None
+abbrev pub message_in : Holding → Option Message
+message_in (one d) = message_of d
+message_in (list ds) = None
+message_in (map es) = None
+
+-- what the one field holds; it may be left out of an Empty
+abbrev pub message_held : Bool → Option Holding → Option Message
+message_held is_empty (Some h) = message_in h
+message_held is_empty None = if is_empty then Some empty else None
 
 -- the message: what the one field holds, or what the members give
-abbrev pub message_beside : Option FieldView → Message → Option Message
-message_beside None b = Some b
-message_beside (Some f) b = option_and_then message_held (get_field f.number (fields_of b))
+abbrev pub message_beside : Bool → Option FieldView → Message → Option Message
+message_beside is_empty None b = Some b
+message_beside is_empty (Some f) b = message_held is_empty (get_field f.number (fields_of b))
 
 -- THE ANY
 
@@ -109,7 +123,9 @@ any_message fs url bs =
 module _ (pool : Types) (names : NamesGiven) (at : ℕ) (Beside : (List ℕ → Option FieldView) → Read Parts → Type 0) where
   -- the message of a type
   abbrev pub ReadsInAny : ℕ → Read Message → Type 0
-  ReadsInAny t o = Then (Beside (beside (field_of pool t) (field_meant names pool t))) (λ p r. r ≡ given at (message_beside (field_of pool t) p.message)) o
+  ReadsInAny t o =
+      Then (Beside (beside (field_of pool t) (field_meant names pool t)))
+      (λ p r. r ≡ given at (message_beside (is_empty_type pool t) (field_of pool t) p.message)) o
 
   -- its bytes
   abbrev pub ReadsEncoded : ℕ → Read (List ℕ) → Type 0

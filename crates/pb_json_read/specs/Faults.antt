@@ -1,5 +1,9 @@
 -- Faults by their parts, and the names of causes.
 use Rattle.std.specs.Prelude.{ℕ, List, ◌++◌, codes, decimal}
+use Rattle.pb_json.specs.declared.error.JsonCause as form_cause
+use Rattle.pb_json.specs.declared.error.JsonCause.TheVariants as without_form
+use Rattle.pb_json.specs.declared.error.JsonError.{JsonError}
+use Rattle.pb_json.specs.declared.error.JsonError.TheVariants as unwritten
 use Rattle.pb_json_text.specs.declared.fault.JsonCause.{JsonCause}
 use Rattle.pb_json_text.specs.declared.fault.JsonCause.TheVariants as text_cause
 use Rattle.pb_json_text.specs.declared.fault.JsonFault.{JsonFault}
@@ -23,6 +27,20 @@ cause_of text_cause.OutOfMemory = OutOfMemory
 
 abbrev pub fault_of : JsonFault → JsonReadError
 fault_of f = fault f.byte (cause_of f.cause)
+
+-- a message without a JSON form: its messages in Any are too deep inside each other, or it has a value that its form hasn't
+abbrev pub cause_of_form : form_cause.JsonCause → JsonReadCause
+cause_of_form without_form.Unsupported = TooDeep
+cause_of_form without_form.NoKind = BadValue
+cause_of_form without_form.NotFinite = BadValue
+cause_of_form without_form.OutOfRange = BadValue
+cause_of_form without_form.BadPath = BadValue
+
+-- the fault of a message that begins at this byte, by why it is not written
+abbrev pub fault_of_form : ℕ → JsonError → JsonReadError
+fault_of_form at (unwritten.Refused x) = fault at (cause_of_form x.cause)
+fault_of_form at unwritten.Memory = out_of_memory
+fault_of_form at unwritten.Output = out_of_memory
 
 abbrev pub name_of : JsonReadCause → List ℕ
 name_of UnexpectedByte = codes "UnexpectedByte"

@@ -4,7 +4,7 @@ use Rattle.pb_schema.specs.declared.types.Kind.{Kind}
 use Rattle.pb_schema.specs.declared.types.Shape.{Shape}
 use Rattle.pb_schema.specs.Types.{FieldView, Types}
 use Rattle.pb_schema.specs.Scalar.{Scalar}
-use Rattle.pb_value.specs.Data.{Datum, Datums, no_datums, Entries, no_entries, Holding, Message}
+use Rattle.pb_value.specs.Data.{Datum, Datums, no_datums, Entries, Holding, Message}
 use Rattle.pb_json.specs.Given.{NamesGiven}
 use Rattle.pb_json.specs.WellKnown.{well_known}
 use Rattle.pb_json_text.specs.Json.{Json, null, boolean, number, string, array, object, Elements, no_elements, element, Members, no_members, member}
@@ -12,7 +12,7 @@ use Rattle.pb_json_text.specs.View.{Named}
 use Rattle.pb_json_read.specs.declared.rules.JsonRules.{JsonRules}
 use Rattle.pb_json_read.specs.Names.{field_meant}
 use Rattle.pb_json_read.specs.Anys.{is_tag, ReadsAny, ReadsEncoded, ReadsInAny}
-use Rattle.pb_json_read.specs.Steps.{Read, Then, Made, NoValue, Parts, nothing, with_datum, Unless}
+use Rattle.pb_json_read.specs.Steps.{Read, Then, Made, NoValue, Parts, nothing, with_datum, Unless, Entered, none_entered, Mapped}
 use Rattle.pb_json_read.specs.Steps.{ReadsSingle, ReadsShape, ReadsHeld, ReadsField, ReadsUnder, ReadsEntry}
 use Rattle.pb_json_read.specs.Forms.{ReadsForm, ReadsFlat, ReadsSole, ReadsNested, ReadsDeep, ReadsDynamic}
 
@@ -48,11 +48,11 @@ module _ (pool : Types) (rules : JsonRules) (names : NamesGiven) where
         Then (Unless (is_tag name) p (λ r. ReadsField pool rules (meant name) at j (λ s k q. ReadsContent s k value_at j q) p r))
         (λ q r. ReadsBeside meant q ms r) o
 
-    -- the entries of a map
-    pub ReadsEntries : Kind → Kind → Entries → Members → Read Entries → Type 0
-    ReadsEntries key k es no_members o = o ≡ Ok es
-    ReadsEntries key k es (member at name value_at j ms) o =
-        Then (ReadsEntry key name at (λ r. ReadsValue k value_at j r) es) (λ fs r. ReadsEntries key k fs ms r) o
+    -- the entries of a map, after those before
+    pub ReadsEntries : Kind → Kind → Entered → Members → Read Entered → Type 0
+    ReadsEntries key k s no_members o = o ≡ Ok s
+    ReadsEntries key k s (member at name value_at j ms) o =
+        Then (ReadsEntry key name at (λ r. ReadsValue k value_at j r) s) (λ t r. ReadsEntries key k t ms r) o
 
     -- the elements of a list
     pub ReadsElements : Kind → Datums → Elements → Read Datums → Type 0
@@ -64,7 +64,7 @@ module _ (pool : Types) (rules : JsonRules) (names : NamesGiven) where
     ReadsValue k at (object ms) o =
         ReadsSingle pool rules k at (object ms)
         (OfObject pool rules names at ms (λ meant r. ReadsMembers meant nothing ms r) (λ meant r. ReadsBeside meant nothing ms r)
-        (λ key e r. ReadsEntries key e no_entries ms r)) o
+        (λ key e r. Mapped (λ q. ReadsEntries key e none_entered ms q) r)) o
     ReadsValue k at (array js) o = ReadsSingle pool rules k at (array js) (OfArray pool rules at js (λ e r. ReadsElements e no_datums js r)) o
     ReadsValue k at null o = ReadsSingle pool rules k at null (OfLeaf pool rules at null) o
     ReadsValue k at (boolean b) o = ReadsSingle pool rules k at (boolean b) (OfLeaf pool rules at (boolean b)) o
@@ -76,8 +76,8 @@ module _ (pool : Types) (rules : JsonRules) (names : NamesGiven) where
     ReadsContent s k at (object ms) o =
         ReadsShape s (ReadsSingle pool rules k at (object ms)
         (OfObject pool rules names at ms (λ meant r. ReadsMembers meant nothing ms r) (λ meant r. ReadsBeside meant nothing ms r)
-        (λ key e r. ReadsEntries key e no_entries ms r)))
-        (NoValue at) (λ key r. ReadsEntries key k no_entries ms r) o
+        (λ key e r. Mapped (λ q. ReadsEntries key e none_entered ms q) r)))
+        (NoValue at) (λ key r. Mapped (λ q. ReadsEntries key k none_entered ms q) r) o
     ReadsContent s k at (array js) o =
         ReadsShape s (ReadsSingle pool rules k at (array js) (OfArray pool rules at js (λ e r. ReadsElements e no_datums js r)))
         (λ r. ReadsElements k no_datums js r) (λ key r. NoValue at r) o
@@ -89,6 +89,10 @@ module _ (pool : Types) (rules : JsonRules) (names : NamesGiven) where
     ReadsContent s k at (string t) o =
         ReadsShape s (ReadsSingle pool rules k at (string t) (OfLeaf pool rules at (string t))) (NoValue at) (λ key r. NoValue at r) o
 
+  -- the members of an object as a map
+  abbrev pub ReadsMapped : Kind → Kind → Members → Read Entries → Type 0
+  ReadsMapped key k ms o = Mapped (λ r. ReadsEntries key k none_entered ms r) o
+
   -- a list, a map
   abbrev pub ReadsList : Kind → ℕ → Json → Read Datums → Type 0
   ReadsList k at (array js) o = ReadsElements k no_datums js o
@@ -99,7 +103,7 @@ module _ (pool : Types) (rules : JsonRules) (names : NamesGiven) where
   ReadsList k at (string s) o = NoValue at o
 
   abbrev pub ReadsMap : Kind → Kind → ℕ → Json → Read Entries → Type 0
-  ReadsMap key k at (object ms) o = ReadsEntries key k no_entries ms o
+  ReadsMap key k at (object ms) o = ReadsMapped key k ms o
   ReadsMap key k at (array js) o = NoValue at o
   ReadsMap key k at null o = NoValue at o
   ReadsMap key k at (boolean b) o = NoValue at o
@@ -167,8 +171,8 @@ module _ (pool : Types) (rules : JsonRules) (names : NamesGiven) where
   abbrev pub ReadsMemberHeld : FieldView → Named → Parts → Read Parts → Type 0
   ReadsMemberHeld f m p o = ReadsHeld f m.0 (λ s k r. ReadsContent s k m.2.0 m.2.1 r) false p o
 
-  abbrev pub ReadsMemberEntry : Kind → Kind → Named → Entries → Read Entries → Type 0
-  ReadsMemberEntry key k m es o = ReadsEntry key m.1 m.0 (λ r. ReadsValue k m.2.0 m.2.1 r) es o
+  abbrev pub ReadsMemberEntry : Kind → Kind → Named → Entered → Read Entered → Type 0
+  ReadsMemberEntry key k m s o = ReadsEntry key m.1 m.0 (λ r. ReadsValue k m.2.0 m.2.1 r) s o
 
-  abbrev pub ReadsMemberUnder : Scalar → Kind → Named → Entries → Read Entries → Type 0
-  ReadsMemberUnder x k m es o = ReadsUnder x m.0 (λ r. ReadsValue k m.2.0 m.2.1 r) es o
+  abbrev pub ReadsMemberUnder : Scalar → Kind → Named → Entered → Read Entered → Type 0
+  ReadsMemberUnder x k m s o = ReadsUnder x m.0 (λ r. ReadsValue k m.2.0 m.2.1 r) s o

@@ -1,5 +1,5 @@
 -- What is read step by step: single values, what fields hold, members, elements and entries, each by how its parts are read.
-use Rattle.std.specs.Prelude.{◌≡◌, ℕ, List, [], Bool, true, false, ◌&&◌, not, if◌then◌else◌, Option, Some, None, is_some, option_map, Result, Ok, Err, ◌⊎◌}
+use Rattle.std.specs.Prelude.{◌≡◌, ℕ, List, [], Bool, true, false, ◌&&◌, ◌||◌, not, if◌then◌else◌, Option, Some, None, is_some, option_map, Result, Ok, Err, ◌⊎◌}
 use Rattle.std.specs.BTreeSet.{contains, insert_key}
 use Rattle.std.specs.Option.{option_map_or}
 use Rattle.std.specs.Ordering.{nat_cmp}
@@ -8,8 +8,8 @@ use Rattle.pb_schema.specs.declared.types.Shape.{Shape}
 use Rattle.pb_schema.specs.declared.types.Shape.TheVariants as shape
 use Rattle.pb_schema.specs.Types.{FieldView, Types}
 use Rattle.pb_schema.specs.Kinds.{enum_of_kind, message_of_kind}
-use Rattle.pb_schema.specs.Scalar.{Scalar}
-use Rattle.pb_value.specs.Data.{Datum, message, Datums, no_datums, datum, joined_datums, Entries, get_entry, put_entry}
+use Rattle.pb_schema.specs.Scalar.{Scalar, boolean as a_boolean}
+use Rattle.pb_value.specs.Data.{Datum, message, scalar, Datums, no_datums, datum, joined_datums, Entries, no_entries, get_entry, put_entry}
 use Rattle.pb_value.specs.Data.{Holding, one, list, map, Message, empty, fields_of, put_field}
 use Rattle.pb_value.specs.Change.{with_fields}
 use Rattle.pb_value.specs.Judge.{is_absence}
@@ -175,17 +175,33 @@ abbrev pub with_datum : Datums → Option Datum → Datums
 with_datum ds None = ds
 with_datum ds (Some d) = joined_datums ds (datum d no_datums)
 
-abbrev pub with_entry : Scalar → Entries → Option Datum → Entries
-with_entry x es None = es
-with_entry x es (Some d) = put_entry x d es
+-- what the members of an object so far give as a map: its entries, and the keys of those whose values are passed over, each with false
+pub record Entered : Type 0 where
+  pub entries : Entries
+  pub passed : Entries
+
+abbrev pub none_entered : Entered
+none_entered = record { entries = no_entries; passed = no_entries }
+
+-- no two members name one key, whether their values are passed over or not
+abbrev pub is_taken : Scalar → Entered → Bool
+is_taken x s = is_some (get_entry x s.entries) || is_some (get_entry x s.passed)
+
+abbrev pub with_entry : Scalar → Entered → Option Datum → Entered
+with_entry x s None = record s { passed = put_entry x (scalar (a_boolean false)) s.passed }
+with_entry x s (Some d) = record s { entries = put_entry x d s.entries }
+
+-- a map, where its entries are read so
+abbrev pub Mapped : (Read Entered → Type 0) → Read Entries → Type 0
+Mapped Entering o = Made Entering (λ s. s.entries) o
 
 -- an entry under a key, where its value is read so
-abbrev pub ReadsUnder : Scalar → ℕ → (Read (Option Datum) → Type 0) → Entries → Read Entries → Type 0
-ReadsUnder x at Value es o =
-    After (if is_some (get_entry x es) then Err (fault at RepeatedName) else Ok es) (λ before r. Made Value (with_entry x before) r) o
+abbrev pub ReadsUnder : Scalar → ℕ → (Read (Option Datum) → Type 0) → Entered → Read Entered → Type 0
+ReadsUnder x at Value s o =
+    After (if is_taken x s then Err (fault at RepeatedName) else Ok s) (λ before r. Made Value (with_entry x before) r) o
 
 -- an entry: its name, at this byte, is a key
-abbrev pub ReadsEntry : Kind → List ℕ → ℕ → (Read (Option Datum) → Type 0) → Entries → Read Entries → Type 0
-ReadsEntry key name at Value es (Ok r) = (x : Scalar) × IsKey key name x × ReadsUnder x at Value es (Ok r)
-ReadsEntry key name at Value es (Err e) =
-    ((x : Scalar) × IsKey key name x × ReadsUnder x at Value es (Err e)) ⊎ (((x : Scalar) → ¬ IsKey key name x) × (e ≡ fault at BadKey))
+abbrev pub ReadsEntry : Kind → List ℕ → ℕ → (Read (Option Datum) → Type 0) → Entered → Read Entered → Type 0
+ReadsEntry key name at Value s (Ok r) = (x : Scalar) × IsKey key name x × ReadsUnder x at Value s (Ok r)
+ReadsEntry key name at Value s (Err e) =
+    ((x : Scalar) × IsKey key name x × ReadsUnder x at Value s (Err e)) ⊎ (((x : Scalar) → ¬ IsKey key name x) × (e ≡ fault at BadKey))

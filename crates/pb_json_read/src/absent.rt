@@ -29,7 +29,8 @@ fn has_null(pool: &Pool, kind: Kind) -> bool
 /// Whether the messages of a kind are those of `google.protobuf.Value`.
 fn holds_dynamic(pool: &Pool, kind: Kind) -> bool
     requires { NamesType (length pool.now.messages) (length pool.now.enums) kind }
-    ensures { result ≡ option_map_or (λ m. is_dynamic (form_of pool.now m)) (message_of_kind kind) false }
+    ensures { result ≡ option_map_or (λ m. is_dynamic (form_of pool.now m))
+        (message_of_kind kind) false }
 {
     match kind.message() {
         Some(id) => is_dynamic(well_known(pool, id)),

@@ -13,11 +13,12 @@ ghost use Rattle.pb_json_read.specs.Steps.{Made, nothing};
 
 use crate::construction::Parts;
 use crate::context::Context;
-use crate::encoded::{any_body, any_fields, encoded, held_message, value_field};
+use crate::encoded::{
+    any_body, any_fields, encoded, has_members, held_message, is_empty_type, value_field,
+};
 use crate::error::JsonReadError;
 use crate::passing::unknown_name;
 use crate::tags::{find_tag, is_tag, read_untagged, url_meant};
-use pb_json::well_known::{is_plain, well_known};
 use pb_json_text::{JsonForm, JsonMember, JsonValue};
 use pb_schema::{Field, MessageId};
 use pb_value::Body;
@@ -27,7 +28,8 @@ impl Context<'_> {
     #[cycle(read)]
     pub(crate) fn read_any(&self, id: MessageId, value: &JsonValue) -> Result<Body, JsonReadError>
         requires { id.0 < length self.now.pool.now.messages }
-        ensures { Answers body_view (ReadsAnyObject self.now.pool.now self.now.rules self.now.names.now id.0 value.now.at (form_view value.now.form)) result }
+        ensures { Answers body_view (ReadsAnyObject self.now.pool.now self.now.rules
+            self.now.names.now id.0 value.now.at (form_view value.now.form)) result }
     {
         match &value.form {
             JsonForm::Object(members) => self.read_any_members(id, value.at, members),
@@ -44,7 +46,8 @@ impl Context<'_> {
         members: &Vec<JsonMember>,
     ) -> Result<Body, JsonReadError>
         requires { id.0 < length self.now.pool.now.messages }
-        ensures { Answers body_view (AnyOf self.now.pool.now self.now.rules self.now.names.now at (members_view members.now.items) id.0) result }
+        ensures { Answers body_view (AnyOf self.now.pool.now self.now.rules self.now.names.now at
+            (members_view members.now.items) id.0) result }
     {
         let Some(fields) = any_fields(self.pool, id) else {
             return Err(JsonReadError::bad_value(at));
@@ -70,7 +73,9 @@ impl Context<'_> {
         inner: MessageId,
     ) -> Result<Body, JsonReadError>
         requires { inner.0 < length self.now.pool.now.messages }
-        ensures { Answers body_view (Made (BytesOf self.now.pool.now self.now.rules self.now.names.now at (members_view members.now.items) inner.0)
+        ensures { Answers body_view
+            (Made (BytesOf self.now.pool.now self.now.rules self.now.names.now at
+            (members_view members.now.items) inner.0)
             (any_message (field_view url_field.now, field_view bytes_field.now) url.now)) result }
     {
         let bytes = self.read_encoded(at, members, inner)?;
@@ -86,7 +91,8 @@ impl Context<'_> {
         inner: MessageId,
     ) -> Result<Vec<u8>, JsonReadError>
         requires { inner.0 < length self.now.pool.now.messages }
-        ensures { Answers (λ v. v.items) (BytesOf self.now.pool.now self.now.rules self.now.names.now at (members_view members.now.items) inner.0) result }
+        ensures { Answers (λ v. v.items) (BytesOf self.now.pool.now self.now.rules
+            self.now.names.now at (members_view members.now.items) inner.0) result }
     {
         let body = self.read_in_any(at, members, inner)?;
         encoded(self.alloc, self.pool, inner, body, at)
@@ -101,14 +107,15 @@ impl Context<'_> {
         inner: MessageId,
     ) -> Result<Body, JsonReadError>
         requires { inner.0 < length self.now.pool.now.messages }
-        ensures { Answers body_view (InAnyOf self.now.pool.now self.now.rules self.now.names.now at (members_view members.now.items) inner.0) result }
+        ensures { Answers body_view (InAnyOf self.now.pool.now self.now.rules self.now.names.now at
+            (members_view members.now.items) inner.0) result }
     {
-        if is_plain(well_known(self.pool, inner)) {
+        if has_members(self.pool, inner) {
             self.read_beside(inner, None, members)
         } else {
             let field = value_field(self.alloc, inner)?;
             let body = self.read_beside(inner, Some(&field), members)?;
-            held_message(body, at)
+            held_message(self.alloc, body, is_empty_type(self.pool, inner), at)
         }
     }
 
@@ -121,9 +128,12 @@ impl Context<'_> {
         members: &Vec<JsonMember>,
     ) -> Result<Body, JsonReadError>
         requires within { inner.0 < length self.now.pool.now.messages }
-        requires kind { IfSome only (λ f. NamesType (length self.now.pool.now.messages) (length self.now.pool.now.enums) f.now.kind) }
-        ensures { Answers body_view (Made (ReadsBeside self.now.pool.now self.now.rules self.now.names.now
-            (beside (option_map (λ f. field_view f.now) only.entry) (meant self.now.names.now self.now.pool.now inner.0)) nothing
+        requires kind { IfSome only (λ f. NamesType (length self.now.pool.now.messages)
+            (length self.now.pool.now.enums) f.now.kind) }
+        ensures { Answers body_view
+            (Made (ReadsBeside self.now.pool.now self.now.rules self.now.names.now
+            (beside (option_map (λ f. field_view f.now) only.entry)
+            (meant self.now.names.now self.now.pool.now inner.0)) nothing
             (members_view members.now.items))
             (λ p. p.message)) result }
     {
@@ -144,9 +154,12 @@ impl Context<'_> {
         member: &JsonMember,
     ) -> Result<(), JsonReadError>
         requires within { inner.0 < length self.now.pool.now.messages }
-        requires kind { IfSome only (λ f. NamesType (length self.now.pool.now.messages) (length self.now.pool.now.enums) f.now.kind) }
-        ensures { Changes (parts_view parts.new) (ReadsMemberBeside self.now.pool.now self.now.rules self.now.names.now
-            (beside (option_map (λ f. field_view f.now) only.entry) (meant self.now.names.now self.now.pool.now inner.0))
+        requires kind { IfSome only (λ f. NamesType (length self.now.pool.now.messages)
+            (length self.now.pool.now.enums) f.now.kind) }
+        ensures { Changes (parts_view parts.new)
+            (ReadsMemberBeside self.now.pool.now self.now.rules self.now.names.now
+            (beside (option_map (λ f. field_view f.now) only.entry)
+            (meant self.now.names.now self.now.pool.now inner.0))
             (named member.now) (parts_view parts.old)) result }
     {
         if is_tag(member.name.as_str()) {
@@ -166,9 +179,12 @@ impl Context<'_> {
         parts: &mut Parts,
         member: &JsonMember,
     ) -> Result<(), JsonReadError>
-        requires { NamesType (length self.now.pool.now.messages) (length self.now.pool.now.enums) field.now.kind }
-        ensures { Changes (parts_view parts.new) (ReadsMember self.now.pool.now self.now.rules self.now.names.now
-            (beside (Some (field_view field.now)) (λ _. None) (named member.now).1) (named member.now) (parts_view parts.old)) result }
+        requires { NamesType (length self.now.pool.now.messages) (length self.now.pool.now.enums)
+            field.now.kind }
+        ensures { Changes (parts_view parts.new)
+            (ReadsMember self.now.pool.now self.now.rules self.now.names.now
+            (beside (Some (field_view field.now)) (λ _. None) (named member.now).1)
+            (named member.now) (parts_view parts.old)) result }
     {
         if field.name.as_str() == member.name.as_str() {
             self.read_field(field, parts, member)

@@ -2,12 +2,11 @@
 
 ghost use Rattle.std.specs.Prelude.{◌≡◌, option_map, Some, IfErr, IfOk, OnOk};
 ghost use Rattle.pb_schema.specs.declared.types.Shape.TheVariants.{OneofMember};
-ghost use Rattle.pb_value.specs.Data.{no_entries};
 ghost use Rattle.pb_value.specs.Judge.{is_absence, is_default_datum};
-ghost use Rattle.pb_value.specs.View.{body_view, content_view, entries_view, value_view};
-ghost use Rattle.pb_json_read.specs.Answers.{Changes, parts_view};
+ghost use Rattle.pb_value.specs.View.{body_view, content_view, value_view};
+ghost use Rattle.pb_json_read.specs.Answers.{Changes, entered_view, parts_view};
 ghost use Rattle.pb_json_read.specs.Faults.{out_of_memory};
-ghost use Rattle.pb_json_read.specs.Steps.{nothing, with_held, with_number, with_oneof};
+ghost use Rattle.pb_json_read.specs.Steps.{none_entered, nothing, with_held, with_number, with_oneof};
 
 use crate::error::{JsonReadCause, JsonReadError};
 use pb_schema::Shape;
@@ -37,7 +36,8 @@ impl Parts {
 
     /// Notes that a member whose name is at this byte names the field of a number.
     pub(crate) fn note_number(&mut self, number: u32, at: usize) -> Result<(), JsonReadError>
-        ensures { Changes (parts_view self.new) (λ r. r ≡ with_number number at (parts_view self.old)) result }
+        ensures { Changes (parts_view self.new) (λ r. r ≡ with_number number at
+            (parts_view self.old)) result }
     {
         let is_first = self.numbers.insert(number)?;
         if !is_first {
@@ -51,7 +51,8 @@ impl Parts {
 
     /// Notes that a member sets a oneof.
     fn note_oneof(&mut self, oneof: u32, at: usize) -> Result<(), JsonReadError>
-        ensures { Changes (parts_view self.new) (λ r. r ≡ with_oneof (OneofMember oneof) at (parts_view self.old)) result }
+        ensures { Changes (parts_view self.new) (λ r. r ≡ with_oneof (OneofMember oneof) at
+            (parts_view self.old)) result }
     {
         let is_first = self.oneofs.insert(oneof)?;
         if !is_first {
@@ -65,7 +66,8 @@ impl Parts {
 
     /// Notes that a member sets a field of a shape, and with it the oneof that the shape names.
     pub(crate) fn note_shape(&mut self, shape: Shape, at: usize) -> Result<(), JsonReadError>
-        ensures { Changes (parts_view self.new) (λ r. r ≡ with_oneof shape at (parts_view self.old)) result }
+        ensures { Changes (parts_view self.new) (λ r. r ≡ with_oneof shape at
+            (parts_view self.old)) result }
     {
         match shape {
             Shape::OneofMember(oneof) => self.note_oneof(oneof, at),
@@ -81,7 +83,8 @@ impl Parts {
         number: u32,
         content: Content,
     ) -> Result<(), JsonReadError>
-        ensures put { OnOk result (parts_view self.new ≡ with_held shape number (Some (content_view content)) (parts_view self.old)) }
+        ensures put { OnOk result (parts_view self.new
+            ≡ with_held shape number (Some (content_view content)) (parts_view self.old)) }
         ensures memory { IfErr result (λ e. e ≡ out_of_memory) }
     {
         if is_absence(shape, &content) {
@@ -99,7 +102,8 @@ pub(crate) fn alone(
     number: u32,
     content: Option<Content>,
 ) -> Result<Body, JsonReadError>
-    ensures made { IfOk result (λ b. body_view b ≡ (with_held shape number (option_map content_view content) nothing).message) }
+    ensures made { IfOk result (λ b. body_view b
+        ≡ (with_held shape number (option_map content_view content) nothing).message) }
     ensures memory { IfErr result (λ e. e ≡ out_of_memory) }
 {
     let mut parts = Parts::new(alloc);
@@ -113,14 +117,18 @@ pub(crate) fn alone(
 #[derive(Drop)]
 pub(crate) struct Entries {
     pub map: BTreeMap<MapKey, Value>,
+
+    /// The keys of the values that are passed over, each with false.
+    pub passed: BTreeMap<MapKey, Value>,
 }
 
 impl Entries {
     pub(crate) fn new(alloc: Global) -> Entries
-        ensures { entries_view result.map.entries ≡ no_entries }
+        ensures { entered_view result ≡ none_entered }
     {
         Entries {
             map: BTreeMap::new(alloc),
+            passed: BTreeMap::new(alloc),
         }
     }
 }

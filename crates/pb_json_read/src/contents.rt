@@ -25,9 +25,11 @@ impl Context<'_> {
         kind: Kind,
         value: &JsonValue,
     ) -> Result<Option<Content>, JsonReadError>
-        requires { NamesType (length self.now.pool.now.messages) (length self.now.pool.now.enums) kind }
+        requires { NamesType (length self.now.pool.now.messages)
+            (length self.now.pool.now.enums) kind }
         ensures { Answers (option_map content_view)
-            (ReadsContent self.now.pool.now self.now.rules self.now.names.now shape kind value.now.at (form_view value.now.form)) result }
+            (ReadsContent self.now.pool.now self.now.rules self.now.names.now shape kind
+            value.now.at (form_view value.now.form)) result }
     {
         match shape {
             Shape::Implicit => self.read_one(kind, value),
@@ -41,8 +43,10 @@ impl Context<'_> {
     /// What a field of one value holds.
     #[cycle(read)]
     fn read_one(&self, kind: Kind, value: &JsonValue) -> Result<Option<Content>, JsonReadError>
-        requires { NamesType (length self.now.pool.now.messages) (length self.now.pool.now.enums) kind }
-        ensures { Answers (option_map content_view) (Made (ReadsValue self.now.pool.now self.now.rules self.now.names.now
+        requires { NamesType (length self.now.pool.now.messages)
+            (length self.now.pool.now.enums) kind }
+        ensures { Answers (option_map content_view)
+            (Made (ReadsValue self.now.pool.now self.now.rules self.now.names.now
             kind value.now.at (form_view value.now.form))
             (option_map one)) result }
     {
@@ -59,8 +63,10 @@ impl Context<'_> {
         kind: Kind,
         value: &JsonValue,
     ) -> Result<Option<Content>, JsonReadError>
-        requires { NamesType (length self.now.pool.now.messages) (length self.now.pool.now.enums) kind }
-        ensures { Answers (option_map content_view) (Made (ReadsList self.now.pool.now self.now.rules self.now.names.now
+        requires { NamesType (length self.now.pool.now.messages)
+            (length self.now.pool.now.enums) kind }
+        ensures { Answers (option_map content_view)
+            (Made (ReadsList self.now.pool.now self.now.rules self.now.names.now
             kind value.now.at (form_view value.now.form))
             (λ ds. Some (list ds))) result }
     {
@@ -76,8 +82,10 @@ impl Context<'_> {
         kind: Kind,
         value: &JsonValue,
     ) -> Result<Option<Content>, JsonReadError>
-        requires { NamesType (length self.now.pool.now.messages) (length self.now.pool.now.enums) kind }
-        ensures { Answers (option_map content_view) (Made (ReadsMap self.now.pool.now self.now.rules self.now.names.now
+        requires { NamesType (length self.now.pool.now.messages)
+            (length self.now.pool.now.enums) kind }
+        ensures { Answers (option_map content_view)
+            (Made (ReadsMap self.now.pool.now self.now.rules self.now.names.now
             key kind value.now.at (form_view value.now.form))
             (λ es. Some (map es))) result }
     {
@@ -92,9 +100,11 @@ impl Context<'_> {
         kind: Kind,
         value: &JsonValue,
     ) -> Result<Option<Value>, JsonReadError>
-        requires { NamesType (length self.now.pool.now.messages) (length self.now.pool.now.enums) kind }
+        requires { NamesType (length self.now.pool.now.messages)
+            (length self.now.pool.now.enums) kind }
         ensures { Answers (option_map value_view)
-            (ReadsValue self.now.pool.now self.now.rules self.now.names.now kind value.now.at (form_view value.now.form)) result }
+            (ReadsValue self.now.pool.now self.now.rules self.now.names.now kind value.now.at
+            (form_view value.now.form)) result }
     {
         match kind.message() {
             Some(id) => self.read_inside(id, value),
@@ -106,7 +116,8 @@ impl Context<'_> {
     #[cycle(read)]
     fn read_inside(&self, id: MessageId, value: &JsonValue) -> Result<Option<Value>, JsonReadError>
         requires { id.0 < length self.now.pool.now.messages }
-        ensures { Answers (option_map value_view) (Made (ReadsMessage self.now.pool.now self.now.rules self.now.names.now
+        ensures { Answers (option_map value_view)
+            (Made (ReadsMessage self.now.pool.now self.now.rules self.now.names.now
             id.0 value.now.at (form_view value.now.form))
             (λ b. Some (message b))) result }
     {

@@ -30,7 +30,8 @@ impl Context<'_> {
         value: &JsonValue,
     ) -> Result<Body, JsonReadError>
         requires { id.0 < length self.now.pool.now.messages }
-        ensures { Answers body_view (DynamicOf self.now.pool.now self.now.rules self.now.names.now value.now.at (form_view value.now.form) id.0) result }
+        ensures { Answers body_view (DynamicOf self.now.pool.now self.now.rules self.now.names.now
+            value.now.at (form_view value.now.form) id.0) result }
     {
         match self.pool.field_by_number(id, field_for(&value.form)) {
             Some(field) => self.read_dynamic_field(field, value),
@@ -41,9 +42,11 @@ impl Context<'_> {
     /// A message of one field that may hold a Struct or a ListValue.
     #[cycle(read)]
     fn read_dynamic_field(&self, field: &Field, value: &JsonValue) -> Result<Body, JsonReadError>
-        requires { NamesType (length self.now.pool.now.messages) (length self.now.pool.now.enums) field.now.kind }
+        requires { NamesType (length self.now.pool.now.messages) (length self.now.pool.now.enums)
+            field.now.kind }
         ensures { Answers body_view (ReadsAlone (Some (field_view field.now)) value.now.at
-            (DeepOf self.now.pool.now self.now.rules self.now.names.now value.now.at (form_view value.now.form))) result }
+            (DeepOf self.now.pool.now self.now.rules self.now.names.now value.now.at
+            (form_view value.now.form))) result }
     {
         let content = self.read_deep(field.shape, field.kind, value)?;
         alone(self.alloc, field.shape, field.number, content)
@@ -57,9 +60,11 @@ impl Context<'_> {
         kind: Kind,
         value: &JsonValue,
     ) -> Result<Option<Content>, JsonReadError>
-        requires { NamesType (length self.now.pool.now.messages) (length self.now.pool.now.enums) kind }
+        requires { NamesType (length self.now.pool.now.messages)
+            (length self.now.pool.now.enums) kind }
         ensures { Answers (option_map content_view)
-            (DeepOf self.now.pool.now self.now.rules self.now.names.now value.now.at (form_view value.now.form) shape kind) result }
+            (DeepOf self.now.pool.now self.now.rules self.now.names.now value.now.at
+            (form_view value.now.form) shape kind) result }
     {
         match shape {
             Shape::Implicit => self.read_deep_one(kind, value),
@@ -73,9 +78,13 @@ impl Context<'_> {
     /// What a field of one value holds, which may be a Struct or a ListValue.
     #[cycle(read)]
     fn read_deep_one(&self, kind: Kind, value: &JsonValue) -> Result<Option<Content>, JsonReadError>
-        requires { NamesType (length self.now.pool.now.messages) (length self.now.pool.now.enums) kind }
-        ensures { Answers (option_map content_view) (Made (ReadsSingle self.now.pool.now self.now.rules kind value.now.at (form_view value.now.form)
-            (NestedOf self.now.pool.now self.now.rules self.now.names.now value.now.at (form_view value.now.form))) (option_map one)) result }
+        requires { NamesType (length self.now.pool.now.messages)
+            (length self.now.pool.now.enums) kind }
+        ensures { Answers (option_map content_view)
+            (Made (ReadsSingle self.now.pool.now self.now.rules kind value.now.at
+            (form_view value.now.form)
+            (NestedOf self.now.pool.now self.now.rules self.now.names.now value.now.at
+            (form_view value.now.form))) (option_map one)) result }
     {
         match self.read_deep_single(kind, value)? {
             Some(one) => Ok(Some(Content::One(one))),
@@ -90,9 +99,13 @@ impl Context<'_> {
         kind: Kind,
         value: &JsonValue,
     ) -> Result<Option<Value>, JsonReadError>
-        requires { NamesType (length self.now.pool.now.messages) (length self.now.pool.now.enums) kind }
-        ensures { Answers (option_map value_view) (ReadsSingle self.now.pool.now self.now.rules kind value.now.at (form_view value.now.form)
-            (NestedOf self.now.pool.now self.now.rules self.now.names.now value.now.at (form_view value.now.form))) result }
+        requires { NamesType (length self.now.pool.now.messages)
+            (length self.now.pool.now.enums) kind }
+        ensures { Answers (option_map value_view)
+            (ReadsSingle self.now.pool.now self.now.rules kind value.now.at
+            (form_view value.now.form)
+            (NestedOf self.now.pool.now self.now.rules self.now.names.now value.now.at
+            (form_view value.now.form))) result }
     {
         match kind.message() {
             Some(id) => self.read_nested_value(id, value),
@@ -108,7 +121,8 @@ impl Context<'_> {
         value: &JsonValue,
     ) -> Result<Option<Value>, JsonReadError>
         requires { id.0 < length self.now.pool.now.messages }
-        ensures { Answers (option_map value_view) (Made (NestedOf self.now.pool.now self.now.rules self.now.names.now
+        ensures { Answers (option_map value_view)
+            (Made (NestedOf self.now.pool.now self.now.rules self.now.names.now
             value.now.at (form_view value.now.form) id.0)
             (λ b. Some (message b))) result }
     {
@@ -120,7 +134,8 @@ impl Context<'_> {
     #[cycle(read)]
     fn read_nested(&self, id: MessageId, value: &JsonValue) -> Result<Body, JsonReadError>
         requires { id.0 < length self.now.pool.now.messages }
-        ensures { Answers body_view (NestedOf self.now.pool.now self.now.rules self.now.names.now value.now.at (form_view value.now.form) id.0) result }
+        ensures { Answers body_view (NestedOf self.now.pool.now self.now.rules self.now.names.now
+            value.now.at (form_view value.now.form) id.0) result }
     {
         if is_sole(well_known(self.pool, id)) {
             self.read_sole(id, value)

@@ -1,13 +1,14 @@
 //! What a `google.protobuf.Any` holds: the URL of a type, and the encoding of a message of it.
 
-ghost use Rattle.std.specs.Prelude.{◌≡◌, ◌<◌, ◌&&◌, [], length, option_map, option_and_then, IfErr, IfOk};
+ghost use Rattle.std.specs.Prelude.{◌≡◌, ◌<◌, ◌==◌, ◌&&◌, [], length, option_map, None, IfErr, IfOk};
 ghost use Rattle.pb_schema.specs.Types.{message_fields};
 ghost use Rattle.pb_schema.specs.Scalar.{bytes, text};
 ghost use Rattle.pb_schema.specs.View.{field_view};
 ghost use Rattle.pb_value.specs.Data.{fields_of, get_field};
 ghost use Rattle.pb_value.specs.View.{body_view, content_view, value_view};
 ghost use Rattle.pb_json_read.specs.Answers.{Answers};
-ghost use Rattle.pb_json_read.specs.Anys.{any_fields, any_message, both_any, message_held, message_of, value_field, Encodes};
+ghost use Rattle.pb_json_read.specs.Anys.{any_fields, any_message, both_any, has_members, is_empty_type, message_held, message_in, message_of, value_field};
+ghost use Rattle.pb_json_read.specs.Anys.{Encodes};
 ghost use Rattle.pb_json_read.specs.Faults.{out_of_memory};
 ghost use Rattle.pb_json_read.specs.Steps.{given};
 ghost use Rattle.pb_json_read.specs.WellKnown.{takes};
@@ -16,9 +17,11 @@ use crate::construction::Parts;
 use crate::depth::within_depth;
 use crate::error::JsonReadError;
 use crate::forms::is_single;
+use crate::names::fields_of;
 use pb_encode::{EncodeError, encode};
+use pb_json::well_known::{is_plain, well_known};
 use pb_schema::{Field, Kind, MessageId, Pool, Shape};
-use pb_value::bodies::take_field;
+use pb_value::bodies::{empty_body, take_field};
 use pb_value::{Body, Content, Value};
 use std::alloc::{AllocError, Global};
 
@@ -34,19 +37,61 @@ pub(crate) fn value_field(alloc: Global, id: MessageId) -> Result<Field, AllocEr
     })
 }
 
-/// The message that such a field holds, from an object that begins at this byte.
-pub(crate) fn held_message(body: Body, at: usize) -> Result<Body, JsonReadError>
-    ensures { Answers body_view (λ r. r ≡ given at (option_and_then message_held (get_field 1 (fields_of (body_view body))))) result }
+/// Whether a type is `google.protobuf.Empty`, as Google's file declares it: it has no fields.
+pub(crate) fn is_empty_type(pool: &Pool, id: MessageId) -> bool
+    requires { id.0 < length pool.now.messages }
+    ensures { result ≡ is_empty_type pool.now id.0 }
+{
+    pool.message_name(id) == b"google.protobuf.Empty".as_slice() && has_no_fields(pool, id)
+}
+
+fn has_no_fields(pool: &Pool, id: MessageId) -> bool
+    requires { id.0 < length pool.now.messages }
+    ensures { result ≡ (length (message_fields pool.now id.0) == 0) }
+{
+    fields_of(pool, id).is_empty()
+}
+
+/// Whether the members of a message of a type are beside `@type`.
+pub(crate) fn has_members(pool: &Pool, id: MessageId) -> bool
+    requires { id.0 < length pool.now.messages }
+    ensures { result ≡ has_members pool.now id.0 }
+{
+    is_plain(well_known(pool, id)) && !is_empty_type(pool, id)
+}
+
+/// The message that the field `value` holds, from an object that begins at this byte. It may be left out of
+/// an Empty.
+pub(crate) fn held_message(
+    alloc: Global,
+    body: Body,
+    is_empty: bool,
+    at: usize,
+) -> Result<Body, JsonReadError>
+    ensures { Answers body_view
+        (λ r. r ≡ given at (message_held is_empty (get_field 1 (fields_of (body_view body)))))
+        result }
 {
     let mut body = body;
     match take_field(&mut body, 1) {
-        Some(content) => message_held(content, at),
-        None => Err(JsonReadError::bad_value(at)),
+        Some(content) => message_in(content, at),
+        None => without_message(alloc, is_empty, at),
     }
 }
 
-fn message_held(content: Content, at: usize) -> Result<Body, JsonReadError>
-    ensures { Answers body_view (λ r. r ≡ given at (message_held (content_view content))) result }
+/// The message where there is no `value`.
+fn without_message(alloc: Global, is_empty: bool, at: usize) -> Result<Body, JsonReadError>
+    ensures { Answers body_view (λ r. r ≡ given at (message_held is_empty None)) result }
+{
+    if is_empty {
+        Ok(empty_body(alloc))
+    } else {
+        Err(JsonReadError::bad_value(at))
+    }
+}
+
+fn message_in(content: Content, at: usize) -> Result<Body, JsonReadError>
+    ensures { Answers body_view (λ r. r ≡ given at (message_in (content_view content))) result }
 {
     match content {
         Content::One(value) => message_of(value, at),
@@ -90,7 +135,8 @@ pub(crate) fn encoded(
 /// The fields for URL and bytes, where the type declares them.
 pub(crate) fn any_fields<'a>(pool: &'a Pool, id: MessageId) -> Option<(&'a Field, &'a Field)>
     requires { id.0 < length pool.now.messages }
-    ensures { option_map (λ p. (field_view p.0.now, field_view p.1.now)) result ≡ any_fields (message_fields pool.now id.0) }
+    ensures { option_map (λ p. (field_view p.0.now, field_view p.1.now)) result
+        ≡ any_fields (message_fields pool.now id.0) }
 {
     let url = pool.field_by_number(id, 1)?;
     let value = pool.field_by_number(id, 2)?;
@@ -98,7 +144,8 @@ pub(crate) fn any_fields<'a>(pool: &'a Pool, id: MessageId) -> Option<(&'a Field
 }
 
 fn both_any<'a>(url: &'a Field, value: &'a Field) -> Option<(&'a Field, &'a Field)>
-    ensures { option_map (λ p. (field_view p.0.now, field_view p.1.now)) result ≡ both_any (field_view url.now) (field_view value.now) }
+    ensures { option_map (λ p. (field_view p.0.now, field_view p.1.now)) result
+        ≡ both_any (field_view url.now) (field_view value.now) }
 {
     if takes_text(url) && takes_bytes(value) {
         Some((url, value))
@@ -127,7 +174,8 @@ pub(crate) fn any_body(
     url: &str,
     encoding: Vec<u8>,
 ) -> Result<Body, JsonReadError>
-    ensures made { IfOk result (λ b. body_view b ≡ any_message (field_view url_field.now, field_view bytes_field.now) url.now encoding.items) }
+    ensures made { IfOk result (λ b. body_view b
+        ≡ any_message (field_view url_field.now, field_view bytes_field.now) url.now encoding.items) }
     ensures memory { IfErr result (λ e. e ≡ out_of_memory) }
 {
     let url = String::from_str(alloc, url)?;

@@ -85,7 +85,8 @@ pub(crate) fn read_point(
     value: &JsonValue,
 ) -> Result<Body, JsonReadError>
     requires { id.0 < length context.now.pool.now.messages }
-    ensures { Answers body_view (λ o. o ≡ given value.now.at (time_message (time_fields (message_fields context.now.pool.now id.0))
+    ensures { Answers body_view (λ o. o ≡ given value.now.at
+        (time_message (time_fields (message_fields context.now.pool.now id.0))
         (string_meant timestamp (form_view value.now.form)))) result }
 {
     read_time(context, id, timestamp_meant(&value.form), value.at)
@@ -98,7 +99,8 @@ pub(crate) fn read_span(
     value: &JsonValue,
 ) -> Result<Body, JsonReadError>
     requires { id.0 < length context.now.pool.now.messages }
-    ensures { Answers body_view (λ o. o ≡ given value.now.at (time_message (time_fields (message_fields context.now.pool.now id.0))
+    ensures { Answers body_view (λ o. o ≡ given value.now.at
+        (time_message (time_fields (message_fields context.now.pool.now id.0))
         (string_meant duration (form_view value.now.form)))) result }
 {
     read_time(context, id, duration_meant(&value.form), value.at)
@@ -112,7 +114,8 @@ fn read_time(
     at: usize,
 ) -> Result<Body, JsonReadError>
     requires { id.0 < length context.now.pool.now.messages }
-    ensures { Answers body_view (λ o. o ≡ given at (time_message (time_fields (message_fields context.now.pool.now id.0)) time)) result }
+    ensures { Answers body_view (λ o. o ≡ given at
+        (time_message (time_fields (message_fields context.now.pool.now id.0)) time)) result }
 {
     let Some((seconds, nanos)) = time_fields(context.pool, id) else {
         return Err(JsonReadError::bad_value(at));
@@ -126,7 +129,8 @@ fn read_time(
 /// The fields for seconds and nanoseconds, where the type declares them.
 fn time_fields<'a>(pool: &'a Pool, id: MessageId) -> Option<(&'a Field, &'a Field)>
     requires { id.0 < length pool.now.messages }
-    ensures { option_map (λ p. (field_view p.0.now, field_view p.1.now)) result ≡ time_fields (message_fields pool.now id.0) }
+    ensures { option_map (λ p. (field_view p.0.now, field_view p.1.now)) result
+        ≡ time_fields (message_fields pool.now id.0) }
 {
     let seconds = pool.field_by_number(id, 1)?;
     let nanos = pool.field_by_number(id, 2)?;
@@ -134,7 +138,8 @@ fn time_fields<'a>(pool: &'a Pool, id: MessageId) -> Option<(&'a Field, &'a Fiel
 }
 
 fn both_times<'a>(seconds: &'a Field, nanos: &'a Field) -> Option<(&'a Field, &'a Field)>
-    ensures { option_map (λ p. (field_view p.0.now, field_view p.1.now)) result ≡ both_times (field_view seconds.now) (field_view nanos.now) }
+    ensures { option_map (λ p. (field_view p.0.now, field_view p.1.now)) result
+        ≡ both_times (field_view seconds.now) (field_view nanos.now) }
 {
     if takes_seconds(seconds) && takes_nanos(nanos) {
         Some((seconds, nanos))
@@ -161,7 +166,8 @@ fn put_time(
     nanos: &Field,
     time: Time,
 ) -> Result<Body, JsonReadError>
-    ensures made { IfOk result (λ b. body_view b ≡ (time_parts (field_view seconds.now) (field_view nanos.now) time).message) }
+    ensures made { IfOk result (λ b. body_view b
+        ≡ (time_parts (field_view seconds.now) (field_view nanos.now) time).message) }
     ensures memory { IfErr result (λ e. e ≡ out_of_memory) }
 {
     let mut parts = Parts::new(alloc);
@@ -207,7 +213,8 @@ pub(crate) fn read_field_mask(
     value: &JsonValue,
 ) -> Result<Body, JsonReadError>
     requires { id.0 < length context.now.pool.now.messages }
-    ensures { Answers body_view (λ o. o ≡ given value.now.at (mask_message (paths_field (message_fields context.now.pool.now id.0))
+    ensures { Answers body_view (λ o. o ≡ given value.now.at
+        (mask_message (paths_field (message_fields context.now.pool.now id.0))
         (string_meant mask_paths (form_view value.now.form)))) result }
 {
     let Some(field) = paths_field(context.pool, id) else {
@@ -222,7 +229,8 @@ pub(crate) fn read_field_mask(
 /// The field for the paths, where the type declares it.
 fn paths_field(pool: &Pool, id: MessageId) -> Option<&Field>
     requires { id.0 < length pool.now.messages }
-    ensures { option_map (λ f. field_view f.now) result ≡ paths_field (message_fields pool.now id.0) }
+    ensures { option_map (λ f. field_view f.now) result
+        ≡ paths_field (message_fields pool.now id.0) }
 {
     let field = pool.field_by_number(id, 1)?;
     if is_text_list(field) {
@@ -233,14 +241,16 @@ fn paths_field(pool: &Pool, id: MessageId) -> Option<&Field>
 }
 
 fn is_text_list(field: &Field) -> bool
-    ensures { result ≡ (has_shape field.now.shape (list no_datums) && is_scalar_of field.now.kind (text [])) }
+    ensures { result ≡ (has_shape field.now.shape (list no_datums) && is_scalar_of
+        field.now.kind (text [])) }
 {
     matches!(field.shape, Shape::List { packed: _ }) && matches!(field.kind, Kind::Text)
 }
 
 /// The paths that a JSON value means.
 fn paths_meant(alloc: Global, form: &JsonForm) -> Result<Option<Vec<String>>, AllocError>
-    ensures { IfOk result (λ read. option_map (λ v. map string_bytes v.items) read ≡ string_meant mask_paths (form_view form.now)) }
+    ensures { IfOk result (λ read. option_map (λ v. map string_bytes v.items) read
+        ≡ string_meant mask_paths (form_view form.now)) }
 {
     match form {
         JsonForm::String(text) => read_mask(alloc, text.as_bytes()),
@@ -275,7 +285,8 @@ fn texts(alloc: Global, strings: &Vec<String>) -> Result<Vec<Value>, AllocError>
 
 fn push_text(alloc: Global, values: &mut Vec<Value>, string: &str) -> Result<(), AllocError>
     ensures { OnOk result (values_view values.new.items
-        ≡ joined_datums (values_view values.old.items) (datum (scalar (text string.now)) no_datums)) }
+        ≡ joined_datums (values_view values.old.items)
+        (datum (scalar (text string.now)) no_datums)) }
 {
     values.push(Value::Text(String::from_str(alloc, string)?))?;
     Ok(())

@@ -18,7 +18,8 @@ use pb_value::Value;
 
 /// Puts a value, if there is one, after others.
 fn push_some(values: &mut Vec<Value>, value: Option<Value>) -> Result<(), JsonReadError>
-    ensures pushed { OnOk result (values_view values.new.items ≡ with_datum (values_view values.old.items) (option_map value_view value)) }
+    ensures pushed { OnOk result (values_view values.new.items
+        ≡ with_datum (values_view values.old.items) (option_map value_view value)) }
     ensures memory { IfErr result (λ e. e ≡ out_of_memory) }
 {
     match value {
@@ -38,9 +39,11 @@ impl Context<'_> {
         kind: Kind,
         value: &JsonValue,
     ) -> Result<Vec<Value>, JsonReadError>
-        requires { NamesType (length self.now.pool.now.messages) (length self.now.pool.now.enums) kind }
+        requires { NamesType (length self.now.pool.now.messages)
+            (length self.now.pool.now.enums) kind }
         ensures { Answers (λ v. values_view v.items)
-            (ReadsList self.now.pool.now self.now.rules self.now.names.now kind value.now.at (form_view value.now.form)) result }
+            (ReadsList self.now.pool.now self.now.rules self.now.names.now kind value.now.at
+            (form_view value.now.form)) result }
     {
         match &value.form {
             JsonForm::Array(items) => self.read_elements(kind, items),
@@ -51,9 +54,11 @@ impl Context<'_> {
     /// The values of the elements of an array.
     #[cycle(read)]
     fn read_elements(&self, kind: Kind, items: &Vec<JsonValue>) -> Result<Vec<Value>, JsonReadError>
-        requires { NamesType (length self.now.pool.now.messages) (length self.now.pool.now.enums) kind }
+        requires { NamesType (length self.now.pool.now.messages)
+            (length self.now.pool.now.enums) kind }
         ensures { Answers (λ v. values_view v.items)
-            (ReadsElements self.now.pool.now self.now.rules self.now.names.now kind no_datums (elements_view items.now.items)) result }
+            (ReadsElements self.now.pool.now self.now.rules self.now.names.now kind no_datums
+            (elements_view items.now.items)) result }
     {
         let mut values = Vec::new(self.alloc);
         for item in items {

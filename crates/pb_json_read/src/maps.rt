@@ -1,15 +1,13 @@
 //! An object as a map.
 
-ghost use Rattle.std.specs.Prelude.{◌≡◌, length, option_map, is_some, IfErr, OnOk};
+ghost use Rattle.std.specs.Prelude.{◌≡◌, length, option_map, IfErr, OnOk};
 ghost use Rattle.pb_json_text.specs.View.{form_view, members_view};
 ghost use Rattle.pb_schema.specs.Rules.{NamesType};
-ghost use Rattle.pb_value.specs.Change.{AreKeys, FitsKeys};
-ghost use Rattle.pb_value.specs.Data.{get_entry, no_entries};
 ghost use Rattle.pb_value.specs.View.{entries_view, key_view, value_view};
-ghost use Rattle.pb_json_read.specs.Answers.{Answers, Changes, named};
+ghost use Rattle.pb_json_read.specs.Answers.{Answers, AreEntered, Changes, FitsEntered, entered_view, named};
 ghost use Rattle.pb_json_read.specs.Faults.{out_of_memory};
-ghost use Rattle.pb_json_read.specs.Reads.{ReadsEntries, ReadsMap, ReadsMemberEntry, ReadsMemberUnder};
-ghost use Rattle.pb_json_read.specs.Steps.{with_entry};
+ghost use Rattle.pb_json_read.specs.Reads.{ReadsMap, ReadsMapped, ReadsMemberEntry, ReadsMemberUnder};
+ghost use Rattle.pb_json_read.specs.Steps.{is_taken, with_entry};
 
 use crate::construction::Entries;
 use crate::context::Context;
@@ -20,10 +18,11 @@ use pb_schema::Kind;
 use pb_value::{MapKey, Value};
 use std::collections::BTreeMap;
 
-/// Puts a value, if there is one, under a key.
+/// Puts a value under a key, or notes the key of one that is passed over.
 fn put_some(entries: &mut Entries, key: MapKey, value: Option<Value>) -> Result<(), JsonReadError>
-    ensures put { OnOk result (FitsKeys (key_view key) (entries_view entries.old.map.entries)
-        → entries_view entries.new.map.entries ≡ with_entry (key_view key) (entries_view entries.old.map.entries) (option_map value_view value)) }
+    ensures put { OnOk result (FitsEntered (key_view key) (entered_view entries.old)
+        → entered_view entries.new
+        ≡ with_entry (key_view key) (entered_view entries.old) (option_map value_view value)) }
     ensures memory { IfErr result (λ e. e ≡ out_of_memory) }
 {
     match value {
@@ -31,15 +30,18 @@ fn put_some(entries: &mut Entries, key: MapKey, value: Option<Value>) -> Result<
             drop(entries.map.insert(key, value)?);
             Ok(())
         }
-        None => Ok(()),
+        None => {
+            drop(entries.passed.insert(key, Value::Bool(false))?);
+            Ok(())
+        }
     }
 }
 
-/// Whether a key has a value.
-fn has_key(entries: &Entries, key: &MapKey) -> bool
-    ensures { result ≡ is_some (get_entry (key_view key.now) (entries_view entries.now.map.entries)) }
+/// Whether a member before named a key.
+fn is_taken(entries: &Entries, key: &MapKey) -> bool
+    ensures { result ≡ is_taken (key_view key.now) (entered_view entries.now) }
 {
-    entries.map.contains_key(key)
+    entries.map.contains_key(key) || entries.passed.contains_key(key)
 }
 
 impl Context<'_> {
@@ -51,9 +53,11 @@ impl Context<'_> {
         kind: Kind,
         value: &JsonValue,
     ) -> Result<BTreeMap<MapKey, Value>, JsonReadError>
-        requires { NamesType (length self.now.pool.now.messages) (length self.now.pool.now.enums) kind }
+        requires { NamesType (length self.now.pool.now.messages)
+            (length self.now.pool.now.enums) kind }
         ensures { Answers (λ m. entries_view m.entries)
-            (ReadsMap self.now.pool.now self.now.rules self.now.names.now key kind value.now.at (form_view value.now.form)) result }
+            (ReadsMap self.now.pool.now self.now.rules self.now.names.now key kind value.now.at
+            (form_view value.now.form)) result }
     {
         match &value.form {
             JsonForm::Object(members) => self.read_entries(key, kind, members),
@@ -69,9 +73,11 @@ impl Context<'_> {
         kind: Kind,
         members: &Vec<JsonMember>,
     ) -> Result<BTreeMap<MapKey, Value>, JsonReadError>
-        requires { NamesType (length self.now.pool.now.messages) (length self.now.pool.now.enums) kind }
+        requires { NamesType (length self.now.pool.now.messages)
+            (length self.now.pool.now.enums) kind }
         ensures { Answers (λ m. entries_view m.entries)
-            (ReadsEntries self.now.pool.now self.now.rules self.now.names.now key kind no_entries (members_view members.now.items)) result }
+            (ReadsMapped self.now.pool.now self.now.rules self.now.names.now key kind
+            (members_view members.now.items)) result }
     {
         let mut entries = Entries::new(self.alloc);
         for member in members {
@@ -89,10 +95,15 @@ impl Context<'_> {
         entries: &mut Entries,
         member: &JsonMember,
     ) -> Result<(), JsonReadError>
-        requires { NamesType (length self.now.pool.now.messages) (length self.now.pool.now.enums) kind }
-        ensures read { AreKeys key (entries_view entries.old.map.entries) → Changes (entries_view entries.new.map.entries)
-            (ReadsMemberEntry self.now.pool.now self.now.rules self.now.names.now key kind (named member.now) (entries_view entries.old.map.entries)) result }
-        ensures keys { AreKeys key (entries_view entries.old.map.entries) → OnOk result (AreKeys key (entries_view entries.new.map.entries)) }
+        requires { NamesType (length self.now.pool.now.messages)
+            (length self.now.pool.now.enums) kind }
+        ensures read { AreEntered key (entered_view entries.old)
+            → Changes (entered_view entries.new)
+            (ReadsMemberEntry self.now.pool.now self.now.rules self.now.names.now key kind
+            (named member.now)
+            (entered_view entries.old)) result }
+        ensures keys { AreEntered key (entered_view entries.old)
+            → OnOk result (AreEntered key (entered_view entries.new)) }
     {
         match read_key(self.alloc, key, member.name.as_str())? {
             Some(name) => self.read_under(kind, entries, name, member),
@@ -109,12 +120,15 @@ impl Context<'_> {
         key: MapKey,
         member: &JsonMember,
     ) -> Result<(), JsonReadError>
-        requires { NamesType (length self.now.pool.now.messages) (length self.now.pool.now.enums) kind }
-        ensures { FitsKeys (key_view key) (entries_view entries.old.map.entries) → Changes (entries_view entries.new.map.entries)
-            (ReadsMemberUnder self.now.pool.now self.now.rules self.now.names.now (key_view key) kind (named member.now)
-            (entries_view entries.old.map.entries)) result }
+        requires { NamesType (length self.now.pool.now.messages)
+            (length self.now.pool.now.enums) kind }
+        ensures { FitsEntered (key_view key) (entered_view entries.old)
+            → Changes (entered_view entries.new)
+            (ReadsMemberUnder self.now.pool.now self.now.rules self.now.names.now (key_view key)
+            kind (named member.now)
+            (entered_view entries.old)) result }
     {
-        if has_key(entries, &key) {
+        if is_taken(entries, &key) {
             return Err(refused(member.at, JsonReadCause::RepeatedName));
         }
         let value = self.read_single(kind, &member.value)?;

@@ -31,7 +31,8 @@ impl Context<'_> {
         value: &JsonValue,
     ) -> Result<Body, JsonReadError>
         requires { id.0 < length self.now.pool.now.messages }
-        ensures { Answers body_view (ReadsMessage self.now.pool.now self.now.rules self.now.names.now id.0 value.now.at (form_view value.now.form)) result }
+        ensures { Answers body_view (ReadsMessage self.now.pool.now self.now.rules
+            self.now.names.now id.0 value.now.at (form_view value.now.form)) result }
     {
         match well_known(self.pool, id) {
             WellKnown::Other => self.read_object(id, value),
@@ -50,7 +51,8 @@ impl Context<'_> {
     #[cycle(read)]
     fn read_object(&self, id: MessageId, value: &JsonValue) -> Result<Body, JsonReadError>
         requires { id.0 < length self.now.pool.now.messages }
-        ensures { Answers body_view (ReadsObject self.now.pool.now self.now.rules self.now.names.now id.0 value.now.at (form_view value.now.form)) result }
+        ensures { Answers body_view (ReadsObject self.now.pool.now self.now.rules self.now.names.now
+            id.0 value.now.at (form_view value.now.form)) result }
     {
         match &value.form {
             JsonForm::Object(members) => self.read_members(id, members),
@@ -62,8 +64,10 @@ impl Context<'_> {
     #[cycle(read)]
     fn read_members(&self, id: MessageId, members: &Vec<JsonMember>) -> Result<Body, JsonReadError>
         requires { id.0 < length self.now.pool.now.messages }
-        ensures { Answers body_view (Made (ReadsMembers self.now.pool.now self.now.rules self.now.names.now
-            (meant self.now.names.now self.now.pool.now id.0) nothing (members_view members.now.items)) (λ p. p.message)) result }
+        ensures { Answers body_view
+            (Made (ReadsMembers self.now.pool.now self.now.rules self.now.names.now
+            (meant self.now.names.now self.now.pool.now id.0) nothing
+            (members_view members.now.items)) (λ p. p.message)) result }
     {
         let mut parts = Parts::new(self.alloc);
         for member in members {
@@ -81,7 +85,8 @@ impl Context<'_> {
         member: &JsonMember,
     ) -> Result<(), JsonReadError>
         requires { id.0 < length self.now.pool.now.messages }
-        ensures { Changes (parts_view parts.new) (ReadsMember self.now.pool.now self.now.rules self.now.names.now
+        ensures { Changes (parts_view parts.new)
+            (ReadsMember self.now.pool.now self.now.rules self.now.names.now
             (meant self.now.names.now self.now.pool.now id.0 (named member.now).1)
             (named member.now) (parts_view parts.old)) result }
     {
@@ -99,8 +104,11 @@ impl Context<'_> {
         parts: &mut Parts,
         member: &JsonMember,
     ) -> Result<(), JsonReadError>
-        requires { NamesType (length self.now.pool.now.messages) (length self.now.pool.now.enums) field.now.kind }
-        ensures { Changes (parts_view parts.new) (ReadsMember self.now.pool.now self.now.rules self.now.names.now (Some (field_view field.now))
+        requires { NamesType (length self.now.pool.now.messages) (length self.now.pool.now.enums)
+            field.now.kind }
+        ensures { Changes (parts_view parts.new)
+            (ReadsMember self.now.pool.now self.now.rules self.now.names.now
+            (Some (field_view field.now))
             (named member.now) (parts_view parts.old)) result }
     {
         parts.note_number(field.number, member.at)?;
@@ -118,8 +126,11 @@ impl Context<'_> {
         parts: &mut Parts,
         member: &JsonMember,
     ) -> Result<(), JsonReadError>
-        requires { NamesType (length self.now.pool.now.messages) (length self.now.pool.now.enums) field.now.kind }
-        ensures { Changes (parts_view parts.new) (ReadsMemberHeld self.now.pool.now self.now.rules self.now.names.now (field_view field.now)
+        requires { NamesType (length self.now.pool.now.messages) (length self.now.pool.now.enums)
+            field.now.kind }
+        ensures { Changes (parts_view parts.new)
+            (ReadsMemberHeld self.now.pool.now self.now.rules self.now.names.now
+            (field_view field.now)
             (named member.now) (parts_view parts.old)) result }
     {
         parts.note_shape(field.shape, member.at)?;

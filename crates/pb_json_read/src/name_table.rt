@@ -86,7 +86,8 @@ fn name_in_json(
     message: MessageId,
     field: &Field,
 ) -> Result<Vec<u8>, AllocError>
-    ensures { IfOk result (λ name. name.items ≡ json_name names.now message.0 (field_view field.now)) }
+    ensures { IfOk result (λ name. name.items ≡ json_name names.now message.0
+        (field_view field.now)) }
 {
     match names.given(message, field.number) {
         Some(given) => Ok(given.as_bytes().to_vec(alloc)?),

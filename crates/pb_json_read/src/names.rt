@@ -28,7 +28,8 @@ pub(crate) fn field_meant<'a>(
 ) -> Option<&'a Field>
     requires within { message.0 < length pool.now.messages }
     requires tables { AreFieldTables pool.now names.now tables.now.fields }
-    ensures found { option_map (λ f. field_view f.now) result ≡ field_meant names.now pool.now message.0 name.now }
+    ensures found { option_map (λ f. field_view f.now) result ≡ field_meant names.now pool.now
+        message.0 name.now }
     ensures rules { IfSome result (λ f. IsFieldOf pool.now message.0 (field_view f.now)) }
 {
     match tables.fields.get(&message.0) {
@@ -47,7 +48,8 @@ fn in_table<'a>(
     requires { message.0 < length pool.now.messages }
     ensures found { (names : NamesGiven)
         → IsFieldTable names message.0 (message_fields pool.now message.0) table.now
-        → option_map (λ f. field_view f.now) result ≡ field_meant names pool.now message.0 name.now }
+        → option_map (λ f. field_view f.now) result ≡ field_meant names pool.now
+        message.0 name.now }
     ensures rules { (names : NamesGiven)
         → IsFieldTable names message.0 (message_fields pool.now message.0) table.now
         → IfSome result (λ f. IsFieldOf pool.now message.0 (field_view f.now)) }
@@ -61,7 +63,8 @@ fn in_table<'a>(
 /// The field of a message type at an index.
 fn field_at(pool: &Pool, message: MessageId, index: usize) -> Option<&Field>
     requires { message.0 < length pool.now.messages }
-    ensures found { option_map (λ f. field_view f.now) result ≡ slice_get (message_fields pool.now message.0) index }
+    ensures found { option_map (λ f. field_view f.now) result ≡ slice_get
+        (message_fields pool.now message.0) index }
     ensures rules { IsPool pool.now }
 {
     fields_of(pool, message).get(index)
@@ -79,7 +82,8 @@ pub(crate) fn fields_of(pool: &Pool, message: MessageId) -> &[Field]
 /// The field that a name means, by a walk along the fields.
 fn walk<'a>(names: &JsonNames, pool: &'a Pool, message: MessageId, name: &str) -> Option<&'a Field>
     requires { message.0 < length pool.now.messages }
-    ensures found { option_map (λ f. field_view f.now) result ≡ field_meant names.now pool.now message.0 name.now }
+    ensures found { option_map (λ f. field_view f.now) result ≡ field_meant names.now pool.now
+        message.0 name.now }
     ensures rules { IfSome result (λ f. IsFieldOf pool.now message.0 (field_view f.now)) }
 {
     if let Some(field) = given_in(names, pool, message, name) {
@@ -99,7 +103,8 @@ fn given_in<'a>(
     name: &str,
 ) -> Option<&'a Field>
     requires { message.0 < length pool.now.messages }
-    ensures found { option_map (λ f. field_view f.now) result ≡ field_given names.now message.0 (message_fields pool.now message.0) name.now }
+    ensures found { option_map (λ f. field_view f.now) result ≡ field_given names.now message.0
+        (message_fields pool.now message.0) name.now }
     ensures rules { IfSome result (λ f. IsFieldOf pool.now message.0 (field_view f.now)) }
 {
     if names.is_empty() {
@@ -116,7 +121,8 @@ fn in_json<'a>(
     name: &str,
 ) -> Option<&'a Field>
     requires { message.0 < length pool.now.messages }
-    ensures found { option_map (λ f. field_view f.now) result ≡ field_in_json names.now message.0 (message_fields pool.now message.0) name.now }
+    ensures found { option_map (λ f. field_view f.now) result ≡ field_in_json names.now message.0
+        (message_fields pool.now message.0) name.now }
     ensures rules { IfSome result (λ f. IsFieldOf pool.now message.0 (field_view f.now)) }
 {
     find_in_json(names, message, fields_of(pool, message), name)
@@ -129,7 +135,8 @@ fn find_given<'a>(
     fields: &'a [Field],
     name: &str,
 ) -> Option<&'a Field>
-    ensures { option_map (λ f. field_view f.now) result ≡ field_given names.now message.0 (map field_view fields.now) name.now }
+    ensures { option_map (λ f. field_view f.now) result ≡ field_given names.now message.0
+        (map field_view fields.now) name.now }
 {
     for field in fields {
         if is_given(names.given(message, field.number), name) {
@@ -156,7 +163,8 @@ fn find_in_json<'a>(
     fields: &'a [Field],
     name: &str,
 ) -> Option<&'a Field>
-    ensures { option_map (λ f. field_view f.now) result ≡ field_in_json names.now message.0 (map field_view fields.now) name.now }
+    ensures { option_map (λ f. field_view f.now) result ≡ field_in_json names.now message.0
+        (map field_view fields.now) name.now }
 {
     for field in fields {
         if is_json_name(names, message, field, name) {

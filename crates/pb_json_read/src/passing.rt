@@ -40,8 +40,10 @@ pub(crate) fn without_value(
     kind: Kind,
     value: &JsonValue,
 ) -> Result<Option<Value>, JsonReadError>
-    ensures passed { IfOk result (λ read. (option_map value_view read ≡ None) × (passes_over rules kind (form_view value.now.form) ≡ true)) }
-    ensures refused { IfErr result (λ e. (e ≡ fault value.now.at BadValue) × (passes_over rules kind (form_view value.now.form) ≡ false)) }
+    ensures passed { IfOk result (λ read. (option_map value_view read ≡ None)
+        × (passes_over rules kind (form_view value.now.form) ≡ true)) }
+    ensures refused { IfErr result (λ e. (e ≡ fault value.now.at BadValue)
+        × (passes_over rules kind (form_view value.now.form) ≡ false)) }
 {
     if passes_over(rules, kind, &value.form) {
         Ok(None)

@@ -22,8 +22,11 @@ pub(crate) fn read_plain(
     kind: Kind,
     value: &JsonValue,
 ) -> Result<Option<Value>, JsonReadError>
-    requires { NamesType (length context.now.pool.now.messages) (length context.now.pool.now.enums) kind }
-    ensures { Answers (option_map value_view) (ReadsScalar context.now.pool.now context.now.rules kind value.now.at (form_view value.now.form)) result }
+    requires { NamesType (length context.now.pool.now.messages)
+        (length context.now.pool.now.enums) kind }
+    ensures { Answers (option_map value_view)
+        (ReadsScalar context.now.pool.now context.now.rules kind value.now.at
+        (form_view value.now.form)) result }
 {
     match read_scalar(context, kind, &value.form)? {
         Some(read) => Ok(Some(read)),
@@ -37,9 +40,11 @@ pub(crate) fn read_plain_one(
     kind: Kind,
     value: &JsonValue,
 ) -> Result<Option<Content>, JsonReadError>
-    requires { NamesType (length context.now.pool.now.messages) (length context.now.pool.now.enums) kind }
+    requires { NamesType (length context.now.pool.now.messages)
+        (length context.now.pool.now.enums) kind }
     ensures { Answers (option_map content_view)
-        (Made (ReadsScalar context.now.pool.now context.now.rules kind value.now.at (form_view value.now.form)) (option_map one)) result }
+        (Made (ReadsScalar context.now.pool.now context.now.rules kind value.now.at
+        (form_view value.now.form)) (option_map one)) result }
 {
     match read_plain(context, kind, value)? {
         Some(one) => Ok(Some(Content::One(one))),

@@ -91,7 +91,8 @@ pub(crate) fn read_double_bits(form: &JsonForm) -> Option<u64>
 }
 
 pub(crate) fn read_text(alloc: Global, form: &JsonForm) -> Result<Option<String>, AllocError>
-    ensures { IfOk result (λ read. IsOnly (IsString (form_view form.now)) (option_map string_bytes read)) }
+    ensures { IfOk result (λ read. IsOnly (IsString (form_view form.now))
+        (option_map string_bytes read)) }
 {
     let JsonForm::String(text) = form else {
         return Ok(None);
@@ -101,7 +102,8 @@ pub(crate) fn read_text(alloc: Global, form: &JsonForm) -> Result<Option<String>
 
 /// The bytes that a string of base64 encodes.
 pub(crate) fn read_bytes(alloc: Global, form: &JsonForm) -> Result<Option<Vec<u8>>, AllocError>
-    ensures { IfOk result (λ read. IsOnly (IsBytes (form_view form.now)) (option_map (λ v. v.items) read)) }
+    ensures { IfOk result (λ read. IsOnly (IsBytes (form_view form.now))
+        (option_map (λ v. v.items) read)) }
 {
     let JsonForm::String(text) = form else {
         return Ok(None);
@@ -175,7 +177,8 @@ fn number_in(context: &Context<'_>, id: EnumId, name: &str) -> Option<i32>
 /// The number of an enum's value that a string means: by its name, or in digits.
 fn read_enum_name(context: &Context<'_>, id: EnumId, name: &str) -> Option<i32>
     requires { id.0 < length context.now.pool.now.enums }
-    ensures { IsOnly (IsNamed (number_named name.now (enum_values context.now.pool.now id.0)) name.now) result }
+    ensures { IsOnly (IsNamed (number_named name.now (enum_values context.now.pool.now id.0))
+        name.now) result }
 {
     let named = number_in(context, id, name);
     number_meant(named, name.as_bytes())

@@ -22,7 +22,8 @@ impl Context<'_> {
     #[cycle(read)]
     pub(crate) fn read_sole(&self, id: MessageId, value: &JsonValue) -> Result<Body, JsonReadError>
         requires { id.0 < length self.now.pool.now.messages }
-        ensures { Answers body_view (SoleOf self.now.pool.now self.now.rules self.now.names.now value.now.at (form_view value.now.form) id.0) result }
+        ensures { Answers body_view (SoleOf self.now.pool.now self.now.rules self.now.names.now
+            value.now.at (form_view value.now.form) id.0) result }
     {
         match self.pool.field_by_number(id, 1) {
             Some(field) => self.read_alone(field, value),
@@ -33,9 +34,11 @@ impl Context<'_> {
     /// A message of one field that holds no message.
     #[cycle(read)]
     fn read_alone(&self, field: &Field, value: &JsonValue) -> Result<Body, JsonReadError>
-        requires { NamesType (length self.now.pool.now.messages) (length self.now.pool.now.enums) field.now.kind }
+        requires { NamesType (length self.now.pool.now.messages) (length self.now.pool.now.enums)
+            field.now.kind }
         ensures { Answers body_view (ReadsAlone (Some (field_view field.now)) value.now.at
-            (FlatOf self.now.pool.now self.now.rules self.now.names.now value.now.at (form_view value.now.form))) result }
+            (FlatOf self.now.pool.now self.now.rules self.now.names.now value.now.at
+            (form_view value.now.form))) result }
     {
         let content = self.read_flat(field.shape, field.kind, value)?;
         alone(self.alloc, field.shape, field.number, content)
@@ -49,9 +52,11 @@ impl Context<'_> {
         kind: Kind,
         value: &JsonValue,
     ) -> Result<Option<Content>, JsonReadError>
-        requires { NamesType (length self.now.pool.now.messages) (length self.now.pool.now.enums) kind }
+        requires { NamesType (length self.now.pool.now.messages)
+            (length self.now.pool.now.enums) kind }
         ensures { Answers (option_map content_view)
-            (FlatOf self.now.pool.now self.now.rules self.now.names.now value.now.at (form_view value.now.form) shape kind) result }
+            (FlatOf self.now.pool.now self.now.rules self.now.names.now value.now.at
+            (form_view value.now.form) shape kind) result }
     {
         match shape {
             Shape::Implicit => read_plain_one(self, kind, value),

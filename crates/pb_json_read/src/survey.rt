@@ -143,7 +143,8 @@ impl Survey<'_> {
         kind: Kind,
         value: &JsonValue,
     ) -> Result<(), AllocError>
-        requires kind { NamesType (length self.now.pool.now.messages) (length self.now.pool.now.enums) kind }
+        requires kind { NamesType (length self.now.pool.now.messages)
+            (length self.now.pool.now.enums) kind }
         requires tables { AreTables self.now.pool.now self.now.names.now tables.old }
         ensures { OnOk result (AreTables self.now.pool.now self.now.names.now tables.new) }
     {
@@ -224,7 +225,8 @@ impl Survey<'_> {
         kind: Kind,
         form: &JsonForm,
     ) -> Result<(), AllocError>
-        requires kind { NamesType (length self.now.pool.now.messages) (length self.now.pool.now.enums) kind }
+        requires kind { NamesType (length self.now.pool.now.messages)
+            (length self.now.pool.now.enums) kind }
         requires tables { AreTables self.now.pool.now self.now.names.now tables.old }
         ensures { OnOk result (AreTables self.now.pool.now self.now.names.now tables.new) }
     {
@@ -267,7 +269,8 @@ impl Survey<'_> {
         kind: Kind,
         value: &JsonValue,
     ) -> Result<(), AllocError>
-        requires kind { NamesType (length self.now.pool.now.messages) (length self.now.pool.now.enums) kind }
+        requires kind { NamesType (length self.now.pool.now.messages)
+            (length self.now.pool.now.enums) kind }
         requires tables { AreTables self.now.pool.now self.now.names.now tables.old }
         ensures { OnOk result (AreTables self.now.pool.now self.now.names.now tables.new) }
     {
@@ -324,7 +327,8 @@ impl Survey<'_> {
         kind: Kind,
         value: &JsonValue,
     ) -> Result<(), AllocError>
-        requires kind { NamesType (length self.now.pool.now.messages) (length self.now.pool.now.enums) kind }
+        requires kind { NamesType (length self.now.pool.now.messages)
+            (length self.now.pool.now.enums) kind }
         requires tables { AreTables self.now.pool.now self.now.names.now tables.old }
         ensures { OnOk result (AreTables self.now.pool.now self.now.names.now tables.new) }
     {

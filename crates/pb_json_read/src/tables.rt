@@ -68,7 +68,8 @@ fn add_values(
     id: EnumId,
 ) -> Result<(), AllocError>
     requires { id.0 < length pool.now.enums }
-    ensures { OnOk result (AreValueTables pool.now tables.old → AreValueTables pool.now tables.new) }
+    ensures { OnOk result (AreValueTables pool.now tables.old
+        → AreValueTables pool.now tables.new) }
 {
     let table = value_table(alloc, values_of(pool, id))?;
     drop(tables.insert(id.0, table)?);

@@ -25,7 +25,8 @@ pub(crate) fn is_tag(name: &str) -> bool
 
 /// The value of the one member that gives the type, if there is one.
 pub(crate) fn find_tag(members: &Vec<JsonMember>) -> Result<Option<&JsonValue>, JsonReadError>
-    ensures { Answers (option_map (λ v. (v.now.at, form_view v.now.form))) (λ r. r ≡ only_tag (tags (members_view members.now.items))) result }
+    ensures { Answers (option_map (λ v. (v.now.at, form_view v.now.form))) (λ r. r ≡ only_tag
+        (tags (members_view members.now.items))) result }
 {
     let mut found = None;
     for member in members {
@@ -41,7 +42,8 @@ pub(crate) fn find_tag(members: &Vec<JsonMember>) -> Result<Option<&JsonValue>, 
 
 /// The URL that a value is, and the type of the pool that it names.
 pub(crate) fn url_meant<'v>(pool: &Pool, value: &'v JsonValue) -> Option<(&'v str, MessageId)>
-    ensures found { option_map (λ u. (u.0.now, u.1.0)) result ≡ string_meant (url_meant pool.now) (form_view value.now.form) }
+    ensures found { option_map (λ u. (u.0.now, u.1.0)) result ≡ string_meant (url_meant pool.now)
+        (form_view value.now.form) }
     ensures within { IfSome result (λ u. u.1.0 < length pool.now.messages) }
 {
     let JsonForm::String(url) = &value.form else {
@@ -59,7 +61,8 @@ pub(crate) fn read_untagged(
     at: usize,
     members: &Vec<JsonMember>,
 ) -> Result<Body, JsonReadError>
-    ensures { Answers body_view (λ r. r ≡ given at (untagged (members_view members.now.items))) result }
+    ensures { Answers body_view (λ r. r ≡ given at
+        (untagged (members_view members.now.items))) result }
 {
     if members.is_empty() {
         Ok(empty_body(alloc))

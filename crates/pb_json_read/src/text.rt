@@ -11,7 +11,7 @@ ghost use Rattle.pb_value.specs.View.{body_view};
 ghost use Rattle.pb_value.specs.WellFormed.{IsWellFormed};
 
 use crate::context::Context;
-use crate::depth::within_depth;
+use crate::depth::with_form;
 use crate::error::JsonReadError;
 use crate::rules::JsonRules;
 use crate::survey::tables_for;
@@ -23,9 +23,11 @@ use std::alloc::Global;
 
 /// Reads a message of a type from a JSON text, by the proto3 JSON mapping (ProtoJSON format, "JSON representation").
 ///
-/// Fields are named in lowerCamelCase or as declared; null says that a field is absent. The well-known types are read from their own forms.
-/// The fault is the first in the order of the text: its byte, counted from 0, is where the name or the value begins that is refused. Bytes that are
-/// no JSON text are refused before all else, and a message that nests more than 100 levels after all else.
+/// Fields are named in lowerCamelCase or as declared; null says that a field is absent. The well-known types
+/// are read from their own forms. The fault is the first in the order of the text: its byte, counted from 0,
+/// is where the name or the value begins that is refused. Bytes that are no JSON text are refused before all
+/// else, and after all else a message that has no JSON form itself: one that nests more than 100 levels,
+/// counted through each Any.
 pub fn read_json<'p>(
     alloc: Global,
     pool: &'p Pool,
@@ -36,7 +38,8 @@ pub fn read_json<'p>(
     requires { message_type.0 < length pool.now.messages }
     ensures of_type { IfOk result (λ m. (m.pool ≡ pool.now) × (m.kind ≡ message_type.0)) }
     ensures read { IfOk result (λ m. IsReadAs pool.now rules message_type.0 bytes.now m.body) }
-    ensures fault { IfErr result (λ e. (e ≡ out_of_memory) ⊎ IsRefusedWith pool.now rules message_type.0 bytes.now e) }
+    ensures fault { IfErr result (λ e. (e ≡ out_of_memory)
+        ⊎ IsRefusedWith pool.now rules message_type.0 bytes.now e) }
 
     // Each message is answered and each fault is reported, unless memory runs out.
     ensures accepted { (v : Message) → IsReadAs pool.now rules message_type.0 bytes.now v
@@ -67,13 +70,16 @@ pub fn read_json_by<'p>(
 ) -> Result<DynamicMessage<'p>, JsonReadError>
     requires { message_type.0 < length pool.now.messages }
     ensures of_type { IfOk result (λ m. (m.pool ≡ pool.now) × (m.kind ≡ message_type.0)) }
-    ensures read { IfOk result (λ m. IsReadBy pool.now rules names.now message_type.0 bytes.now m.body) }
-    ensures fault { IfErr result (λ e. (e ≡ out_of_memory) ⊎ IsRefusedBy pool.now rules names.now message_type.0 bytes.now e) }
+    ensures read { IfOk result (λ m. IsReadBy pool.now rules names.now message_type.0
+        bytes.now m.body) }
+    ensures fault { IfErr result (λ e. (e ≡ out_of_memory)
+        ⊎ IsRefusedBy pool.now rules names.now message_type.0 bytes.now e) }
 
     // Each message is answered and each fault is reported, unless memory runs out.
     ensures accepted { (v : Message) → IsReadBy pool.now rules names.now message_type.0 bytes.now v
         → MatchResult result (λ m. m.body ≡ v) (λ e. e ≡ out_of_memory) }
-    ensures refused { (f : ReadError) → IsRefusedBy pool.now rules names.now message_type.0 bytes.now f
+    ensures refused { (f : ReadError)
+        → IsRefusedBy pool.now rules names.now message_type.0 bytes.now f
         → IsErrAnd result (λ e. (e ≡ out_of_memory) ⊎ (e ≡ f)) }
 {
     let value = read_value(alloc, bytes)?;
@@ -86,5 +92,5 @@ pub fn read_json_by<'p>(
         rules,
     };
     let body = context.read_message(message_type, &value)?;
-    within_depth(alloc, pool, message_type, body, value.at)
+    with_form(alloc, pool, message_type, body, value.at)
 }

@@ -69,7 +69,8 @@ fn double_value(form: &JsonForm) -> Option<Value>
 
 fn enum_value(context: &Context<'_>, id: EnumId, form: &JsonForm) -> Option<Value>
     requires { id.0 < length context.now.pool.now.enums }
-    ensures { IsOnly (IsEnumOf context.now.pool.now id.0 (form_view form.now)) (option_map value_view result) }
+    ensures { IsOnly (IsEnumOf context.now.pool.now id.0 (form_view form.now))
+        (option_map value_view result) }
 {
     let number = read_enum(context, id, form)?;
     Some(Value::Enum(number))
@@ -77,14 +78,16 @@ fn enum_value(context: &Context<'_>, id: EnumId, form: &JsonForm) -> Option<Valu
 
 fn closed_enum_value(context: &Context<'_>, id: EnumId, form: &JsonForm) -> Option<Value>
     requires { id.0 < length context.now.pool.now.enums }
-    ensures { IsOnly (IsClosedEnumOf context.now.pool.now id.0 (form_view form.now)) (option_map value_view result) }
+    ensures { IsOnly (IsClosedEnumOf context.now.pool.now id.0 (form_view form.now))
+        (option_map value_view result) }
 {
     let number = read_closed_enum(context, id, form)?;
     Some(Value::Enum(number))
 }
 
 fn text_value(alloc: Global, form: &JsonForm) -> Result<Option<Value>, AllocError>
-    ensures { IfOk result (λ read. IsOnly (IsText (form_view form.now)) (option_map value_view read)) }
+    ensures { IfOk result (λ read. IsOnly (IsText (form_view form.now))
+        (option_map value_view read)) }
 {
     match read_text(alloc, form)? {
         Some(text) => Ok(Some(Value::Text(text))),
@@ -93,7 +96,8 @@ fn text_value(alloc: Global, form: &JsonForm) -> Result<Option<Value>, AllocErro
 }
 
 fn bytes_value(alloc: Global, form: &JsonForm) -> Result<Option<Value>, AllocError>
-    ensures { IfOk result (λ read. IsOnly (IsBytesValue (form_view form.now)) (option_map value_view read)) }
+    ensures { IfOk result (λ read. IsOnly (IsBytesValue (form_view form.now))
+        (option_map value_view read)) }
 {
     match read_bytes(alloc, form)? {
         Some(bytes) => Ok(Some(Value::Bytes(bytes))),
@@ -107,8 +111,10 @@ pub(crate) fn read_scalar(
     kind: Kind,
     form: &JsonForm,
 ) -> Result<Option<Value>, AllocError>
-    requires { NamesType (length context.now.pool.now.messages) (length context.now.pool.now.enums) kind }
-    ensures { IfOk result (λ read. IsOnly (IsScalar context.now.pool.now kind (form_view form.now)) (option_map value_view read)) }
+    requires { NamesType (length context.now.pool.now.messages)
+        (length context.now.pool.now.enums) kind }
+    ensures { IfOk result (λ read. IsOnly (IsScalar context.now.pool.now kind (form_view form.now))
+        (option_map value_view read)) }
 {
     match kind {
         Kind::Int32 => Ok(int32_value(form)),

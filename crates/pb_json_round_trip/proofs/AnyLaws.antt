@@ -1,6 +1,7 @@
 -- What an Any is as JSON is read as the Any.
-use Rattle.std.proofs.Common.{◌≡◌, ℕ, ◌<◌, ◌^◌, Bool, true, false, cond, ◌&&◌, eqb, List, [], ◌∷◌, length, Option, Some, None, Ok, Err, inl, inr, ◌⊎◌, refl, sym, ap, ◌∙◌, subst, arith, codes, ne_eqb}
-use Rattle.std.specs.Prelude.{option_and_then, option_map}
+use Rattle.std.proofs.Common.{◌≡◌, ℕ, ◌<◌, ◌^◌, Bool, true, false, cond, ◌&&◌, eqb, List, [], ◌∷◌, length, Option, Some, None, Ok, Err, inl, inr, ◌⊎◌, refl, sym, ap, ◌∙◌, subst, arith, codes, eqb-true, ne_eqb}
+use Rattle.std.specs.Prelude.{not, option_and_then, option_map}
+use Rattle.std.proofs.lemmas.Bool.{and_parts}
 use Rattle.std.specs.Option.{option_map_or}
 use Rattle.std.specs.Path.{rsplit_once}
 use Rattle.std.proofs.lemmas.List.Elements.{All-from_recursion}
@@ -11,7 +12,7 @@ use Rattle.pb_schema.specs.Rules.{IsPool}
 use Rattle.pb_schema.specs.Scalar.{bytes, text}
 use Rattle.pb_schema.specs.Types.{FieldView, Types, message_fields}
 use Rattle.pb_value.specs.Canon.{canon_bytes}
-use Rattle.pb_value.specs.Data.{message, one, Fields, no_fields, field, Message, body}
+use Rattle.pb_value.specs.Data.{message, one, Fields, no_fields, field, Message, body, empty}
 use Rattle.pb_value.specs.WellFormed.{AreFields, IsBody, RisesFrom}
 use Rattle.pb_value.proofs.RoundTrip.{canonical_text}
 use Rattle.pb_json.specs.declared.form.Names.{Names}
@@ -26,7 +27,7 @@ use Rattle.pb_json.proofs.AnyLemmas.{encoded-is}
 use Rattle.pb_json.specs.Given.{NamesGiven}
 use Rattle.pb_json_text.specs.Json as read
 use Rattle.pb_json_read.specs.declared.rules.JsonRules.{JsonRules}
-use Rattle.pb_json_read.specs.Anys.{ReadsAnyOf, ReadsInAny, ReadsNamed, ReadsTagged, any_fields, beside, field_of, is_tag, message_beside, only_field, only_tag, tag_before, tags, value_field}
+use Rattle.pb_json_read.specs.Anys.{ReadsAnyOf, ReadsInAny, ReadsNamed, ReadsTagged, any_fields, beside, field_of, is_empty_type, is_tag, message_beside, message_held, only_field, only_tag, tag_before, tags, value_field}
 use Rattle.pb_json_read.specs.Anys as anys
 use Rattle.pb_json_read.specs.Forms.{ReadsForm}
 use Rattle.pb_json_read.specs.Names.{field_meant}
@@ -75,11 +76,21 @@ url_there : (pool : Types) (url : List ℕ) (t : ℕ) → type_meant pool url �
 url_there pool [] t e = absurd (let none = no_url pool in cc)
 url_there pool (c ∷ cs) t e = ne_eqb (length (c ∷ cs)) 0 (λ h. omega arith)
 
+no_length : {X : Type 0} (xs : List X) → length xs ≡ 0 → xs ≡ []
+no_length [] e = refl
+no_length (x ∷ xs) e = absurd (omega (arith, e))
+
+abbrev ok : Parts → Read Parts
+ok p = Ok p
+
+ok_parts : (p q : Parts) → ok p ≡ ok q → p ≡ q
+ok_parts p q e = cc
+
 plain_is_other : (w : WellKnown) → is_plain w ≡ true → w ≡ form.Other
 plain_is_other form.Other e = refl
 plain_is_other w e = absurd (cc)
 
-module _ (pool : Types) (is_pool : IsPool pool) (Inside : ℕ → Message → written.Json) (Inner : ℕ → Message → Type 0) (fs : Fields) (any : IsAny fs) (h : HoldsMessage pool Inner fs) where
+module _ (pool : Types) (is_pool : IsPool pool) (Inner : ℕ → Message → Type 0) (fs : Fields) (any : IsAny fs) (h : HoldsMessage pool Inner fs) where
   encoded_there : message_encoded pool h.message_type (bytes_at 2 fs) ≡ Some h.held
   encoded_there =
       let small : length (canon_bytes pool h.message_type h.held) < 2 ^ 31 = subst (λ (b : List ℕ). length b < 2 ^ 31) h.canonical h.small in
@@ -87,22 +98,28 @@ module _ (pool : Types) (is_pool : IsPool pool) (Inside : ℕ → Message → wr
       (subst (λ (b : List ℕ). Rattle.pb_value.specs.Derives.Text pool h.message_type Rattle.pb_wire.specs.Limits.full b h.held) (sym h.canonical)
       (canonical_text pool h.message_type h.held is_pool h.well_formed small))
 
-  -- the object of an Any that holds a message
-  any_written : any_json pool Inside fs
-      ≡ tagged (string_at 1 fs) (members_or_value (is_plain (well_known pool h.message_type)) (Inside h.message_type h.held))
-  any_written =
-      let set : is_unset fs ≡ false = ap (λ (b : Bool). b && eqb (length (bytes_at 2 fs)) 0) (url_there pool (string_at 1 fs) h.message_type h.named) in
-      let opened : any_message pool fs ≡ Some (h.message_type, h.held) =
+  pub any_set : is_unset fs ≡ false
+  any_set = ap (λ (b : Bool). b && eqb (length (bytes_at 2 fs)) 0) (url_there pool (string_at 1 fs) h.message_type h.named)
+
+  pub any_opened : any_message pool fs ≡ Some (h.message_type, h.held)
+  any_opened =
       ap (λ (o : Option ℕ). option_and_then (typed pool (bytes_at 2 fs)) o) h.named
-      ∙ ap (λ (o : Option Message). option_map (λ b. (h.message_type, b)) o) encoded_there in
-      ap (λ (b : Bool). cond b (written.object written.no_members) (option_map_or (λ x. tagged (string_at 1 fs) (members_or_value (is_plain (well_known pool x.0)) (Inside x.0 x.1))) (any_message pool fs) written.null)) set
-      ∙ ap (λ (o : Option (ℕ × Message)). option_map_or (λ x. tagged (string_at 1 fs) (members_or_value (is_plain (well_known pool x.0)) (Inside x.0 x.1))) o written.null) opened
+      ∙ ap (λ (o : Option Message). option_map (λ b. (h.message_type, b)) o) encoded_there
+
+  -- the object of an Any that holds a message
+  any_written : (Inside : ℕ → Message → written.Json)
+      → any_json pool Inside fs ≡ tagged (string_at 1 fs) (members_or_value (is_plain (well_known pool h.message_type)) (Inside h.message_type h.held))
+  any_written Inside =
+      ap (λ (b : Bool). cond b (written.object written.no_members) (option_map_or (λ x. tagged (string_at 1 fs) (members_or_value (is_plain (well_known pool x.0)) (Inside x.0 x.1))) (any_message pool fs) written.null)) any_set
+      ∙ ap (λ (o : Option (ℕ × Message)). option_map_or (λ x. tagged (string_at 1 fs) (members_or_value (is_plain (well_known pool x.0)) (Inside x.0 x.1))) o written.null) any_opened
 
 -- ---- the message in it
 
--- messages of types without a form of their own are objects
+-- messages of types without a form of their own are objects; without fields they have no members
 abbrev pub AreObjects : Types → (ℕ → Message → written.Json) → (ℕ → Message → Type 0) → Type 0
-AreObjects pool Inside Inner = (m : ℕ) (b : Message) → Inner m b → well_known pool m ≡ form.Other → IsUntagged (Inside m b)
+AreObjects pool Inside Inner =
+    (m : ℕ) (b : Message) → Inner m b → well_known pool m ≡ form.Other
+    → IsUntagged (Inside m b) × (message_fields pool m ≡ [] → Inside m b ≡ written.object written.no_members)
 
 beside_read : (pool : Types) (rules : JsonRules) (table : NamesGiven) (meant : List ℕ → Option FieldView) (rs : read.Members) (p : Parts) (o : Read Parts) → AreNoTags rs → ReadsMembers pool rules table meant p rs o
     → ReadsBeside pool rules table (beside None meant) p rs o
@@ -124,13 +141,15 @@ module _ (pool : Types) (names : Names) (table : NamesGiven) (rules : JsonRules)
     module _ (t : ℕ) (b : Message) (whole : IsBody pool t b) (inner : Inner t b) where
       -- what the members beside `@type` give
       abbrev IsGiven : Option FieldView → read.Members → Type 0
-      IsGiven f rest = (p : Parts) × ReadsBeside pool rules table (beside f (field_meant table pool t)) nothing rest (Ok p) × (message_beside f p.message ≡ Some (message_with_one_nan b))
+      IsGiven f rest =
+          (p : Parts) × ReadsBeside pool rules table (beside f (field_meant table pool t)) nothing rest (Ok p)
+          × (message_beside (is_empty_type pool t) f p.message ≡ Some (message_with_one_nan b))
 
       plain_given : (at : ℕ) (rest : read.Members) → well_known pool t ≡ form.Other → MeanMembers (members_or_value true (Inside t b)) rest → IsGiven None rest
       plain_given at rest is means = of_parts object.0 object.1 object.2
         where
           o : IsUntagged (Inside t b)
-          o = objects t b inner is
+          o = (objects t b inner is).0
 
           mean : MeanMembers o.0 rest
           mean = subst (λ (j : written.Json). MeanMembers (members_or_value true j) rest) o.1 means
@@ -171,12 +190,28 @@ module _ (pool : Types) (names : Names) (table : NamesGiven) (rules : JsonRules)
 
       untagged_by : (c : Bool) → is_plain (well_known pool t) ≡ c → AreUntagged (members_or_value c (Inside t b))
       untagged_by true is =
-          let o = objects t b inner (plain_is_other (well_known pool t) is) in subst (λ (j : written.Json). AreUntagged (members_or_value true j)) (sym o.1) o.2
+          let o = (objects t b inner (plain_is_other (well_known pool t) is)).0 in subst (λ (j : written.Json). AreUntagged (members_or_value true j)) (sym o.1) o.2
       untagged_by false is = (refl, tt)
 
-      given_by : (c : Bool) → is_plain (well_known pool t) ≡ c → (at : ℕ) (rest : read.Members) → MeanMembers (members_or_value c (Inside t b)) rest → IsGiven (only_field c t) rest
-      given_by true is at rest means = plain_given at rest (plain_is_other (well_known pool t) is) means
-      given_by false is at rest means = value_given rest means
+      -- an Empty has no members
+      empty_given : (at : ℕ) (rest : read.Members) → well_known pool t ≡ form.Other → is_empty_type pool t ≡ true → MeanMembers (members_or_value true (Inside t b)) rest
+          → IsGiven (Some (value_field t)) rest
+      empty_given at rest is empty_is means =
+          let none : message_fields pool t ≡ [] = no_length (message_fields pool t) (eqb-true (length (message_fields pool t)) 0 (and_parts _ _ empty_is).1) in
+          let bare : Inside t b ≡ written.object written.no_members = (objects t b inner is).1 none in
+          let same : rest ≡ read.no_members = subst (λ (j : written.Json). MeanMembers (members_or_value true j) rest) bare means in
+          let given_there = plain_given at read.no_members is (subst (λ (j : written.Json). MeanMembers (members_or_value true j) read.no_members) (sym bare) refl) in
+          let held : Some empty ≡ Some (message_with_one_nan b) = ap (λ (p : Parts). Some p.message) (sym (ok_parts given_there.0 nothing given_there.1)) ∙ given_there.2 in (
+            nothing,
+            subst (λ (ms : read.Members). ReadsBeside pool rules table (beside (Some (value_field t)) (field_meant table pool t)) nothing ms (Ok nothing)) (sym same) refl,
+            ap (λ (e : Bool). message_held e None) empty_is ∙ held,
+          )
+
+      given_by : (c e : Bool) → is_plain (well_known pool t) ≡ c → is_empty_type pool t ≡ e → (at : ℕ) (rest : read.Members)
+          → MeanMembers (members_or_value c (Inside t b)) rest → IsGiven (only_field (c && not e) t) rest
+      given_by true true is empty_is at rest means = empty_given at rest (plain_is_other (well_known pool t) is) empty_is means
+      given_by true false is empty_is at rest means = plain_given at rest (plain_is_other (well_known pool t) is) means
+      given_by false e is empty_is at rest means = value_given rest means
 
     -- ---- the Any
 
@@ -195,7 +230,7 @@ module _ (pool : Types) (names : Names) (table : NamesGiven) (rules : JsonRules)
       Beside meant r = ReadsBeside pool rules table meant nothing all_members r
 
       is_given : IsGiven h.message_type h.held h.well_formed.parts h.covered (field_of pool h.message_type) rest
-      is_given = given_by h.message_type h.held h.well_formed.parts h.covered (is_plain (well_known pool h.message_type)) refl at rest means
+      is_given = given_by h.message_type h.held h.well_formed.parts h.covered (is_plain (well_known pool h.message_type)) (is_empty_type pool h.message_type) refl refl at rest means
 
       in_any : ReadsInAny pool table at Beside h.message_type (Ok h.held)
       in_any = (
@@ -242,7 +277,7 @@ module _ (pool : Types) (names : Names) (table : NamesGiven) (rules : JsonRules)
           (subst (λ (i : read.Json). ReadsAnyObject pool rules table m at i (Ok (body (fields_with_one_nan fs) []))) (sym is) whole, λ null. absurd (cc (rw is at null)))
 
       held_read : IsAny fs → HoldsMessage pool Inner fs → Means (any_json pool Inside fs) j → IsAnyRead
-      held_read any h means = of_object (subst (λ (w : written.Json). Means w j) (any_written pool is_pool Inside Inner fs any h) means)
+      held_read any h means = of_object (subst (λ (w : written.Json). Means w j) (any_written pool is_pool Inner fs any h Inside) means)
         where
           of_object : Means (tagged (string_at 1 fs) (members_or_value (is_plain (well_known pool h.message_type)) (Inside h.message_type h.held))) j → IsAnyRead
           of_object (rs, is, (name_at, url_at, i, rest, e, url_is, later)) =
@@ -271,5 +306,5 @@ any_is_value pool is_pool names apt Inside Inner inner fs are rise (inl none) = 
 any_is_value pool is_pool names apt Inside Inner inner fs are rise (inr h) =
     let any = any_held pool fs are rise in
     let held = inner h.message_type h.held h.well_formed.parts h.covered in
-    subst IsJsonValue (sym (any_written pool is_pool Inside Inner fs any h))
+    subst IsJsonValue (sym (any_written pool is_pool Inner fs any h Inside))
     (ascii_utf8 (codes "@type") refl, any.url_utf8, members_value (is_plain (well_known pool h.message_type)) (Inside h.message_type h.held) held)

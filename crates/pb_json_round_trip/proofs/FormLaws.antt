@@ -48,9 +48,8 @@ use Rattle.pb_json_round_trip.specs.Scalars.{IsNoEnum, with_one_nan}
 use Rattle.pb_json_round_trip.specs.Texts.{Means}
 use Rattle.pb_json_round_trip.specs.WellKnown.{IsWrapped, choices, declared, entries, nanos, paths, seconds, values, wrapped}
 use Rattle.pb_json_round_trip.proofs.EnumLaws.{value_read}
-use Rattle.pb_json_round_trip.proofs.EntryLaws.{AreBefore}
 use Rattle.pb_json_round_trip.proofs.MaskLaws.{mask_read}
-use Rattle.pb_json_round_trip.proofs.MessageLaws.{AreReadBack, IsOfForm, elements_read, entries_read, number_found}
+use Rattle.pb_json_round_trip.proofs.MessageLaws.{AreReadBack, IsOfForm, elements_read, mapped_read, number_found}
 use Rattle.pb_json_round_trip.proofs.NanLaws.{still_default}
 use Rattle.pb_json_round_trip.proofs.ScalarLaws.{scalar_read}
 use Rattle.pb_json_round_trip.proofs.TimeLaws.{instant_read, span_read}
@@ -225,15 +224,11 @@ module _ (pool : Types) (names : Names) (table : NamesGiven) (rules : JsonRules)
       (
         Ok (entries_with_one_nan es),
         subst (λ (i : read.Json). ReadsMap pool rules table kind.Text (kind.Message v) at i (Ok (entries_with_one_nan es))) (sym e)
-            (entries_read pool names table rules is_pool named Inside Inner back kind.Text (kind.Message v) es are rise tt refl covered no_entries (first_before es) rs means),
+            (mapped_read pool names table rules is_pool named Inside Inner back kind.Text (kind.Message v) es are rise tt refl covered rs means),
         refl,
       ),
       ap field_for e,
     )
-      where
-        first_before : (es : Entries) → AreBefore no_entries es
-        first_before no_entries = tt
-        first_before (entry x d es) = tt
 
     struct_none : (v : MessageId) → ReadsSoleOf (entries v) 5 form.Struct no_fields
     struct_none v covered at j means =

@@ -32,6 +32,7 @@ pub mod FormLaws
 pub mod AnyLaws
 pub mod TagLaws
 pub mod HereLaws
+pub mod WrittenLaws
 -- the texts of messages
 pub mod MessageTexts
 -- small cases

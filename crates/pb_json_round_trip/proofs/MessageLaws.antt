@@ -33,9 +33,9 @@ use Rattle.pb_json.specs.Given.{NamesGiven}
 use Rattle.pb_json_text.specs.Json as read
 use Rattle.pb_json_read.specs.declared.rules.JsonRules.{JsonRules}
 use Rattle.pb_json_read.specs.Names.{field_meant}
-use Rattle.pb_json_read.specs.Reads.{ReadsContent, ReadsElements, ReadsEntries, ReadsList, ReadsMap, ReadsMembers, ReadsMessage, ReadsObject, ReadsValue}
+use Rattle.pb_json_read.specs.Reads.{ReadsContent, ReadsElements, ReadsEntries, ReadsList, ReadsMap, ReadsMapped, ReadsMembers, ReadsMessage, ReadsObject, ReadsValue}
 use Rattle.pb_json_read.specs.Scalars as scalars
-use Rattle.pb_json_read.specs.Steps.{Made, Parts, ReadsEntry, ReadsField, ReadsHeld, ReadsShape, has, has_null, is_absent, is_null, takes_null, with_held, with_number, with_oneof}
+use Rattle.pb_json_read.specs.Steps.{Made, Parts, ReadsEntry, ReadsField, ReadsHeld, ReadsShape, has, has_null, is_absent, is_null, takes_null, with_held, with_number, with_oneof, Entered, is_taken}
 use Rattle.pb_json_read.specs.WellKnown.{field_for, is_dynamic}
 use Rattle.pb_json_read.proofs.EntryLemmas.{under_free}
 use Rattle.pb_json_read.proofs.ReadLemmas.{after_ok, content_as, value_inside, value_plain}
@@ -44,7 +44,7 @@ use Rattle.pb_json_round_trip.specs.Messages.{AreCoveredDatums, AreCoveredEntrie
 use Rattle.pb_json_round_trip.specs.Messages.{datum_with_one_nan, datums_with_one_nan, entries_with_one_nan, fields_with_one_nan, holding_with_one_nan, message_with_one_nan}
 use Rattle.pb_json_round_trip.specs.Scalars.{IsKeyKind, with_one_nan}
 use Rattle.pb_json_round_trip.specs.Texts.{Means, MeanElements, MeanMembers}
-use Rattle.pb_json_round_trip.proofs.EntryLaws.{AreBefore, NumbersBelow, has_other, joined_entries, joined_fields, joined_more, joined_more_fields, joined_no_fields, joined_none, next_before, none_there, numbers_next, put_field_last, put_last}
+use Rattle.pb_json_round_trip.proofs.EntryLaws.{AllBelow, AreBefore, NumbersBelow, has_other, joined_entries, joined_fields, joined_more, joined_more_fields, joined_no_fields, joined_none, next_before, none_there, numbers_next, put_field_last, put_last}
 use Rattle.pb_json_round_trip.proofs.EnumLaws.{value_read}
 use Rattle.pb_json_round_trip.proofs.NanLaws.{still_default}
 use Rattle.pb_json_round_trip.proofs.ScalarLaws.{key_read}
@@ -250,29 +250,45 @@ module _ (pool : Types) (names : Names) (table : NamesGiven) (rules : JsonRules)
               (datums.joined_more before (datum_with_one_nan d) (datums_with_one_nan ds)) rest,
         )
 
-    pub entries_read : (key k : Kind) (es : Entries) → AreEntries pool key k es → KeysRise es → IsKeyKind key → closed_enum k ≡ None → AreCoveredEntries pool Inner k es
+    -- no value is passed over
+    abbrev entered : Entries → Entered
+    entered es = record { entries = es; passed = no_entries }
+
+    not_taken : (x : Scalar) (es : Entries) → AllBelow x es → is_taken x (entered es) ≡ false
+    not_taken x es below = rw (none_there x es below) refl
+
+    entries_read : (key k : Kind) (es : Entries) → AreEntries pool key k es → KeysRise es → IsKeyKind key → closed_enum k ≡ None → AreCoveredEntries pool Inner k es
         → (before : Entries) → AreBefore before es → (ms : read.Members) → MeanMembers (entries_json pool names Inside k es) ms
-        → ReadsEntries pool rules table key k before ms (Ok (joined_entries before (entries_with_one_nan es)))
+        → ReadsEntries pool rules table key k (entered before) ms (Ok (entered (joined_entries before (entries_with_one_nan es))))
     entries_read key k no_entries are rise may unclosed covered before ahead ms means =
-        subst (λ (r : read.Members). ReadsEntries pool rules table key k before r (Ok (joined_entries before no_entries))) (sym means)
-        (ap (λ (es : Entries). Ok es) (joined_none before))
+        subst (λ (r : read.Members). ReadsEntries pool rules table key k (entered before) r (Ok (entered (joined_entries before no_entries)))) (sym means)
+        (ap (λ (es : Entries). Ok (entered es)) (joined_none before))
     entries_read key k (entry x d es) are rise may unclosed covered before ahead ms (name_at, at, j, more, is, means, later) =
         let d' = datum_with_one_nan d in
         let value = datum_read k d are.1 (declared d) covered.0 at j means in
         let next = joined_entries before (entry x d' no_entries) in
-        let put : ReadsEntry key (key_name x) name_at (λ r. ReadsValue pool rules table k at j r) before (Ok next) = (
+        let put : ReadsEntry key (key_name x) name_at (λ r. ReadsValue pool rules table k at j r) (entered before) (Ok (entered next)) = (
           x,
           key_read key x may are.0,
-          under_free x name_at (λ r. ReadsValue pool rules table k at j r) before (Ok next) (none_there x before ahead)
-              (Ok (Some d'), value, ap (λ (es : Entries). Ok es) (sym (put_last x d' before ahead))),
+          under_free x name_at (λ r. ReadsValue pool rules table k at j r) (entered before) (Ok (entered next)) (not_taken x before ahead)
+              (Ok (Some d'), value, ap (λ (es : Entries). Ok (entered es)) (sym (put_last x d' before ahead))),
         ) in
         let rest = entries_read key k es are.2 rise.1 may unclosed covered.1 next (next_before x d' es before rise.0 ahead) more later in
-        subst (λ (r : read.Members). ReadsEntries pool rules table key k before r (Ok (joined_entries before (entries_with_one_nan (entry x d es))))) (sym is)
-        (Ok next, put, subst (λ (y : Entries). ReadsEntries pool rules table key k next more (Ok y)) (joined_more before x d' (entries_with_one_nan es)) rest)
+        subst (λ (r : read.Members). ReadsEntries pool rules table key k (entered before) r (Ok (entered (joined_entries before (entries_with_one_nan (entry x d es)))))) (sym is)
+        (Ok (entered next), put, subst (λ (y : Entries). ReadsEntries pool rules table key k (entered next) more (Ok (entered y))) (joined_more before x d' (entries_with_one_nan es)) rest)
       where
         declared : (d : Datum) → datum_declared pool k d ≡ true
         declared (scalar x) = rw unclosed refl
         declared (message b) = refl
+
+    pub mapped_read : (key k : Kind) (es : Entries) → AreEntries pool key k es → KeysRise es → IsKeyKind key → closed_enum k ≡ None → AreCoveredEntries pool Inner k es
+        → (ms : read.Members) → MeanMembers (entries_json pool names Inside k es) ms → ReadsMapped pool rules table key k ms (Ok (entries_with_one_nan es))
+    mapped_read key k es are rise may unclosed covered ms means =
+        (Ok (entered (entries_with_one_nan es)), entries_read key k es are rise may unclosed covered no_entries (first_before es) ms means, refl)
+      where
+        first_before : (es : Entries) → AreBefore no_entries es
+        first_before no_entries = tt
+        first_before (entry x d es) = tt
 
     -- what a field holds
     content_read : (s : Shape) (k : Kind) (h : Holding) → HasKeyKind s → MayBeValue s k → IsOfShape s h → IsHeld pool s k h → holds_declared pool k h ≡ true
@@ -303,14 +319,9 @@ module _ (pool : Types) (names : Names) (table : NamesGiven) (rules : JsonRules)
         by_shape (shape.Map key_kind_of) (map es) key may is held declared covered (ms, e, means) = (
           Ok (entries_with_one_nan es),
           subst (λ (i : read.Json). ReadsMap pool rules table key_kind_of k at i (Ok (entries_with_one_nan es))) (sym e)
-              (entries_read key_kind_of k es held.0 held.1 (key_kind key_kind_of key) (not_closed k may) covered no_entries
-              (first_before es) ms means),
+              (mapped_read key_kind_of k es held.0 held.1 (key_kind key_kind_of key) (not_closed k may) covered ms means),
           refl,
         )
-          where
-            first_before : (es : Entries) → AreBefore no_entries es
-            first_before no_entries = tt
-            first_before (entry x d es) = tt
         by_shape s h key may is held declared covered means = absurd is
 
     content_taken : (s : Shape) (k : Kind) (h : Holding) → IsOfShape s h → IsHeld pool s k h → IsCoveredHolding pool Inner k h

@@ -1,5 +1,5 @@
 -- No field's name is written as `@type`.
-use Rattle.std.proofs.Common.{◌≡◌, ℕ, zero, suc, ◌-◌, Bool, true, false, not, eqb, List, [], ◌∷◌, Option, Some, None, IfSome, IsTrue, IsUtf8, inl, inr, refl, sym, ap, subst, arith, codes, eqb-true, le-ltb, lt-ltb, ne_eqb}
+use Rattle.std.proofs.Common.{◌∙◌, ◌≡◌, ℕ, zero, suc, ◌-◌, Bool, true, false, not, eqb, List, [], ◌∷◌, Option, Some, None, IfSome, IsTrue, IsUtf8, inl, inr, refl, sym, ap, subst, arith, codes, eqb-true, le-ltb, lt-ltb, ne_eqb}
 use Rattle.std.specs.Prelude.{option_map, unwrap_or}
 use Rattle.std.specs.List.{AllByRecursion, list_all}
 use Rattle.std.proofs.lemmas.Bool.{and_parts, cases_Bool, cases_lt}
@@ -18,7 +18,7 @@ use Rattle.pb_json.specs.Given.{name_given}
 use Rattle.pb_json.specs.JsonNames.{camel_from, cased, lower_camel, member_name}
 use Rattle.pb_json.specs.Mapping.{fields_json, holding_json, in_form, maybe_member, message_here, message_json, only_json}
 use Rattle.pb_json_read.specs.Anys.{is_tag}
-use Rattle.pb_json_round_trip.specs.Messages.{AreMemberNames, IsCoveredHere, IsCoveredWithin}
+use Rattle.pb_json_round_trip.specs.Messages.{AreCoveredFields, AreMemberNames, IsCoveredHere, IsCoveredWithin}
 use Rattle.pb_json_round_trip.proofs.AnyLaws.{AreObjects, AreUntagged}
 use Rattle.pb_json_round_trip.proofs.ValueLaws.{field_word, fields_words}
 
@@ -112,15 +112,20 @@ module _ (pool : Types) (is_pool : IsPool pool) (names : Names) (apt : AreMember
       of_field (Some f) e more = (found_in (λ g. is_tag (member_name names m g) ≡ false) n (message_fields pool m) f each e, more)
 
   pub here_objects : (Inner : ℕ → Message → Type 0) → AreObjects pool (message_here pool names Inside) (IsCoveredHere pool Inner)
-  here_objects Inner m (body fs us) covered other =
+  here_objects Inner m (body fs us) (has, none, holds, known, covered) other =
+      let is_object : message_here pool names Inside m (body fs us) ≡ written.object (fields_json pool names Inside m fs) =
+      ap (λ (w : WellKnown). in_form w fs (fields_json pool names Inside m fs) (only_json pool names Inside w (message_fields pool m) fs) (any_json pool Inside fs)) other in
       let all = message_fields pool m in
       let each =
       all_as (λ f. AreWords (names_of_field f)) (λ f. is_tag (member_name names m f) ≡ false) all
       (λ f words. name_untagged names apt m f (field_word pool is_pool f words)) (fields_words pool is_pool m) in (
-        fields_json pool names Inside m fs,
-        ap (λ (w : WellKnown). in_form w fs (fields_json pool names Inside m fs) (only_json pool names Inside w all fs) (any_json pool Inside fs)) other,
-        fields_untagged m fs each,
+        (fields_json pool names Inside m fs, is_object, fields_untagged m fs each),
+        λ bare. is_object ∙ ap (λ (ms : written.Members). written.object ms) (no_members_of m fs (subst (λ (l : List FieldView). AreCoveredFields pool Inner l fs) bare covered)),
       )
+    where
+      no_members_of : (m : ℕ) (fs : Fields) → AreCoveredFields pool Inner [] fs → fields_json pool names Inside m fs ≡ written.no_members
+      no_members_of m no_fields covered = refl
+      no_members_of m (field n h fs) covered = absurd covered.0
 
 pub objects_at : (pool : Types) (is_pool : IsPool pool) (names : Names) (apt : AreMemberNames names) (levels : ℕ)
     → AreObjects pool (message_json pool names levels) (IsCoveredWithin pool levels)

@@ -112,7 +112,7 @@ module _ (layout : Layout) where
         same_word false = refl
     value levels indent (written.number d) s e fits deep here after h =
         record { value = read.number d; is = (spelled s d here after e h, fits); means = refl }
-    value levels indent (written.real f x) s (plain, parses) fits deep here after h =
+    value levels indent (written.real f x) s (plain, parses, short) fits deep here after h =
         record { value = read.number s; is = (h, real_number s plain); means = (s, refl, plain, parses) }
     value levels indent (written.plain c) s e fits deep here after h =
         record { value = read.string c; is = (c, spelled s (in_quotes c) here after e h, plain_characters c fits); means = refl }
@@ -269,7 +269,7 @@ module _ (layout : Layout) where
     value_utf8 indent written.null s e fits = rw e (ascii_utf8 (codes "null") refl)
     value_utf8 indent (written.truth b) s e fits = rw e (bool_utf8 b)
     value_utf8 indent (written.number d) s e fits = rw e (number_utf8 d fits)
-    value_utf8 indent (written.real f x) s (plain, parses) fits = number_utf8 s (real_number s plain)
+    value_utf8 indent (written.real f x) s (plain, parses, short) fits = number_utf8 s (real_number s plain)
     value_utf8 indent (written.plain c) s e fits = subst IsUtf8 (sym e) (quotes_utf8 c (plain_utf8 c fits))
     value_utf8 indent (written.string c) s e fits = subst IsUtf8 (sym e) (quotes_utf8 (flat_map string_byte c) (string_utf8 c fits))
     value_utf8 indent (written.instant z n) s (t, e, is) fits =

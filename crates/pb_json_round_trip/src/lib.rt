@@ -57,32 +57,40 @@ pub fn written_integers()
 
 /// A finite float, as any plain number that parses as it.
 pub fn written_floats()
-    ensures { (f : Format) (x : Float) (s : List ℕ) → IsPlainNumber s → parse_float f s ≡ Some x → float_is_finite x ≡ true
+    ensures { (f : Format) (x : Float) (s : List ℕ) → IsPlainNumber s → parse_float f s ≡ Some x
+        → float_is_finite x ≡ true
         → IsFloatText f s (to_bits f x) }
 {}
 
 /// Bytes in base64, in either alphabet, with padding and without it.
 pub fn written_bytes()
-    ensures standard { (bytes : List ℕ) → IsBytes bytes → base64_bytes (encode_of standard bytes) ≡ Some bytes }
-    ensures standard_no_pad { (bytes : List ℕ) → IsBytes bytes → base64_bytes (encode_of standard_no_pad bytes) ≡ Some bytes }
-    ensures url_safe { (bytes : List ℕ) → IsBytes bytes → base64_bytes (encode_of url_safe bytes) ≡ Some bytes }
-    ensures url_safe_no_pad { (bytes : List ℕ) → IsBytes bytes → base64_bytes (encode_of url_safe_no_pad bytes) ≡ Some bytes }
+    ensures standard { (bytes : List ℕ) → IsBytes bytes
+        → base64_bytes (encode_of standard bytes) ≡ Some bytes }
+    ensures standard_no_pad { (bytes : List ℕ) → IsBytes bytes
+        → base64_bytes (encode_of standard_no_pad bytes) ≡ Some bytes }
+    ensures url_safe { (bytes : List ℕ) → IsBytes bytes
+        → base64_bytes (encode_of url_safe bytes) ≡ Some bytes }
+    ensures url_safe_no_pad { (bytes : List ℕ) → IsBytes bytes
+        → base64_bytes (encode_of url_safe_no_pad bytes) ≡ Some bytes }
 {}
 
 /// A `google.protobuf.Timestamp` in range, as it is written.
 pub fn written_timestamps()
-    ensures { (seconds : ℤ) (nanos : ℕ) (s : List ℕ) → is_instant seconds (pos nanos) ≡ true → IsInstantText seconds nanos s
+    ensures { (seconds : ℤ) (nanos : ℕ) (s : List ℕ) → is_instant seconds (pos nanos) ≡ true
+        → IsInstantText seconds nanos s
         → timestamp s ≡ Some (time seconds (pos nanos)) }
 {}
 
 /// A `google.protobuf.Duration` in range, as it is written.
 pub fn written_durations()
-    ensures { (seconds nanos : ℤ) → is_span seconds nanos ≡ true → duration (span_text seconds nanos) ≡ Some (time seconds nanos) }
+    ensures { (seconds nanos : ℤ) → is_span seconds nanos ≡ true
+        → duration (span_text seconds nanos) ≡ Some (time seconds nanos) }
 {}
 
 /// A `google.protobuf.FieldMask` that can be written, and each path of it: just those that are read back from their names in lowerCamelCase.
 pub fn written_masks()
-    ensures masks { (paths : List (List ℕ)) → are_paths paths ≡ true → list_all is_utf8 paths ≡ true → mask_paths (mask_text paths) ≡ Some paths }
+    ensures masks { (paths : List (List ℕ)) → are_paths paths ≡ true → list_all is_utf8 paths ≡ true
+        → mask_paths (mask_text paths) ≡ Some paths }
     ensures one { (p : List ℕ) → is_path p ≡ true → is_utf8 p ≡ true
         → mask_paths (lower_camel p) ≡ Some (p ∷ []) }
     ensures only { (p : List ℕ) → mask_paths (lower_camel p) ≡ Some (p ∷ []) → is_path p ≡ true }
@@ -90,15 +98,18 @@ pub fn written_masks()
 
 /// A value of a kind that is no message and no enum, as its JSON value; a NaN is read as one NaN.
 pub fn written_scalars()
-    ensures { (pool : Types) (k : AnyKind) (x : Scalar) (j : Json) → IsNoEnum k → IsOfKind k x → Means (scalar_json pool k x) j
+    ensures { (pool : Types) (k : AnyKind) (x : Scalar) (j : Json) → IsNoEnum k → IsOfKind k x
+        → Means (scalar_json pool k x) j
         → IsScalar pool k j (scalar (with_one_nan x)) }
 {}
 
 /// A value of a kind that is no message, as its JSON value; a NaN is read as one NaN, and a value of `google.protobuf.NullValue` that is not 0 is
 /// not read back.
 pub fn written_values()
-    ensures { (pool : Types) → IsPool pool → (k : AnyKind) (x : Scalar) (j : Json) → IsOfKind k x → is_declared pool k x ≡ true
-        → (is_null_enum pool k ≡ true → x ≡ enum (pos 0)) → Means (scalar_json pool k x) j → IsScalar pool k j (scalar (with_one_nan x)) }
+    ensures { (pool : Types) → IsPool pool → (k : AnyKind) (x : Scalar) (j : Json) → IsOfKind k x
+        → is_declared pool k x ≡ true
+        → (is_null_enum pool k ≡ true → x ≡ enum (pos 0)) → Means (scalar_json pool k x) j
+        → IsScalar pool k j (scalar (with_one_nan x)) }
 {}
 
 /// A key of a map, as the name of a member.
@@ -108,7 +119,8 @@ pub fn written_keys()
 
 /// A JSON value, as its text in either layout.
 pub fn written_texts()
-    ensures { (layout : AnyLayout) (j : written.Json) (text : List ℕ) → IsJsonValue j → json_depth j ≤ 100 → IsJsonText layout 0 j text
+    ensures { (layout : AnyLayout) (j : written.Json) (text : List ℕ) → IsJsonValue j
+        → json_depth j ≤ 100 → IsJsonText layout 0 j text
         → (v : Placed) × IsJson v text × Means j v.1 }
 {}
 
@@ -117,24 +129,30 @@ pub fn written_texts()
 /// message have one name, and none is declared by that of another.
 pub fn written_names()
     ensures declared { (pool : Types) → IsPool pool → NamesAreRead Declared none_given pool }
-    ensures declared_beside_given { (pool : Types) (given : NamesGiven) → IsPool pool → GivenApart given pool
+    ensures declared_beside_given { (pool : Types) (given : NamesGiven) → IsPool pool
+        → GivenApart given pool
         → NamesAreRead Declared given pool }
-    ensures lower_camel { (pool : Types) → CamelNamesDiffer pool → NamesAreRead LowerCamel none_given pool }
+    ensures lower_camel { (pool : Types) → CamelNamesDiffer pool
+        → NamesAreRead LowerCamel none_given pool }
     ensures given { (pool : Types) → GivenNamesAreRead pool }
 {}
 
 /// A message that is covered, as its JSON value; each NaN is read as one NaN.
 pub fn read_messages()
-    ensures { (pool : Types) (names : AnyNames) (given : NamesGiven) (rules : AnyRules) → IsPool pool → AreMemberNames names
-        → NamesAreRead names given pool → (levels m : ℕ) (b : Message) → IsBody pool m b → IsCoveredWithin pool levels m b → (at : ℕ) (j : Json)
+    ensures { (pool : Types) (names : AnyNames) (given : NamesGiven) (rules : AnyRules)
+        → IsPool pool → AreMemberNames names
+        → NamesAreRead names given pool → (levels m : ℕ) (b : Message) → IsBody pool m b
+        → IsCoveredWithin pool levels m b → (at : ℕ) (j : Json)
         → Means (message_json pool names levels m b) j
         → ReadsMessage pool rules given m at j (Ok (message_with_one_nan b)) }
 {}
 
 /// A message that is covered, as its text in each form. It nests at most 100 arrays and objects, and each NaN is read as one NaN.
 pub fn written_messages()
-    ensures { (pool : Types) (form : AnyForm) (given : NamesGiven) (rules : AnyRules) → IsPool pool → AreMemberNames form.names
-        → NamesAreRead form.names given pool → (m : ℕ) (b : Message) → IsWellFormed pool m b → IsCovered pool m b
+    ensures { (pool : Types) (form : AnyForm) (given : NamesGiven) (rules : AnyRules) → IsPool pool
+        → AreMemberNames form.names
+        → NamesAreRead form.names given pool → (m : ℕ) (b : Message) → IsWellFormed pool m b
+        → IsCovered pool m b
         → json_depth (message_json pool form.names 101 m b) ≤ 100
         → (text : List ℕ) → IsJsonText form.layout 0 (message_json pool form.names 101 m b) text
         → IsReadBy pool rules given m text (message_with_one_nan b) }

@@ -3,7 +3,7 @@ use Rattle.std.proofs.Common.{◌≡◌, ℕ, ◌+◌, List, [], ◌∷◌, ◌+
 use Rattle.std.specs.List.{list_any, enumerate_from}
 use Rattle.std.specs.Str.{bytes_eq}
 use Rattle.pb_schema.specs.Types.{FileView, Types}
-use Rattle.pb_declarations.specs.Decls.{message, messages_of}
+use Rattle.pb_declarations.specs.Decls.{messages_of}
 use Rattle.pb_link_names.specs.Declarations.{Declaration, enums_declared, messages_declared, file_declared, files_declared}
 use Rattle.pb_link_names.proofs.NameSetsLemmas.{any_append}
 use Rattle.pb_link_rules.proofs.FileRowLemmas.{NamesFile, none_append, no_file_enums, no_file_messages}

@@ -13,9 +13,9 @@ use Rattle.pb_schema.specs.Nesting.{parent_of, itself, deeper}
 use Rattle.pb_schema.specs.Types.{FieldView, MessageView, EnumView, FileView, Types, is_proto2, proto2_of}
 use Rattle.pb_schema.specs.Rules.{IsPool, AreWords, MessageIsOfWords, EnumIsOfWords, HasKeyKind, MayBeValue, MayStandIn}
 use Rattle.pb_declarations.specs.Decls.{DeclaredMessage, messages_of}
-use Rattle.pb_descr.specs.Causes.{set_causes}
-use Rattle.pb_descr.specs.Writing.{set_body}
-use Rattle.pb_descr.proofs.SilentLemmas.{IsNamed, has_type, IsSilentField, IsSilentEnum, IsSilentHead, IsSilentMessage, AreSilentMessages, IsSilentFile, silent_set}
+use Rattle.pb_descr_message.specs.Causes.{set_causes}
+use Rattle.pb_descr_message.specs.Writing.{set_body}
+use Rattle.pb_descr_message.proofs.SilentLemmas.{IsNamed, has_type, IsSilentField, IsSilentEnum, IsSilentHead, IsSilentMessage, AreSilentMessages, IsSilentFile, silent_set}
 use Rattle.pb_link.specs.ToDecls.{code_of_kind, code_of_field, is_optional_view, declared_fields, synthetic_names, entry_message, entry_of_field, declared_enum, is_parent, is_outermost, messages_in, declared_head, declared_message, outermost_messages, declared_file, decls_of}
 use Rattle.pb_link.proofs.ForestLemmas.{all_append, all_each}
 use Rattle.pb_link.proofs.FlatLemmas.{Stands, all_numbered, all_filtered, children}

@@ -14,10 +14,10 @@ ghost use Rattle.pb_schema.specs.View.{file_view as view_of_file};
 ghost use Rattle.pb_schema.specs.Names.{name_at};
 ghost use Rattle.pb_schema.specs.Rules.{IsPool};
 ghost use Rattle.pb_declarations.specs.View.{file_view};
-ghost use Rattle.pb_descr.specs.Causes.{set_causes};
-ghost use Rattle.pb_descr.specs.Sets.{IsSetOf, set_bytes};
-ghost use Rattle.pb_descr.specs.Writable.{IsWithinLimits};
-ghost use Rattle.pb_descr.specs.Writing.{set_body};
+ghost use Rattle.pb_descr_message.specs.Causes.{set_causes};
+ghost use Rattle.pb_descr_message.specs.Sets.{IsSetOf, set_bytes};
+ghost use Rattle.pb_descr_message.specs.Writable.{IsWithinLimits};
+ghost use Rattle.pb_descr_message.specs.Writing.{set_body};
 ghost use Rattle.pb_link_rules.specs.declared.error.LinkError.TheVariants.{Memory};
 ghost use Rattle.pb_link.specs.Linking.{Links};
 ghost use Rattle.pb_link.specs.ToDecls.{numbered, declared_file, decls_of};
@@ -25,14 +25,15 @@ ghost use Rattle.pb_link.specs.Nested.{inside_view, inside_file};
 
 use crate::declaring::nesting::{Inside, nested};
 use pb_declarations::FileDecl;
-use pb_descr::laws::{set_back, writable};
+use pb_descr_message::laws::{set_back, writable};
 use pb_link_rules::LinkError;
 use pb_schema::{FileInfo, Pool};
 use std::alloc::{AllocError, Global};
 
 /// The name of an imported file.
 fn import_name(alloc: Global, files: &[FileInfo], import: usize) -> Result<String, AllocError>
-    ensures { IfOk result (λ s. string_bytes s ≡ name_at (map (λ f. f.name) (map view_of_file files.now)) import) }
+    ensures { IfOk result (λ s. string_bytes s
+        ≡ name_at (map (λ f. f.name) (map view_of_file files.now)) import) }
 {
     match files.get(import) {
         Some(file) => {
@@ -49,7 +50,8 @@ fn import_names(
     files: &[FileInfo],
     imports: &[usize],
 ) -> Result<Vec<String>, AllocError>
-    ensures { IfOk result (λ v. map string_bytes v.items ≡ map (name_at (map (λ f. f.name) (map view_of_file files.now))) imports.now) }
+    ensures { IfOk result (λ v. map string_bytes v.items
+        ≡ map (name_at (map (λ f. f.name) (map view_of_file files.now))) imports.now) }
 {
     let mut names = Vec::with_capacity(alloc, imports.len())?;
     for import in imports {
@@ -79,8 +81,10 @@ fn file_decl(
     inside: Inside,
 ) -> Result<FileDecl, AllocError>
     requires within { index < length pool.now.files }
-    requires inside { inside_view inside ≡ inside_file pool.now (numbered pool.now) pool.now.enums index }
-    ensures { IfOk result (λ d. (f : FileView) → slice_get pool.now.files index ≡ Some f → file_view d ≡ declared_file pool.now (index, f)) }
+    requires inside { inside_view inside ≡ inside_file pool.now
+        (numbered pool.now) pool.now.enums index }
+    ensures { IfOk result (λ d. (f : FileView) → slice_get pool.now.files index ≡ Some f
+        → file_view d ≡ declared_file pool.now (index, f)) }
 {
     let file = &pool.files()[index];
     let name = file.name.clone()?;
@@ -128,7 +132,8 @@ pub fn to_decls(alloc: Global, pool: &Pool) -> Result<Vec<FileDecl>, LinkError>
     ensures decls { IfOk result (λ v. map file_view v.items ≡ decls_of pool.now) }
     ensures linked { IfOk result (λ v. Links (map file_view v.items) pool.now) }
     ensures silent { IfOk result (λ v. set_causes (set_body (map file_view v.items)) ≡ []) }
-    ensures set { IfOk result (λ v. IsWithinLimits (map file_view v.items) → IsSetOf full (set_bytes (map file_view v.items)) (map file_view v.items)) }
+    ensures set { IfOk result (λ v. IsWithinLimits (map file_view v.items)
+        → IsSetOf full (set_bytes (map file_view v.items)) (map file_view v.items)) }
     ensures refused { IfErr result (λ e. e ≡ Memory) }
 {
     let decls = pool_decls(alloc, pool)?;

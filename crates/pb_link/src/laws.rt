@@ -20,7 +20,8 @@ pub fn linked_types()
 
 /// Resolved files have a type number at each field, and each of their type names is a dot and the full name of a type that they declare.
 pub fn resolved_types()
-    ensures typed { (files answer : List DeclaredFile) → Resolves files answer → AllByRecursion (IsTypedFile (declarations files)) answer }
+    ensures typed { (files answer : List DeclaredFile) → Resolves files answer
+        → AllByRecursion (IsTypedFile (declarations files)) answer }
 {}
 
 /// Files make one pool, or have one fault, with its file, its declaration and its cause: never both, never two, always one.

@@ -26,11 +26,14 @@ use std::alloc::Global;
 /// The same files with every type number set and every type name written in full after a leading dot, if every rule of linking
 /// holds. Else the first fault, as `link` reports it.
 pub fn resolve(alloc: Global, files: &[FileDecl]) -> Result<Vec<FileDecl>, LinkError>
-    ensures resolved { IfOk result (λ v. Resolves (map file_view files.now) (map file_view v.items)) }
+    ensures resolved { IfOk result
+        (λ v. Resolves (map file_view files.now) (map file_view v.items)) }
     ensures refused { IfErr result (IsUnlinked (map file_view files.now)) }
     ensures accepted { (answer : List DeclaredFile) → Resolves (map file_view files.now) answer
         → MatchResult result (λ v. map file_view v.items ≡ answer) (λ e. e ≡ Memory) }
-    ensures fault { (file name : List ℕ) (c : CauseValue) → LinkFault (map file_view files.now) file name c → IsErrAnd result (TellsLinkFault file name c) }
+    ensures fault { (file name : List ℕ) (c : CauseValue)
+        → LinkFault (map file_view files.now) file name c
+        → IsErrAnd result (TellsLinkFault file name c) }
 {
     match judge_files(alloc, files) {
         Ok(judged) => {

@@ -15,7 +15,8 @@ use std::num::{f32_from_bits_with_nan, f64_from_bits_with_nan};
 
 /// A `float` by its bits.
 pub(crate) fn put_float<O: Output>(sink: &mut Sink, out: &mut O, form: FloatForm, bits: u32)
-    ensures { (names : List (List ℕ × ℤ)) → PutsSome O.written O.failures out.old out.new sink.old sink.new
+    ensures { (names : List (List ℕ × ℤ))
+        → PutsSome O.written O.failures out.old out.new sink.old sink.new
         (IsScalarText form names (float bits)) }
 {
     match form {
@@ -26,7 +27,8 @@ pub(crate) fn put_float<O: Output>(sink: &mut Sink, out: &mut O, form: FloatForm
 
 /// A `double` by its bits.
 pub(crate) fn put_double<O: Output>(sink: &mut Sink, out: &mut O, form: FloatForm, bits: u64)
-    ensures { (names : List (List ℕ × ℤ)) → PutsSome O.written O.failures out.old out.new sink.old sink.new
+    ensures { (names : List (List ℕ × ℤ))
+        → PutsSome O.written O.failures out.old out.new sink.old sink.new
         (IsScalarText form names (double bits)) }
 {
     match form {
@@ -38,7 +40,8 @@ pub(crate) fn put_double<O: Output>(sink: &mut Sink, out: &mut O, form: FloatFor
 /// The bits of a float, the highest first.
 fn put_bits<O: Output>(sink: &mut Sink, out: &mut O, bytes: &[u8])
     requires { length bytes.now ≤ 8 }
-    ensures { Puts O.written O.failures out.old out.new sink.old sink.new (codes "0x" ++ encode_lower bytes.now) }
+    ensures { Puts O.written O.failures out.old out.new sink.old sink.new
+        (codes "0x" ++ encode_lower bytes.now) }
 {
     sink.reserve(out, 18);
     sink.held.push(b"0x");
@@ -46,7 +49,8 @@ fn put_bits<O: Output>(sink: &mut Sink, out: &mut O, bytes: &[u8])
 }
 
 fn put_float_decimal<O: Output>(sink: &mut Sink, out: &mut O, bits: u32)
-    ensures { PutsSome O.written O.failures out.old out.new sink.old sink.new (IsDecimal binary32 13 5 (from_bits binary32 bits)) }
+    ensures { PutsSome O.written O.failures out.old out.new sink.old sink.new
+        (IsDecimal binary32 13 5 (from_bits binary32 bits)) }
 {
     let number = f32_from_bits_with_nan(bits);
     if number.is_nan() {
@@ -57,7 +61,8 @@ fn put_float_decimal<O: Output>(sink: &mut Sink, out: &mut O, bits: u32)
 }
 
 fn put_double_decimal<O: Output>(sink: &mut Sink, out: &mut O, bits: u64)
-    ensures { PutsSome O.written O.failures out.old out.new sink.old sink.new (IsDecimal binary64 16 4 (from_bits binary64 bits)) }
+    ensures { PutsSome O.written O.failures out.old out.new sink.old sink.new
+        (IsDecimal binary64 16 4 (from_bits binary64 bits)) }
 {
     let number = f64_from_bits_with_nan(bits);
     if number.is_nan() {

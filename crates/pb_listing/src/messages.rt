@@ -40,7 +40,8 @@ pub fn write_message<O: Output>(
     out: &mut O,
     message: &DynamicMessage<'_>,
 ) -> Result<(), DeviceFault>
-    ensures { MatchResult result (λ _. Sent O.written O.failures out.old out.new (listing message.now))
+    ensures { MatchResult result
+        (λ _. Sent O.written O.failures out.old out.new (listing message.now))
         (λ _. Cut O.written O.failures out.old out.new (listing message.now)) }
 {
     write_message_as(out, message, FloatForm::Bits)
@@ -52,7 +53,8 @@ pub fn write_message_as<O: Output>(
     message: &DynamicMessage<'_>,
     floats: FloatForm,
 ) -> Result<(), DeviceFault>
-    ensures { MatchResult result (λ _. SentSome O.written O.failures out.old out.new (IsListing floats message.now))
+    ensures { MatchResult result
+        (λ _. SentSome O.written O.failures out.old out.new (IsListing floats message.now))
         (λ _. CutSome O.written O.failures out.old out.new (IsListing floats message.now)) }
 {
     let mut sink = Sink::new();
@@ -68,7 +70,8 @@ pub fn put_listing_at<O: Output>(
     message: &DynamicMessage<'_>,
 )
     requires { level ≤ 1 }
-    ensures { Puts O.written O.failures out.old out.new sink.old sink.new (listing_at level message.now) }
+    ensures { Puts O.written O.failures out.old out.new sink.old sink.new
+        (listing_at level message.now) }
 {
     put_listing_as(sink, out, level, message, FloatForm::Bits);
 }
@@ -82,7 +85,8 @@ pub fn put_listing_as<O: Output>(
     floats: FloatForm,
 )
     requires { level ≤ 1 }
-    ensures { PutsSome O.written O.failures out.old out.new sink.old sink.new (IsListingAt floats level message.now) }
+    ensures { PutsSome O.written O.failures out.old out.new sink.old sink.new
+        (IsListingAt floats level message.now) }
 {
     let context = Context {
         pool: message.pool(),
@@ -112,7 +116,8 @@ fn put_message<O: Output>(
     requires within { message_type.0 < length context.now.pool.now.messages }
     ensures { level + message_depth (body_view body.now) ≤ 101
         → PutsSome O.written O.failures out.old out.new sink.old sink.new
-        (AreMessageLines context.now.floats context.now.pool.now level message_type.0 (body_view body.now)) }
+        (AreMessageLines context.now.floats context.now.pool.now level message_type.0
+        (body_view body.now)) }
 {
     put_fields(sink, out, level, context, message_type, &body.fields);
     put_unknown(sink, out, level, &body.unknown);
@@ -131,7 +136,8 @@ fn put_fields<O: Output>(
     requires within { message_type.0 < length context.now.pool.now.messages }
     ensures { level + fields_depth (fields_view fields.now.entries) ≤ 101
         → PutsSome O.written O.failures out.old out.new sink.old sink.new
-        (AreFieldsLines context.now.floats context.now.pool.now level (message_fields context.now.pool.now message_type.0) (fields_view fields.now.entries)) }
+        (AreFieldsLines context.now.floats context.now.pool.now level
+        (message_fields context.now.pool.now message_type.0) (fields_view fields.now.entries)) }
 {
     for (number, content) in fields {
         if context.is_over(sink) {
@@ -153,10 +159,12 @@ fn put_content<O: Output>(
     content: &Content,
 )
     requires low { level ≤ 101 }
-    requires kind { NamesType (length context.now.pool.now.messages) (length context.now.pool.now.enums) field.now.kind }
+    requires kind { NamesType (length context.now.pool.now.messages)
+        (length context.now.pool.now.enums) field.now.kind }
     ensures { level + holding_depth (content_view content.now) ≤ 101
         → PutsSome O.written O.failures out.old out.new sink.old sink.new
-        (AreHoldingLines context.now.floats context.now.pool.now level (field_view field.now) (content_view content.now)) }
+        (AreHoldingLines context.now.floats context.now.pool.now level (field_view field.now)
+        (content_view content.now)) }
 {
     let name = field.name.as_str();
     match content {
@@ -181,10 +189,12 @@ fn put_values<O: Output>(
     values: &Vec<Value>,
 )
     requires low { level ≤ 101 }
-    requires kind { NamesType (length context.now.pool.now.messages) (length context.now.pool.now.enums) kind }
+    requires kind { NamesType (length context.now.pool.now.messages)
+        (length context.now.pool.now.enums) kind }
     ensures { level + datums_depth (values_view values.now.items) ≤ 101
         → PutsSome O.written O.failures out.old out.new sink.old sink.new
-        (AreEachLines context.now.floats context.now.pool.now level kind name.now (values_view values.now.items)) }
+        (AreEachLines context.now.floats context.now.pool.now level kind name.now
+        (values_view values.now.items)) }
 {
     for value in values {
         if context.is_over(sink) {
@@ -207,10 +217,12 @@ fn put_entries<O: Output>(
     entries: &BTreeMap<MapKey, Value>,
 )
     requires low { level ≤ 101 }
-    requires kind { NamesType (length context.now.pool.now.messages) (length context.now.pool.now.enums) kind }
+    requires kind { NamesType (length context.now.pool.now.messages)
+        (length context.now.pool.now.enums) kind }
     ensures { level + entries_depth (entries_view entries.now.entries) ≤ 101
         → PutsSome O.written O.failures out.old out.new sink.old sink.new
-        (AreEntriesLines context.now.floats context.now.pool.now level kind name.now (entries_view entries.now.entries)) }
+        (AreEntriesLines context.now.floats context.now.pool.now level kind name.now
+        (entries_view entries.now.entries)) }
 {
     for (key, value) in entries {
         if context.is_over(sink) {
@@ -236,10 +248,12 @@ fn put_value<O: Output>(
     value: &Value,
 )
     requires low { level ≤ 101 }
-    requires kind { NamesType (length context.now.pool.now.messages) (length context.now.pool.now.enums) kind }
+    requires kind { NamesType (length context.now.pool.now.messages)
+        (length context.now.pool.now.enums) kind }
     ensures { level + levels_of (value_view value.now) ≤ 101
         → PutsSome O.written O.failures out.old out.new sink.old sink.new
-        (AreDatumLines context.now.floats context.now.pool.now level kind (label_text label.entry) (value_view value.now)) }
+        (AreDatumLines context.now.floats context.now.pool.now level kind (label_text label.entry)
+        (value_view value.now)) }
 {
     let Value::Message(body) = value else {
         put_scalar_line(sink, out, level, context, kind, label, value);
@@ -261,10 +275,12 @@ fn put_inside<O: Output>(
     body: &Body,
 )
     requires low { level ≤ 101 }
-    requires kind { NamesType (length context.now.pool.now.messages) (length context.now.pool.now.enums) kind }
+    requires kind { NamesType (length context.now.pool.now.messages)
+        (length context.now.pool.now.enums) kind }
     ensures { level + suc (message_depth (body_view body.now)) ≤ 101
         → PutsSome O.written O.failures out.old out.new sink.old sink.new
-        (AreLinesInside context.now.floats context.now.pool.now level (message_of_kind kind) (body_view body.now)) }
+        (AreLinesInside context.now.floats context.now.pool.now level (message_of_kind kind)
+        (body_view body.now)) }
 {
     let Some(id) = kind.message() else { return };
     // No message nests so deep.
@@ -284,9 +300,11 @@ fn put_scalar_line<O: Output>(
     value: &Value,
 )
     requires low { level ≤ 101 }
-    requires kind { NamesType (length context.now.pool.now.messages) (length context.now.pool.now.enums) kind }
+    requires kind { NamesType (length context.now.pool.now.messages)
+        (length context.now.pool.now.enums) kind }
     ensures { PutsSome O.written O.failures out.old out.new sink.old sink.new
-        (AreScalarLines context.now.floats context.now.pool.now level kind (label_text label.entry) (value_view value.now)) }
+        (AreScalarLines context.now.floats context.now.pool.now level kind (label_text label.entry)
+        (value_view value.now)) }
 {
     put_label(sink, out, level, label);
     sink.put(out, b": ");
@@ -306,7 +324,8 @@ fn put_start<O: Output>(sink: &mut Sink, out: &mut O, level: usize, label: Label
 /// A label, indented.
 fn put_label<O: Output>(sink: &mut Sink, out: &mut O, level: usize, label: Label<'_>)
     requires { level ≤ 101 }
-    ensures { Puts O.written O.failures out.old out.new sink.old sink.new (indent level ++ label_text label.entry) }
+    ensures { Puts O.written O.failures out.old out.new sink.old sink.new
+        (indent level ++ label_text label.entry) }
 {
     sink.reserve(out, 202);
     push_indent(&mut sink.held, level);

@@ -25,8 +25,9 @@ use pb_wire::{DeviceFault, Limits, MAX_DEPTH, Output, Payload, RecordIter};
 /// once. No memory is allocated.
 pub fn write_nested<O: Output>(out: &mut O, bytes: &[u8]) -> Result<(), DeviceFault>
     ensures { (rs : List Record) → IsText blank tt full bytes.now rs
-        → MatchResult result (λ _. SentSome O.written O.failures out.old out.new (IsNestedListing rs))
-        (λ _. CutSome O.written O.failures out.old out.new (IsNestedListing rs)) }
+        → MatchResult result (λ _. SentSome O.written O.failures out.old out.new
+        (IsNestedListing rs)) (λ _. CutSome O.written O.failures out.old out.new
+        (IsNestedListing rs)) }
 {
     let mut sink = Sink::new();
     put_nested(&mut sink, out, 0, bytes);
@@ -38,7 +39,8 @@ pub fn write_nested<O: Output>(out: &mut O, bytes: &[u8]) -> Result<(), DeviceFa
 fn put_nested<O: Output>(sink: &mut Sink, out: &mut O, level: usize, bytes: &[u8])
     requires { level ≤ 100 }
     ensures { (rs : List Record) → IsText blank tt (limits_inside level) bytes.now rs
-        → PutsSome O.written O.failures out.old out.new sink.old sink.new (AreNestedLines level (group_of rs)) }
+        → PutsSome O.written O.failures out.old out.new sink.old sink.new
+        (AreNestedLines level (group_of rs)) }
 {
     for item in RecordIter::new(bytes, Limits::FULL) {
         let Ok((number, payload)) = item else { break };
@@ -56,7 +58,8 @@ fn put_nested_record<O: Output>(
 )
     requires { level ≤ 100 }
     ensures { (r : Record) → IsBorrowed level r (number, seen payload.entry)
-        → PutsSome O.written O.failures out.old out.new sink.old sink.new (AreRecordLines level r.number r.payload) }
+        → PutsSome O.written O.failures out.old out.new sink.old sink.new
+        (AreRecordLines level r.number r.payload) }
 {
     match payload {
         // No message nests so deep.
@@ -78,7 +81,8 @@ fn put_nested_record<O: Output>(
 fn put_payload<O: Output>(sink: &mut Sink, out: &mut O, level: usize, number: u32, bytes: &[u8])
     requires { level ≤ 100 }
     ensures { (r : Record) → IsBorrowed level r (number, len bytes.now)
-        → PutsSome O.written O.failures out.old out.new sink.old sink.new (AreRecordLines level r.number r.payload) }
+        → PutsSome O.written O.failures out.old out.new sink.old sink.new
+        (AreRecordLines level r.number r.payload) }
 {
     if level == MAX_DEPTH as usize {
         put_len_line(sink, out, level, b"", number, bytes);

@@ -43,7 +43,8 @@ pub fn write_listing<O: Output>(out: &mut O, bytes: &[u8]) -> Result<(), DeviceF
 fn put_listing<O: Output>(sink: &mut Sink, out: &mut O, level: usize, bytes: &[u8])
     requires { level ≤ 100 }
     ensures { (rs : List Record) → IsText blank tt (limits_inside level) bytes.now rs
-        → Puts O.written O.failures out.old out.new sink.old sink.new (group_lines level (group_of rs)) }
+        → Puts O.written O.failures out.old out.new sink.old sink.new
+        (group_lines level (group_of rs)) }
 {
     for item in RecordIter::new(bytes, Limits::FULL) {
         if sink.has_failed() {
@@ -64,7 +65,8 @@ pub(crate) fn put_record_lines<O: Output>(
 )
     requires { level ≤ 100 }
     ensures { (r : Record) → IsBorrowed level r (number, seen payload.entry)
-        → Puts O.written O.failures out.old out.new sink.old sink.new (record_lines [] level r.number r.payload) }
+        → Puts O.written O.failures out.old out.new sink.old sink.new
+        (record_lines [] level r.number r.payload) }
 {
     match payload {
         Payload::Varint(value) => put_varint_line(sink, out, level, b"", number, value),
@@ -155,7 +157,8 @@ pub(crate) fn put_len_line<O: Output>(
     requires low { level ≤ 101 }
     requires mark { length mark.now ≤ 2 }
     ensures { Puts O.written O.failures out.old out.new sink.old sink.new
-        (line level (mark.now ++ decimal number ++ codes " len " ++ decimal (length bytes.now) ++ shown_bytes bytes.now)) }
+        (line level (mark.now ++ decimal number ++ codes " len " ++ decimal (length bytes.now)
+        ++ shown_bytes bytes.now)) }
 {
     sink.reserve(out, LINE);
     push_start(&mut sink.held, level, mark, number, b" len ");
@@ -214,7 +217,8 @@ pub(crate) fn push_start(
     requires low { level ≤ 101 }
     requires mark { length mark.now ≤ 2 }
     requires fits { length buffer.old + 224 + length word.now ≤ 4096 }
-    ensures after { buffer.new ≡ buffer.old ++ (indent level ++ (mark.now ++ decimal number ++ word.now)) }
+    ensures after { buffer.new
+        ≡ buffer.old ++ (indent level ++ (mark.now ++ decimal number ++ word.now)) }
     ensures len { length buffer.new ≤ length buffer.old + 224 + length word.now }
 {
     push_indent(buffer, level);

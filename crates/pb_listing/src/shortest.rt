@@ -21,8 +21,10 @@ use pb_wire::{DeviceFault, Limits, MAX_DEPTH, Output, Payload, RecordIter, put_v
 /// takes within `Limits::FULL`, as for `write_listing`. An error says that the output failed, after a beginning of the line.
 pub fn write_shortest<O: Output>(out: &mut O, bytes: &[u8]) -> Result<(), DeviceFault>
     ensures { (rs : List Record) → IsText blank tt full bytes.now rs
-        → MatchResult result (λ _. Sent O.written O.failures out.old out.new (encode_lower (shortest_records rs) ++ line_feed))
-        (λ _. Cut O.written O.failures out.old out.new (encode_lower (shortest_records rs) ++ line_feed)) }
+        → MatchResult result (λ _. Sent O.written O.failures out.old out.new
+        (encode_lower (shortest_records rs) ++ line_feed))
+        (λ _. Cut O.written O.failures out.old out.new
+        (encode_lower (shortest_records rs) ++ line_feed)) }
 {
     let mut sink = Sink::new();
     put_records(&mut sink, out, 0, bytes);
@@ -35,7 +37,8 @@ pub fn write_shortest<O: Output>(out: &mut O, bytes: &[u8]) -> Result<(), Device
 fn put_records<O: Output>(sink: &mut Sink, out: &mut O, level: u8, bytes: &[u8])
     requires { level ≤ 100 }
     ensures { (rs : List Record) → IsText blank tt (limits_inside level) bytes.now rs
-        → Puts O.written O.failures out.old out.new sink.old sink.new (encode_lower (shortest_records rs)) }
+        → Puts O.written O.failures out.old out.new sink.old sink.new
+        (encode_lower (shortest_records rs)) }
 {
     for item in RecordIter::new(bytes, Limits::FULL) {
         if sink.has_failed() {
@@ -50,7 +53,8 @@ fn put_records<O: Output>(sink: &mut Sink, out: &mut O, level: u8, bytes: &[u8])
 fn put_record<O: Output>(sink: &mut Sink, out: &mut O, level: u8, number: u32, payload: Payload<'_>)
     requires { level ≤ 100 }
     ensures { (r : Record) → IsBorrowed level r (number, seen payload.entry)
-        → Puts O.written O.failures out.old out.new sink.old sink.new (encode_lower (shortest_record r.number r.payload)) }
+        → Puts O.written O.failures out.old out.new sink.old sink.new
+        (encode_lower (shortest_record r.number r.payload)) }
 {
     match payload {
         Payload::Varint(value) => {
@@ -83,7 +87,8 @@ fn put_record<O: Output>(sink: &mut Sink, out: &mut O, level: u8, number: u32, p
 /// A number as the shortest varint. Most numbers are one byte.
 #[inline]
 fn put_number<O: Output>(sink: &mut Sink, out: &mut O, number: u64)
-    ensures { Puts O.written O.failures out.old out.new sink.old sink.new (encode_lower (shortest number)) }
+    ensures { Puts O.written O.failures out.old out.new sink.old sink.new
+        (encode_lower (shortest number)) }
 {
     sink.reserve(out, 20);
     if number < 0x80 {
@@ -97,7 +102,8 @@ fn put_number<O: Output>(sink: &mut Sink, out: &mut O, number: u64)
 #[inline]
 fn put_tag<O: Output>(sink: &mut Sink, out: &mut O, number: u32, wire_type: u64)
     requires { wire_type < 6 }
-    ensures { Puts O.written O.failures out.old out.new sink.old sink.new (encode_lower (shortest (8 * number + wire_type))) }
+    ensures { Puts O.written O.failures out.old out.new sink.old sink.new
+        (encode_lower (shortest (8 * number + wire_type))) }
 {
     put_number(sink, out, 8 * u64::from(number) + wire_type);
 }

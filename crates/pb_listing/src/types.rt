@@ -22,7 +22,8 @@ use pb_wire::{DeviceFault, Output};
 /// Writes what a pool declares, one line for each file, message type, field, enum and value, in declaration order. An error says that
 /// the output failed, after a beginning of the listing.
 pub fn write_types<O: Output>(out: &mut O, pool: &Pool) -> Result<(), DeviceFault>
-    ensures { MatchResult result (λ _. Sent O.written O.failures out.old out.new (types_listing pool.now))
+    ensures { MatchResult result
+        (λ _. Sent O.written O.failures out.old out.new (types_listing pool.now))
         (λ _. Cut O.written O.failures out.old out.new (types_listing pool.now)) }
 {
     let mut sink = Sink::new();
@@ -40,7 +41,8 @@ pub fn put_types<O: Output>(sink: &mut Sink, out: &mut O, pool: &Pool)
 }
 
 fn put_files<O: Output>(sink: &mut Sink, out: &mut O, files: &[FileInfo])
-    ensures { Puts O.written O.failures out.old out.new sink.old sink.new (flat_map file_line (map file_view files.now)) }
+    ensures { Puts O.written O.failures out.old out.new sink.old sink.new
+        (flat_map file_line (map file_view files.now)) }
 {
     for file in files {
         put_file(sink, out, file);
@@ -48,7 +50,8 @@ fn put_files<O: Output>(sink: &mut Sink, out: &mut O, files: &[FileInfo])
 }
 
 fn put_file<O: Output>(sink: &mut Sink, out: &mut O, file: &FileInfo)
-    ensures { Puts O.written O.failures out.old out.new sink.old sink.new (file_line (file_view file.now)) }
+    ensures { Puts O.written O.failures out.old out.new sink.old sink.new
+        (file_line (file_view file.now)) }
 {
     sink.put(out, b"file ");
     sink.put(out, file.name.as_str().as_bytes());
@@ -63,7 +66,8 @@ fn put_file<O: Output>(sink: &mut Sink, out: &mut O, file: &FileInfo)
 }
 
 fn put_message_types<O: Output>(sink: &mut Sink, out: &mut O, pool: &Pool)
-    ensures { Puts O.written O.failures out.old out.new sink.old sink.new (lines_below (length pool.now.messages) (message_lines_at pool.now)) }
+    ensures { Puts O.written O.failures out.old out.new sink.old sink.new
+        (lines_below (length pool.now.messages) (message_lines_at pool.now)) }
 {
     for index in 0..pool.messages().len() {
         put_message_type(sink, out, pool, MessageId(index));
@@ -73,7 +77,8 @@ fn put_message_types<O: Output>(sink: &mut Sink, out: &mut O, pool: &Pool)
 /// Puts a message type with its fields, one line each.
 pub fn put_message_type<O: Output>(sink: &mut Sink, out: &mut O, pool: &Pool, id: MessageId)
     requires { id.0 < length pool.now.messages }
-    ensures { Puts O.written O.failures out.old out.new sink.old sink.new (message_lines_at pool.now id.0) }
+    ensures { Puts O.written O.failures out.old out.new sink.old sink.new
+        (message_lines_at pool.now id.0) }
 {
     let full_name = pool.message_name(id);
     put_described(sink, out, pool, full_name, &pool.messages()[id.0]);
@@ -94,7 +99,8 @@ fn put_described<O: Output>(
     full_name: &[u8],
     message_type: &MessageType,
 )
-    ensures { Puts O.written O.failures out.old out.new sink.old sink.new (message_type_lines pool.now full_name.now (message_view message_type.now)) }
+    ensures { Puts O.written O.failures out.old out.new sink.old sink.new
+        (message_type_lines pool.now full_name.now (message_view message_type.now)) }
 {
     put_head(sink, out, pool, b"message ", full_name, message_type.file);
     let owner = Owner {
@@ -106,7 +112,8 @@ fn put_described<O: Output>(
 }
 
 fn put_message_fields<O: Output>(sink: &mut Sink, out: &mut O, owner: Owner<'_>, fields: &[Field])
-    ensures { Puts O.written O.failures out.old out.new sink.old sink.new (flat_map (field_line_of owner.entry) fields.now) }
+    ensures { Puts O.written O.failures out.old out.new sink.old sink.new
+        (flat_map (field_line_of owner.entry) fields.now) }
 {
     for field in fields {
         put_field(sink, out, owner, field);
@@ -143,7 +150,8 @@ pub fn file_name(pool: &Pool, file: usize) -> &[u8]
 }
 
 fn put_field<O: Output>(sink: &mut Sink, out: &mut O, owner: Owner<'_>, field: &Field)
-    ensures { Puts O.written O.failures out.old out.new sink.old sink.new (field_line_of owner.entry field.now) }
+    ensures { Puts O.written O.failures out.old out.new sink.old sink.new
+        (field_line_of owner.entry field.now) }
 {
     sink.put(out, b"field ");
     sink.put(out, owner.full_name);
@@ -165,7 +173,8 @@ fn put_type<O: Output>(
     shape: Shape,
     kind: Kind,
 )
-    ensures { Puts O.written O.failures out.old out.new sink.old sink.new (type_text pool.now (map string_bytes oneofs.now.items) shape kind) }
+    ensures { Puts O.written O.failures out.old out.new sink.old sink.new
+        (type_text pool.now (map string_bytes oneofs.now.items) shape kind) }
 {
     match shape {
         Shape::Implicit => put_labelled(sink, out, b"implicit ", pool, kind),
@@ -192,7 +201,8 @@ fn put_type<O: Output>(
 
 /// A label and then a kind.
 fn put_labelled<O: Output>(sink: &mut Sink, out: &mut O, label: &[u8], pool: &Pool, kind: Kind)
-    ensures { Puts O.written O.failures out.old out.new sink.old sink.new (label.now ++ kind_text pool.now kind) }
+    ensures { Puts O.written O.failures out.old out.new sink.old sink.new
+        (label.now ++ kind_text pool.now kind) }
 {
     sink.put(out, label);
     put_kind(sink, out, pool, kind);
@@ -200,7 +210,8 @@ fn put_labelled<O: Output>(sink: &mut Sink, out: &mut O, label: &[u8], pool: &Po
 
 /// Puts a kind as sources name it, a message, a group or an enum by its full name, and a group after the word `group`.
 pub fn put_kind<O: Output>(sink: &mut Sink, out: &mut O, pool: &Pool, kind: Kind)
-    ensures { Puts O.written O.failures out.old out.new sink.old sink.new (kind_text pool.now kind) }
+    ensures { Puts O.written O.failures out.old out.new sink.old sink.new
+        (kind_text pool.now kind) }
 {
     sink.put(out, group_word(kind));
     sink.put(out, kind_name(pool, kind));
@@ -274,7 +285,8 @@ fn enum_name(pool: &Pool, id: EnumId) -> &[u8]
 }
 
 fn put_enum_types<O: Output>(sink: &mut Sink, out: &mut O, pool: &Pool)
-    ensures { Puts O.written O.failures out.old out.new sink.old sink.new (lines_below (length pool.now.enums) (enum_lines_at pool.now)) }
+    ensures { Puts O.written O.failures out.old out.new sink.old sink.new
+        (lines_below (length pool.now.enums) (enum_lines_at pool.now)) }
 {
     for index in 0..pool.enums().len() {
         put_enum_type(sink, out, pool, EnumId(index));
@@ -284,7 +296,8 @@ fn put_enum_types<O: Output>(sink: &mut Sink, out: &mut O, pool: &Pool)
 /// Puts an enum with its values, one line each.
 pub fn put_enum_type<O: Output>(sink: &mut Sink, out: &mut O, pool: &Pool, id: EnumId)
     requires { id.0 < length pool.now.enums }
-    ensures { Puts O.written O.failures out.old out.new sink.old sink.new (enum_lines_at pool.now id.0) }
+    ensures { Puts O.written O.failures out.old out.new sink.old sink.new
+        (enum_lines_at pool.now id.0) }
 {
     let full_name = pool.enum_name(id);
     put_enumerated(sink, out, pool, full_name, &pool.enums()[id.0]);
@@ -297,7 +310,8 @@ fn put_enumerated<O: Output>(
     full_name: &[u8],
     entry: &EnumType,
 )
-    ensures { Puts O.written O.failures out.old out.new sink.old sink.new (enum_type_lines pool.now full_name.now (enum_view entry.now)) }
+    ensures { Puts O.written O.failures out.old out.new sink.old sink.new
+        (enum_type_lines pool.now full_name.now (enum_view entry.now)) }
 {
     put_head(sink, out, pool, b"enum ", full_name, entry.file);
     put_enum_values(sink, out, full_name, entry.values.as_slice());
@@ -324,7 +338,8 @@ fn put_enum_value<O: Output>(
     name: &String,
     number: i32,
 )
-    ensures { Puts O.written O.failures out.old out.new sink.old sink.new (value_line full_name.now (string_bytes name.now, number)) }
+    ensures { Puts O.written O.failures out.old out.new sink.old sink.new
+        (value_line full_name.now (string_bytes name.now, number)) }
 {
     sink.put(out, b"value ");
     sink.put(out, full_name);

@@ -22,7 +22,8 @@ pub(crate) fn put_unknown<O: Output>(
 )
     requires { level ≤ 101 }
     ensures { level + records_depth (records_of records.now) ≤ 101
-        → Puts O.written O.failures out.old out.new sink.old sink.new (unknown_lines level (records_of records.now)) }
+        → Puts O.written O.failures out.old out.new sink.old sink.new
+        (unknown_lines level (records_of records.now)) }
 {
     for (number, payload) in records {
         if sink.has_failed() {
@@ -37,7 +38,8 @@ pub(crate) fn put_unknown<O: Output>(
 fn put_group<O: Output>(sink: &mut Sink, out: &mut O, level: usize, records: &[(u32, Unknown)])
     requires { level ≤ 101 }
     ensures { level + group_depth (group_of (records_of records.now)) ≤ 101
-        → Puts O.written O.failures out.old out.new sink.old sink.new (group_lines level (group_of (records_of records.now))) }
+        → Puts O.written O.failures out.old out.new sink.old sink.new
+        (group_lines level (group_of (records_of records.now))) }
 {
     for (number, payload) in records {
         if sink.has_failed() {
@@ -60,7 +62,8 @@ fn put_unknown_record<O: Output>(
     requires low { level ≤ 101 }
     requires mark { length mark.now ≤ 2 }
     ensures { level + depth (payload_of payload.now) ≤ 101
-        → Puts O.written O.failures out.old out.new sink.old sink.new (record_lines mark.now level number (payload_of payload.now)) }
+        → Puts O.written O.failures out.old out.new sink.old sink.new
+        (record_lines mark.now level number (payload_of payload.now)) }
 {
     match payload {
         Unknown::Varint(value) => put_varint_line(sink, out, level, mark, number, *value),

@@ -27,9 +27,11 @@ pub(crate) fn put_scalar<O: Output>(
     kind: Kind,
     value: &Value,
 )
-    requires { NamesType (length context.now.pool.now.messages) (length context.now.pool.now.enums) kind }
+    requires { NamesType (length context.now.pool.now.messages)
+        (length context.now.pool.now.enums) kind }
     ensures { PutsSome O.written O.failures out.old out.new sink.old sink.new
-        (IsDatumText context.now.floats (names_of_kind context.now.pool.now kind) (value_view value.now)) }
+        (IsDatumText context.now.floats (names_of_kind context.now.pool.now kind)
+        (value_view value.now)) }
 {
     match value {
         Value::I32(number) => put_integer(sink, out, i64::from(*number)),
@@ -48,7 +50,8 @@ pub(crate) fn put_scalar<O: Output>(
 
 /// A key, which is written like a value.
 pub(crate) fn put_key<O: Output>(sink: &mut Sink, out: &mut O, key: &MapKey)
-    ensures { Puts O.written O.failures out.old out.new sink.old sink.new (scalar_text [] (key_view key.now)) }
+    ensures { Puts O.written O.failures out.old out.new sink.old sink.new
+        (scalar_text [] (key_view key.now)) }
 {
     match key {
         MapKey::I32(number) => put_integer(sink, out, i64::from(*number)),
@@ -87,7 +90,8 @@ fn put_bool<O: Output>(sink: &mut Sink, out: &mut O, flag: bool)
 /// The name of an enum's value, or its number where no value has it.
 fn put_enum<O: Output>(sink: &mut Sink, out: &mut O, pool: &Pool, kind: Kind, number: i32)
     requires { NamesType (length pool.now.messages) (length pool.now.enums) kind }
-    ensures { Puts O.written O.failures out.old out.new sink.old sink.new (enum_text (names_of_kind pool.now kind) number) }
+    ensures { Puts O.written O.failures out.old out.new sink.old sink.new
+        (enum_text (names_of_kind pool.now kind) number) }
 {
     match value_name(pool, kind, number) {
         Some(name) => sink.put(out, name.as_bytes()),
@@ -106,7 +110,8 @@ fn put_text<O: Output>(sink: &mut Sink, out: &mut O, text: &[u8])
 }
 
 fn put_text_bytes<O: Output>(sink: &mut Sink, out: &mut O, text: &[u8])
-    ensures { Puts O.written O.failures out.old out.new sink.old sink.new (flat_map text_byte text.now) }
+    ensures { Puts O.written O.failures out.old out.new sink.old sink.new
+        (flat_map text_byte text.now) }
 {
     for byte in text {
         put_text_byte(sink, out, *byte);

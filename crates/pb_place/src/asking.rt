@@ -34,7 +34,8 @@ pub fn message_at<'a>(message: MessageRef<'a>, place: &[PlaceStep]) -> Option<Me
 
 /// The value at a place that is no message.
 pub fn scalar_at<'a>(message: MessageRef<'a>, place: &[PlaceStep]) -> Option<&'a Value>
-    ensures { option_map (λ v. value_view v.now) result ≡ option_and_then scalar_in (at place.now message.entry) }
+    ensures { option_map (λ v. value_view v.now) result
+        ≡ option_and_then scalar_in (at place.now message.entry) }
 {
     match at(message, place)? {
         Found::Scalar(value) => Some(value),
@@ -55,7 +56,8 @@ pub fn len_at(message: MessageRef<'_>, place: &[PlaceStep]) -> Option<usize>
 
 /// The key at an index, counted from 0, of the map at a place, by rising keys.
 pub fn key_at<'a>(message: MessageRef<'a>, place: &[PlaceStep], index: usize) -> Option<&'a MapKey>
-    ensures { option_map (λ k. key_view k.now) result ≡ option_and_then (key_in index) (at place.now message.entry) }
+    ensures { option_map (λ k. key_view k.now) result
+        ≡ option_and_then (key_in index) (at place.now message.entry) }
 {
     match at(message, place)? {
         Found::Map(entries) => nth_key(entries, index),
@@ -65,7 +67,8 @@ pub fn key_at<'a>(message: MessageRef<'a>, place: &[PlaceStep], index: usize) ->
 
 /// The key at an index, counted from 0, of a map.
 fn nth_key(entries: &BTreeMap<MapKey, Value>, index: usize) -> Option<&MapKey>
-    ensures { option_map (λ k. key_view k.now) result ≡ nth_key (entries_view entries.now.entries) index }
+    ensures { option_map (λ k. key_view k.now) result
+        ≡ nth_key (entries_view entries.now.entries) index }
 {
     let mut left = index;
     for (key, _) in entries {
@@ -79,7 +82,8 @@ fn nth_key(entries: &BTreeMap<MapKey, Value>, index: usize) -> Option<&MapKey>
 
 /// The number of the member of a oneof that is set in the message at a place.
 pub fn which_oneof_at(message: MessageRef<'_>, place: &[PlaceStep], oneof: u32) -> Option<u32>
-    ensures { result ≡ option_and_then (λ w. member_set (message_fields w.pool w.kind) oneof (fields_of w.body))
+    ensures { result ≡ option_and_then
+        (λ w. member_set (message_fields w.pool w.kind) oneof (fields_of w.body))
         (option_and_then message_in (at place.now message.entry)) }
 {
     message_at(message, place)?.which_oneof(oneof)
@@ -87,7 +91,9 @@ pub fn which_oneof_at(message: MessageRef<'_>, place: &[PlaceStep], oneof: u32) 
 
 /// The unknown records of the message at a place.
 pub fn unknown_at<'a>(message: MessageRef<'a>, place: &[PlaceStep]) -> Option<&'a [(u32, Unknown)]>
-    ensures { option_map (λ us. records_of us.now) result ≡ option_map (λ w. unknown_of w.body) (option_and_then message_in (at place.now message.entry)) }
+    ensures { option_map (λ us. records_of us.now) result
+        ≡ option_map (λ w. unknown_of w.body)
+        (option_and_then message_in (at place.now message.entry)) }
 {
     Some(&message_at(message, place)?.body().unknown)
 }
@@ -95,8 +101,10 @@ pub fn unknown_at<'a>(message: MessageRef<'a>, place: &[PlaceStep]) -> Option<&'
 /// Writes the numbers of the fields that are set in the message at a place, by rising number: those that the buffer holds. The answer is
 /// how many there are. Where no message is at the place, nothing is written.
 pub fn numbers_at(message: MessageRef<'_>, place: &[PlaceStep], buffer: &mut [u32]) -> Option<usize>
-    ensures counted { result ≡ option_map (λ w. length (numbers_of (fields_of w.body))) (option_and_then message_in (at place.now message.entry)) }
-    ensures written { buffer.new ≡ numbers_into (option_and_then message_in (at place.now message.entry)) buffer.old }
+    ensures counted { result ≡ option_map (λ w. length (numbers_of (fields_of w.body)))
+        (option_and_then message_in (at place.now message.entry)) }
+    ensures written { buffer.new ≡ numbers_into
+        (option_and_then message_in (at place.now message.entry)) buffer.old }
 {
     let found = message_at(message, place)?;
     Some(write_numbers(&found.body().fields, buffer))
@@ -105,7 +113,8 @@ pub fn numbers_at(message: MessageRef<'_>, place: &[PlaceStep], buffer: &mut [u3
 /// Writes the numbers of some fields, those that the buffer holds, and counts all of them.
 fn write_numbers(fields: &BTreeMap<u32, Content>, buffer: &mut [u32]) -> usize
     ensures counted { result ≡ length (numbers_of (fields_view fields.now.entries)) }
-    ensures written { buffer.new ≡ laid_over (numbers_of (fields_view fields.now.entries)) buffer.old }
+    ensures written { buffer.new
+        ≡ laid_over (numbers_of (fields_view fields.now.entries)) buffer.old }
 {
     let mut count = 0;
     for (number, _) in fields {

@@ -59,9 +59,11 @@ impl Change {
     /// Makes the change in a message. The answer is what was taken out of it.
     pub(crate) fn make(self, message: &mut DynamicMessage<'_>) -> Result<Option<Value>, ValueError>
         ensures ok { IfOk result (λ _. message.new ≡ edited (edit_of self) message.old) }
-        ensures out { IfOk result (λ v. option_map value_view v ≡ taken_out (edit_of self) message.old) }
+        ensures out { IfOk result (λ v. option_map value_view v
+            ≡ taken_out (edit_of self) message.old) }
         ensures err { OnErr result (message.new ≡ message.old) }
-        ensures judged { IsRefusedBy result (edit_cause (edit_of self) message.old.pool message.old.kind) }
+        ensures judged { IsRefusedBy result
+            (edit_cause (edit_of self) message.old.pool message.old.kind) }
     {
         match self {
             Change::Set(number, content) => {
@@ -91,7 +93,8 @@ impl Change {
 
     /// Why the change is refused, which brings more levels than may be added: for what the message refuses anyway, or else the depth.
     fn too_deep(self, message: &DynamicMessage<'_>) -> ValueError
-        ensures { FailsWith (or_else (edit_cause (edit_of self) message.now.pool message.now.kind) (Some TooDeep)) result }
+        ensures { FailsWith (or_else (edit_cause (edit_of self) message.now.pool message.now.kind)
+            (Some TooDeep)) result }
     {
         let mut blank = DynamicMessage::new(
             message.alloc(),
@@ -111,7 +114,8 @@ impl Change {
         most: u8,
     ) -> Result<Option<Value>, ChangeError>
         ensures ok { IfOk result (λ _. message.new ≡ edited (edit_of self) message.old) }
-        ensures out { IfOk result (λ v. option_map value_view v ≡ taken_out (edit_of self) message.old) }
+        ensures out { IfOk result (λ v. option_map value_view v
+            ≡ taken_out (edit_of self) message.old) }
         ensures err { OnErr result (message.new ≡ message.old) }
         ensures judged { IsRefused result (refusal most (edit_of self) (Some message.old)) }
     {
@@ -125,7 +129,8 @@ impl Change {
 /// Removes the value under a key from the map of a number in a message.
 fn remove(message: &mut DynamicMessage<'_>, number: u32, key: &MapKey) -> Option<Value>
     ensures left { message.new ≡ edited (remove (key_view key.now) number) message.old }
-    ensures taken { option_map value_view result ≡ taken_out (remove (key_view key.now) number) message.old }
+    ensures taken { option_map value_view result
+        ≡ taken_out (remove (key_view key.now) number) message.old }
 {
     let alloc = message.alloc();
     let pool = message.pool();
@@ -145,10 +150,13 @@ fn set_element(
     index: usize,
     value: Value,
 ) -> Result<Option<Value>, ValueError>
-    ensures ok { IfOk result (λ _. message.new ≡ edited (set_element index (value_view value) number) message.old) }
-    ensures out { IfOk result (λ v. option_map value_view v ≡ taken_out (set_element index (value_view value) number) message.old) }
+    ensures ok { IfOk result (λ _. message.new
+        ≡ edited (set_element index (value_view value) number) message.old) }
+    ensures out { IfOk result (λ v. option_map value_view v
+        ≡ taken_out (set_element index (value_view value) number) message.old) }
     ensures err { OnErr result (message.new ≡ message.old) }
-    ensures judged { IsRefusedBy result (push_cause message.old.pool message.old.kind number (value_view value)) }
+    ensures judged { IsRefusedBy result
+        (push_cause message.old.pool message.old.kind number (value_view value)) }
 {
     let alloc = message.alloc();
     let pool = message.pool();
@@ -164,7 +172,8 @@ fn set_element(
 /// Removes the element at an index from the list of a number in a message.
 fn remove_element(message: &mut DynamicMessage<'_>, number: u32, index: usize) -> Option<Value>
     ensures left { message.new ≡ edited (remove_element index number) message.old }
-    ensures taken { option_map value_view result ≡ taken_out (remove_element index number) message.old }
+    ensures taken { option_map value_view result
+        ≡ taken_out (remove_element index number) message.old }
 {
     let alloc = message.alloc();
     let pool = message.pool();

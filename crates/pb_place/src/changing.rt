@@ -40,9 +40,11 @@ fn change_inside(
 ) -> Result<Option<Value>, ChangeError>
     requires { most ≡ most_at place.now }
     ensures ok { IfOk result (λ _. IsChangedAt place.now (edit_of change) message.old message.new) }
-    ensures out { IfOk result (λ v. Some (option_map value_view v) ≡ option_map (taken_out (edit_of change)) (target place.now (message_part message.old))) }
+    ensures out { IfOk result (λ v. Some (option_map value_view v)
+        ≡ option_map (taken_out (edit_of change)) (target place.now (message_part message.old))) }
     ensures err { OnErr result (message.new ≡ message.old) }
-    ensures judged { IsRefused result (refusal most (edit_of change) (target place.now (message_part message.old))) }
+    ensures judged { IsRefused result
+        (refusal most (edit_of change) (target place.now (message_part message.old))) }
 {
     let alloc = message.alloc();
     let pool = message.pool();
@@ -67,9 +69,12 @@ pub(crate) fn change_at(
     change: Change,
 ) -> Result<Option<Value>, ChangeError>
     ensures ok { IfOk result (λ _. IsChangedAt place.now (edit_of change) message.old message.new) }
-    ensures out { IfOk result (λ v. Some (option_map value_view v) ≡ option_map (taken_out (edit_of change)) (target place.now (message_part message.old))) }
+    ensures out { IfOk result (λ v. Some (option_map value_view v)
+        ≡ option_map (taken_out (edit_of change)) (target place.now (message_part message.old))) }
     ensures err { OnErr result (message.new ≡ message.old) }
-    ensures judged { IsRefused result (refusal (most_at place.now) (edit_of change) (target place.now (message_part message.old))) }
+    ensures judged { IsRefused result
+        (refusal (most_at place.now) (edit_of change)
+        (target place.now (message_part message.old))) }
 {
     let most = most_at(place);
     if place.is_empty() {
@@ -105,7 +110,8 @@ fn element_at_end<'a>(
     message: &DynamicMessage<'_>,
     place: &'a [PlaceStep],
 ) -> Option<((&'a [PlaceStep], u32), usize)>
-    ensures { option_map (λ q. ((q.0.0.now, q.0.1), q.1)) result ≡ element_place place.now message.now }
+    ensures { option_map (λ q. ((q.0.0.now, q.0.1), q.1)) result
+        ≡ element_place place.now message.now }
 {
     let (list, index) = index_at_end(place)?;
     if !is_set(message.view(), place) {
@@ -121,9 +127,11 @@ fn set_field(
     number: u32,
     content: Content,
 ) -> Result<(), ChangeError>
-    ensures ok { OnOk result (message.new ≡ edited (set (content_view content) number) message.old) }
+    ensures ok { OnOk result (message.new ≡ edited
+        (set (content_view content) number) message.old) }
     ensures err { OnErr result (message.new ≡ message.old) }
-    ensures judged { IsRefused result (refusal 100 (set (content_view content) number) (Some message.old)) }
+    ensures judged { IsRefused result
+        (refusal 100 (set (content_view content) number) (Some message.old)) }
 {
     Ok(message.set(number, content)?)
 }
@@ -138,9 +146,11 @@ pub fn set_at(
     place: &[PlaceStep],
     content: Content,
 ) -> Result<(), ChangeError>
-    ensures ok { OnOk result (IsFieldChanged place.now (set (content_view content)) message.old message.new) }
+    ensures ok { OnOk result (IsFieldChanged place.now
+        (set (content_view content)) message.old message.new) }
     ensures err { OnErr result (message.new ≡ message.old) }
-    ensures judged { IsRefused result (refusal_at place.now (set (content_view content)) message.old) }
+    ensures judged { IsRefused result
+        (refusal_at place.now (set (content_view content)) message.old) }
 {
     let Some((parent, number)) = field_at_end(place) else {
         return Err(ChangeError::Absent);
@@ -175,7 +185,8 @@ pub fn push_at(
     place: &[PlaceStep],
     value: Value,
 ) -> Result<(), ChangeError>
-    ensures ok { OnOk result (IsFieldChanged place.now (push (value_view value)) message.old message.new) }
+    ensures ok { OnOk result (IsFieldChanged place.now
+        (push (value_view value)) message.old message.new) }
     ensures err { OnErr result (message.new ≡ message.old) }
     ensures judged { IsRefused result (refusal_at place.now (push (value_view value)) message.old) }
 {
@@ -196,10 +207,13 @@ pub fn insert_at(
     key: MapKey,
     value: Value,
 ) -> Result<Option<Value>, ChangeError>
-    ensures ok { OnOk result (IsFieldChanged place.now (insert (key_view key) (value_view value)) message.old message.new) }
-    ensures stood { IfOk result (λ v. Some (option_map value_view v) ≡ taken_at place.now (insert (key_view key) (value_view value)) message.old) }
+    ensures ok { OnOk result (IsFieldChanged place.now
+        (insert (key_view key) (value_view value)) message.old message.new) }
+    ensures stood { IfOk result (λ v. Some (option_map value_view v)
+        ≡ taken_at place.now (insert (key_view key) (value_view value)) message.old) }
     ensures err { OnErr result (message.new ≡ message.old) }
-    ensures judged { IsRefused result (refusal_at place.now (insert (key_view key) (value_view value)) message.old) }
+    ensures judged { IsRefused result
+        (refusal_at place.now (insert (key_view key) (value_view value)) message.old) }
 {
     let Some((parent, number)) = field_at_end(place) else {
         return Err(ChangeError::Absent);
@@ -216,8 +230,10 @@ pub fn remove_at(
     place: &[PlaceStep],
     key: MapKey,
 ) -> Result<Option<Value>, ChangeError>
-    ensures ok { OnOk result (IsFieldChanged place.now (remove (key_view key)) message.old message.new) }
-    ensures stood { IfOk result (λ v. Some (option_map value_view v) ≡ taken_at place.now (remove (key_view key)) message.old) }
+    ensures ok { OnOk result (IsFieldChanged place.now
+        (remove (key_view key)) message.old message.new) }
+    ensures stood { IfOk result (λ v. Some (option_map value_view v)
+        ≡ taken_at place.now (remove (key_view key)) message.old) }
     ensures err { OnErr result (message.new ≡ message.old) }
     ensures judged { IsRefused result (refusal_at place.now (remove (key_view key)) message.old) }
 {
@@ -236,10 +252,13 @@ pub fn set_element_at(
     place: &[PlaceStep],
     value: Value,
 ) -> Result<Option<Value>, ChangeError>
-    ensures ok { OnOk result (IsElementChanged place.now (λ i. set_element i (value_view value)) message.old message.new) }
-    ensures stood { IfOk result (λ v. Some (option_map value_view v) ≡ taken_element place.now (λ i. set_element i (value_view value)) message.old) }
+    ensures ok { OnOk result (IsElementChanged place.now
+        (λ i. set_element i (value_view value)) message.old message.new) }
+    ensures stood { IfOk result (λ v. Some (option_map value_view v)
+        ≡ taken_element place.now (λ i. set_element i (value_view value)) message.old) }
     ensures err { OnErr result (message.new ≡ message.old) }
-    ensures judged { IsRefused result (element_refusal place.now (λ i. set_element i (value_view value)) message.old) }
+    ensures judged { IsRefused result
+        (element_refusal place.now (λ i. set_element i (value_view value)) message.old) }
 {
     let Some(((parent, number), index)) = element_at_end(message, place) else {
         return Err(ChangeError::Absent);
@@ -256,7 +275,8 @@ pub fn remove_element_at(
     place: &[PlaceStep],
 ) -> Result<Option<Value>, ChangeError>
     ensures ok { OnOk result (IsElementChanged place.now remove_element message.old message.new) }
-    ensures stood { IfOk result (λ v. Some (option_map value_view v) ≡ taken_element place.now remove_element message.old) }
+    ensures stood { IfOk result (λ v. Some (option_map value_view v)
+        ≡ taken_element place.now remove_element message.old) }
     ensures err { OnErr result (message.new ≡ message.old) }
     ensures judged { IsRefused result (element_refusal place.now remove_element message.old) }
 {
@@ -273,7 +293,8 @@ pub fn drop_unknown_at(
 ) -> Result<(), ChangeError>
     ensures ok { OnOk result (IsChangedAt place.now drop_unknown message.old message.new) }
     ensures err { OnErr result (message.new ≡ message.old) }
-    ensures judged { IsRefused result (refusal (most_at place.now) drop_unknown (target place.now (message_part message.old))) }
+    ensures judged { IsRefused result
+        (refusal (most_at place.now) drop_unknown (target place.now (message_part message.old))) }
 {
     drop(change_at(message, place, Change::DropUnknown)?);
     Ok(())

@@ -27,8 +27,10 @@ pub(crate) fn judged(
 ) -> Result<Value, ValueError>
     requires { message_type.0 < length pool.now.messages }
     ensures same { IfOk result (λ v. value_view v ≡ value_view value) }
-    ensures fits { IfOk result (λ v. IsWellFormed pool.now message_type.0 (list_alone number (value_view value))) }
-    ensures judged { IsRefusedBy result (push_cause pool.now message_type.0 number (value_view value)) }
+    ensures fits { IfOk result
+        (λ v. IsWellFormed pool.now message_type.0 (list_alone number (value_view value))) }
+    ensures judged { IsRefusedBy result
+        (push_cause pool.now message_type.0 number (value_view value)) }
 {
     let mut blank = DynamicMessage::new(alloc, pool, message_type);
     blank.push(number, value)?;
@@ -52,7 +54,8 @@ fn only_element(body: &mut Body, number: u32) -> Value
 
 /// Puts a value in place of the element at an index. The answer is the one that was there.
 fn put_in_list(values: &mut Vec<Value>, index: usize, value: Value) -> Option<Value>
-    ensures left { values_view values.new.items ≡ put_datum index (value_view value) (values_view values.old.items) }
+    ensures left { values_view values.new.items
+        ≡ put_datum index (value_view value) (values_view values.old.items) }
     ensures taken { option_map value_view result ≡ nth_datum (values_view values.old.items) index }
 {
     match values.get_mut(index) {
@@ -63,7 +66,8 @@ fn put_in_list(values: &mut Vec<Value>, index: usize, value: Value) -> Option<Va
 
 /// The same of a content that is a list.
 fn put_in(content: &mut Content, index: usize, value: Value) -> Option<Value>
-    ensures left { content_view content.new ≡ in_list (put_datum index (value_view value)) (content_view content.old) }
+    ensures left { content_view content.new ≡ in_list (put_datum index (value_view value))
+        (content_view content.old) }
     ensures taken { option_map value_view result ≡ datum_at index (content_view content.old) }
 {
     match content {
@@ -74,8 +78,10 @@ fn put_in(content: &mut Content, index: usize, value: Value) -> Option<Value>
 
 /// The same of the list of a number.
 pub(crate) fn put_element(body: &mut Body, number: u32, index: usize, value: Value) -> Option<Value>
-    ensures left { ChangesFields (put_nth number index (value_view value)) (body_view body.old) (body_view body.new) }
-    ensures taken { option_map value_view result ≡ option_and_then (datum_at index) (get_field number (fields_of (body_view body.old))) }
+    ensures left { ChangesFields (put_nth number index (value_view value)) (body_view body.old)
+        (body_view body.new) }
+    ensures taken { option_map value_view result
+        ≡ option_and_then (datum_at index) (get_field number (fields_of (body_view body.old))) }
 {
     match body.fields.get_mut(&number) {
         Some(content) => put_in(content, index, value),
@@ -107,8 +113,10 @@ fn take_from(content: &mut Content, index: usize) -> Option<Value>
 
 /// The same of the list of a number. The list that is left may be empty.
 fn take_element(body: &mut Body, number: u32, index: usize) -> Option<Value>
-    ensures left { ChangesFields (in_field (in_list (drop_nth index)) number) (body_view body.old) (body_view body.new) }
-    ensures taken { option_map value_view result ≡ option_and_then (datum_at index) (get_field number (fields_of (body_view body.old))) }
+    ensures left { ChangesFields (in_field (in_list (drop_nth index)) number) (body_view body.old)
+        (body_view body.new) }
+    ensures taken { option_map value_view result
+        ≡ option_and_then (datum_at index) (get_field number (fields_of (body_view body.old))) }
 {
     match body.fields.get_mut(&number) {
         Some(content) => take_from(content, index),
@@ -139,7 +147,8 @@ fn has_empty_list(body: &Body, number: u32) -> bool
 /// Takes the element at an index out of the list of a number, and the list with it where no element is left.
 pub(crate) fn remove_element(body: &mut Body, number: u32, index: usize) -> Option<Value>
     ensures left { ChangesFields (take_nth number index) (body_view body.old) (body_view body.new) }
-    ensures taken { option_map value_view result ≡ option_and_then (datum_at index) (get_field number (fields_of (body_view body.old))) }
+    ensures taken { option_map value_view result
+        ≡ option_and_then (datum_at index) (get_field number (fields_of (body_view body.old))) }
 {
     let taken = take_element(body, number, index);
     if has_empty_list(body, number) {

@@ -60,9 +60,11 @@ fn in_list<'a>(
     values: &'a Vec<Value>,
     place: &[PlaceStep],
 ) -> Option<Found<'a>>
-    requires { get_field number (fields_of message.body) ≡ Some (list (values_view values.now.items)) }
-    ensures { option_map found_view result ≡ option_map seen (part_at place.now
-        (list_part message.entry.pool (type_named message.entry.pool message.entry.kind number) (values_view values.now.items))) }
+    requires { get_field number (fields_of message.body)
+        ≡ Some (list (values_view values.now.items)) }
+    ensures { option_map found_view result ≡ option_map seen
+        (part_at place.now (list_part message.entry.pool
+        (type_named message.entry.pool message.entry.kind number) (values_view values.now.items))) }
 {
     let Some((step, rest)) = place.split_first() else {
         return Some(Found::List(values));
@@ -82,9 +84,12 @@ fn in_map<'a>(
     entries: &'a BTreeMap<MapKey, Value>,
     place: &[PlaceStep],
 ) -> Option<Found<'a>>
-    requires { get_field number (fields_of message.body) ≡ Some (map (entries_view entries.now.entries)) }
-    ensures { option_map found_view result ≡ option_map seen (part_at place.now
-        (map_part message.entry.pool (type_named message.entry.pool message.entry.kind number) (entries_view entries.now.entries))) }
+    requires { get_field number (fields_of message.body)
+        ≡ Some (map (entries_view entries.now.entries)) }
+    ensures { option_map found_view result ≡ option_map seen
+        (part_at place.now (map_part message.entry.pool
+        (type_named message.entry.pool message.entry.kind number)
+        (entries_view entries.now.entries))) }
 {
     let Some((step, rest)) = place.split_first() else {
         return Some(Found::Map(entries));
@@ -103,7 +108,8 @@ fn in_value<'a>(
     message: Option<MessageRef<'a>>,
     place: &[PlaceStep],
 ) -> Option<Found<'a>>
-    ensures { option_map found_view result ≡ option_map seen (part_at place.now (as_part message.entry (value_view value.now))) }
+    ensures { option_map found_view result ≡ option_map seen
+        (part_at place.now (as_part message.entry (value_view value.now))) }
 {
     match message {
         Some(message) => at(message, place),

@@ -13,8 +13,10 @@ use pb_value::{Body, Content, MapKey, Value};
 
 /// Takes the value under a key out of a content that is a map.
 fn take_from(content: &mut Content, key: &MapKey) -> Option<Value>
-    ensures left { content_view content.new ≡ in_map (drop_entry (key_view key.now)) (content_view content.old) }
-    ensures taken { option_map value_view result ≡ datum_under (key_view key.now) (content_view content.old) }
+    ensures left { content_view content.new ≡ in_map (drop_entry (key_view key.now))
+        (content_view content.old) }
+    ensures taken { option_map value_view result
+        ≡ datum_under (key_view key.now) (content_view content.old) }
 {
     match content {
         Content::Map(entries) => entries.remove(key),
@@ -24,8 +26,11 @@ fn take_from(content: &mut Content, key: &MapKey) -> Option<Value>
 
 /// Takes the value under a key out of the map of a number. The map that is left may be empty.
 fn take_entry(body: &mut Body, number: u32, key: &MapKey) -> Option<Value>
-    ensures left { ChangesFields (in_field (in_map (drop_entry (key_view key.now))) number) (body_view body.old) (body_view body.new) }
-    ensures taken { option_map value_view result ≡ option_and_then (datum_under (key_view key.now)) (get_field number (fields_of (body_view body.old))) }
+    ensures left { ChangesFields (in_field (in_map (drop_entry (key_view key.now))) number)
+        (body_view body.old) (body_view body.new) }
+    ensures taken { option_map value_view result
+        ≡ option_and_then (datum_under (key_view key.now))
+        (get_field number (fields_of (body_view body.old))) }
 {
     match body.fields.get_mut(&number) {
         Some(content) => take_from(content, key),
@@ -55,8 +60,11 @@ fn has_empty_map(body: &Body, number: u32) -> bool
 
 /// Takes the value under a key out of the map of a number, and the map with it where no entry is left.
 pub(crate) fn remove_entry(body: &mut Body, number: u32, key: &MapKey) -> Option<Value>
-    ensures left { ChangesFields (remove_at number (key_view key.now)) (body_view body.old) (body_view body.new) }
-    ensures taken { option_map value_view result ≡ option_and_then (datum_under (key_view key.now)) (get_field number (fields_of (body_view body.old))) }
+    ensures left { ChangesFields (remove_at number (key_view key.now)) (body_view body.old)
+        (body_view body.new) }
+    ensures taken { option_map value_view result
+        ≡ option_and_then (datum_under (key_view key.now))
+        (get_field number (fields_of (body_view body.old))) }
 {
     let taken = take_entry(body, number, key);
     if has_empty_map(body, number) {

@@ -70,8 +70,9 @@ impl Walk<'_> {
     ) -> Result<(), ChangeError>
         requires within { message_type.0 < length self.now.pool.now.messages }
         requires well_formed { IsWellFormed self.now.pool.now message_type.0 (body_view body.old) }
-        ensures { IsWalked self.now.pool.now self.now.most (Some message_type.0) [] (edit_of pending.old.change)
-            (one (message (body_view body.old))) (one (message (body_view body.new))) result pending.new.taken }
+        ensures { IsWalked self.now.pool.now self.now.most (Some message_type.0) []
+            (edit_of pending.old.change) (one (message (body_view body.old)))
+            (one (message (body_view body.new))) result pending.new.taken }
     {
         let change = pending.take_change();
         let held = mem::replace(body, empty_body(self.alloc));
@@ -93,8 +94,9 @@ impl Walk<'_> {
     ) -> Result<(), ChangeError>
         requires within { message_type.0 < length self.now.pool.now.messages }
         requires well_formed { IsWellFormed self.now.pool.now message_type.0 (body_view body.old) }
-        ensures { IsWalked self.now.pool.now self.now.most (Some message_type.0) place.now (edit_of pending.old.change)
-            (one (message (body_view body.old))) (one (message (body_view body.new))) result pending.new.taken }
+        ensures { IsWalked self.now.pool.now self.now.most (Some message_type.0) place.now
+            (edit_of pending.old.change) (one (message (body_view body.old)))
+            (one (message (body_view body.new))) result pending.new.taken }
     {
         let Some((step, rest)) = place.split_first() else {
             return self.change_here(message_type, body, pending);
@@ -119,9 +121,11 @@ impl Walk<'_> {
         pending: &mut Pending,
     ) -> Result<(), ChangeError>
         requires inner { IfSome inner (λ m. m.0 < length self.now.pool.now.messages) }
-        requires parts { HoldsParts self.now.pool.now (option_map (λ m. m.0) inner) (content_view content.old) }
-        ensures { IsWalked self.now.pool.now self.now.most (option_map (λ m. m.0) inner) place.now (edit_of pending.old.change)
-            (content_view content.old) (content_view content.new) result pending.new.taken }
+        requires parts { HoldsParts self.now.pool.now (option_map (λ m. m.0) inner)
+            (content_view content.old) }
+        ensures { IsWalked self.now.pool.now self.now.most (option_map (λ m. m.0) inner) place.now
+            (edit_of pending.old.change) (content_view content.old)
+            (content_view content.new) result pending.new.taken }
     {
         match content {
             Content::One(value) => self.change_value(inner, value, place, pending),
@@ -140,9 +144,11 @@ impl Walk<'_> {
         pending: &mut Pending,
     ) -> Result<(), ChangeError>
         requires inner { IfSome inner (λ m. m.0 < length self.now.pool.now.messages) }
-        requires parts { HoldsParts self.now.pool.now (option_map (λ m. m.0) inner) (list (values_view values.old.items)) }
-        ensures { IsWalked self.now.pool.now self.now.most (option_map (λ m. m.0) inner) place.now (edit_of pending.old.change)
-            (list (values_view values.old.items)) (list (values_view values.new.items)) result pending.new.taken }
+        requires parts { HoldsParts self.now.pool.now (option_map (λ m. m.0) inner)
+            (list (values_view values.old.items)) }
+        ensures { IsWalked self.now.pool.now self.now.most (option_map (λ m. m.0) inner) place.now
+            (edit_of pending.old.change) (list (values_view values.old.items))
+            (list (values_view values.new.items)) result pending.new.taken }
     {
         let Some((step, rest)) = place.split_first() else {
             return Err(ChangeError::Absent);
@@ -166,9 +172,11 @@ impl Walk<'_> {
         pending: &mut Pending,
     ) -> Result<(), ChangeError>
         requires inner { IfSome inner (λ m. m.0 < length self.now.pool.now.messages) }
-        requires parts { HoldsParts self.now.pool.now (option_map (λ m. m.0) inner) (map (entries_view entries.old.entries)) }
-        ensures { IsWalked self.now.pool.now self.now.most (option_map (λ m. m.0) inner) place.now (edit_of pending.old.change)
-            (map (entries_view entries.old.entries)) (map (entries_view entries.new.entries)) result pending.new.taken }
+        requires parts { HoldsParts self.now.pool.now (option_map (λ m. m.0) inner)
+            (map (entries_view entries.old.entries)) }
+        ensures { IsWalked self.now.pool.now self.now.most (option_map (λ m. m.0) inner) place.now
+            (edit_of pending.old.change) (map (entries_view entries.old.entries))
+            (map (entries_view entries.new.entries)) result pending.new.taken }
     {
         let Some((step, rest)) = place.split_first() else {
             return Err(ChangeError::Absent);
@@ -192,9 +200,11 @@ impl Walk<'_> {
         pending: &mut Pending,
     ) -> Result<(), ChangeError>
         requires inner { IfSome inner (λ m. m.0 < length self.now.pool.now.messages) }
-        requires part { IsPart self.now.pool.now (option_map (λ m. m.0) inner) (value_view value.old) }
-        ensures { IsWalked self.now.pool.now self.now.most (option_map (λ m. m.0) inner) place.now (edit_of pending.old.change)
-            (one (value_view value.old)) (one (value_view value.new)) result pending.new.taken }
+        requires part { IsPart self.now.pool.now (option_map (λ m. m.0) inner)
+            (value_view value.old) }
+        ensures { IsWalked self.now.pool.now self.now.most (option_map (λ m. m.0) inner) place.now
+            (edit_of pending.old.change) (one (value_view value.old))
+            (one (value_view value.new)) result pending.new.taken }
     {
         let Some(inner) = inner else {
             return Err(ChangeError::Absent);

@@ -1,44 +1,38 @@
 -- The numbers of an enum's values.
-use Rattle.std.proofs.Common.{pos, ◌-ℤ◌, ◌+ℤ◌, ◌⊎◌, inl, inr, String, Global, string_bytes, map, replicate, set, ◌≡◌, ℕ, ℤ, zero, suc, ◌<◌, ◌≤◌, Bool, true, false, ◌||◌, if◌then◌else◌, List, [], ◌∷◌, ◌++◌, length, get_or, refl, sym, ◌∙◌, ap, subst, arith, Option, Some, None}
+use Rattle.std.proofs.Common.{pos, ◌-ℤ◌, ◌+ℤ◌, ◌+◌, ◌⊎◌, inl, inr, String, Global, string_bytes, map, replicate, set, ◌≡◌, ℕ, ℤ, zero, suc, ◌<◌, ◌≤◌, Bool, true, false, ◌||◌, if◌then◌else◌, List, [], ◌∷◌, ◌++◌, length, get_or, refl, sym, ◌∙◌, ap, subst, arith, Option, Some, None, cond, find, option_map}
 use Rattle.std.specs.Prelude.{IfSome, MatchOption, slice_get, IsTrue}
 use Rattle.std.proofs.Math.IntN.{ -ℤ-+ℤ_cancel}
-use Rattle.std.specs.List.{list_any}
-use Rattle.std.specs.Ordering.{int_eq}
+use Rattle.std.specs.List.{list_any, position_from}
+use Rattle.std.specs.Option.{is_some}
+use Rattle.std.specs.Ordering.{int_eq, int_cmp}
+use Rattle.std.specs.BTreeMap.{BTreeMap, get}
+use Rattle.std.proofs.lemmas.List.{length-map}
 use Rattle.std.proofs.lemmas.Bool.Decides.{Decides-int_eq}
-use Rattle.std.proofs.lemmas.List.Folds.{list_any-append}
-use Rattle.indexmap.specs.IndexSet.{insert_key}
 use Rattle.pb_schema.specs.declared.tables.values.ValueTable.{ValueTable}
 use Rattle.pb_schema.specs.Types.{EnumView}
-use Rattle.pb_schema.specs.EnumValues.{values_of_enum}
-use Rattle.pb_schema.specs.Tables.{AreNumbersOf, AreMarksOf, IsValueTable, AreValueTables}
+use Rattle.pb_schema.specs.EnumValues.{values_of_enum, value_name}
+use Rattle.pb_schema.proofs.LookupLemmas.{get_viewed}
+use Rattle.pb_schema.specs.Tables.{or_first, AreFirstsOf, AreMarksOf, IsValueTable, AreValueTables}
 
-same_answer : (a b : Bool) → (a ≡ true → b ≡ true) → (b ≡ true → a ≡ true) → a ≡ b
-same_answer true b there back = sym (there refl)
-same_answer false true there back = back refl
-same_answer false false there back = refl
+-- THE FIRST VALUE OF A NUMBER
 
-or_false : (b : Bool) → (b || false) ≡ b
-or_false true = refl
-or_false false = refl
-
-or_same : (a b : Bool) → (b ≡ true → a ≡ true) → a ≡ (a || b)
-or_same true b h = refl
-or_same false true h = h refl
-or_same false false h = refl
-
-int_eq-sym : (x y : ℤ) → int_eq x y ≡ int_eq y x
-int_eq-sym x y = same_answer (int_eq x y) (int_eq y x) (λ e. (Decides-int_eq y x).1 (sym ((Decides-int_eq x y).0 e))) (λ e. (Decides-int_eq x y).1 (sym ((Decides-int_eq y x).0 e)))
-
--- a number that is added where it isn't there already
-pub with_value : (vs : List (List ℕ × ℤ)) (ks : List ℤ) (v : List ℕ × ℤ) → AreNumbersOf vs ks → AreNumbersOf (vs ++ v ∷ []) (insert_key int_eq ks v.1)
-with_value vs ks v are z =
-    by_presence (list_any (int_eq v.1) ks) refl ∙ ap (λ b. b || (int_eq v.1 z || false)) (are z) ∙ sym (list_any-append (λ (w : List ℕ × ℤ). int_eq w.1 z) vs (v ∷ []))
+-- one more value is the first of its number, where none before it has the number
+pub position_from-push : {X : Type 0} (t : X → Bool) (i : ℕ) (xs : List X) (x : X) → position_from t i (xs ++ x ∷ []) ≡ or_first (position_from t i xs) (t x) (i + length xs)
+position_from-push t i [] x = ap (λ k. cond (t x) (Some k) None) (omega arith)
+position_from-push t i (y ∷ ys) x = by_test (t y) (position_from-push t (i + 1) ys x ∙ ap (or_first (position_from t (i + 1) ys) (t x)) (omega arith))
   where
-    by_presence : (b : Bool) → list_any (int_eq v.1) ks ≡ b → list_any (int_eq z) (if b then ks else ks ++ v.1 ∷ []) ≡ (list_any (int_eq z) ks || (int_eq v.1 z || false))
-    by_presence true here =
-        or_same (list_any (int_eq z) ks) (int_eq v.1 z || false) (λ e. subst (λ (y : ℤ). list_any (int_eq y) ks ≡ true) ((Decides-int_eq v.1 z).0 (sym (or_false (int_eq v.1 z)) ∙ e)) here)
-    by_presence false absent =
-        list_any-append (int_eq z) ks (v.1 ∷ []) ∙ ap (λ b. list_any (int_eq z) ks || (b || false)) (int_eq-sym z v.1)
+    by_test : (b : Bool) → position_from t (i + 1) (ys ++ x ∷ []) ≡ or_first (position_from t (i + 1) ys) (t x) (i + length (y ∷ ys)) → cond b (Some i) (position_from t (i + 1) (ys ++ x ∷ [])) ≡ or_first (cond b (Some i) (position_from t (i + 1) ys)) (t x) (i + length (y ∷ ys))
+    by_test true later = refl
+    by_test false later = later
+
+-- a place is there where a value passes
+pub has_place : {X : Type 0} (t : X → Bool) (i : ℕ) (xs : List X) → is_some (position_from t i xs) ≡ list_any t xs
+has_place t i [] = refl
+has_place t i (x ∷ xs) = by_test (t x) (has_place t (i + 1) xs)
+  where
+    by_test : (b : Bool) → is_some (position_from t (i + 1) xs) ≡ list_any t xs → is_some (cond b (Some i) (position_from t (i + 1) xs)) ≡ (b || list_any t xs)
+    by_test true later = refl
+    by_test false later = later
 
 some_same : {X : Type 0} {x y : X} → ◌≡◌ {A = Option X} (Some x) (Some y) → x ≡ y
 some_same p = cc
@@ -46,8 +40,94 @@ some_same p = cc
 none_some : {X : Type 0} {x : X} → ◌≡◌ {A = Option X} None (Some x) → ⊥
 none_some p = cc
 
-abbrev view_of : String Global × ℤ → List ℕ × ℤ
+-- what is found is at the place
+found_there : {X : Type 0} (t : X → Bool) (i k : ℕ) (xs : List X) → position_from t i xs ≡ Some k → (j : ℕ) × (k ≡ i + j) × (j < length xs) × (find t xs ≡ slice_get xs j)
+found_there t i k [] e = absurd (none_some e)
+found_there t i k (x ∷ xs) e = by_test (t x) (found_there t (i + 1) k xs) e
+  where
+    by_test : (b : Bool) → (position_from t (i + 1) xs ≡ Some k → (j : ℕ) × (k ≡ i + 1 + j) × (j < length xs) × (find t xs ≡ slice_get xs j)) → cond b (Some i) (position_from t (i + 1) xs) ≡ Some k → (j : ℕ) × (k ≡ i + j) × (j < length (x ∷ xs)) × (cond b (Some x) (find t xs) ≡ slice_get (x ∷ xs) j)
+    by_test true later e = (zero, omega (arith, some_same e), omega arith, refl)
+    by_test false later e = let r = later e in (suc r.0, omega (arith, r.1), omega (arith, r.2), r.3)
+
+found_nowhere : {X : Type 0} (t : X → Bool) (i : ℕ) (xs : List X) → position_from t i xs ≡ None → find t xs ≡ None
+found_nowhere t i [] e = refl
+found_nowhere t i (x ∷ xs) e = by_test (t x) (found_nowhere t (i + 1) xs) e
+  where
+    by_test : (b : Bool) → (position_from t (i + 1) xs ≡ None → find t xs ≡ None) → cond b (Some i) (position_from t (i + 1) xs) ≡ None → cond b (Some x) (find t xs) ≡ None
+    by_test true later e = absurd (none_some (sym e))
+    by_test false later e = later e
+
+int_eq-sym : (x y : ℤ) → int_eq x y ≡ int_eq y x
+int_eq-sym x y = same_answer (int_eq x y) (int_eq y x) (λ e. (Decides-int_eq y x).1 (sym ((Decides-int_eq x y).0 e))) (λ e. (Decides-int_eq x y).1 (sym ((Decides-int_eq y x).0 e)))
+  where
+    same_answer : (a b : Bool) → (a ≡ true → b ≡ true) → (b ≡ true → a ≡ true) → a ≡ b
+    same_answer true b there back = sym (there refl)
+    same_answer false true there back = back refl
+    same_answer false false there back = refl
+
+-- nothing is noted where a place is there
+pub noted_already : (at : ℤ → Option ℕ) (place : ℕ) (x : ℤ) → is_some (at x) ≡ true → (z : ℤ) → at z ≡ or_first (at z) (int_eq x z) place
+noted_already at place x there z = by_test (int_eq x z) refl
+  where
+    keep : (o : Option ℕ) → is_some o ≡ true → o ≡ or_first o true place
+    keep None h = absurd (off h)
+      where
+        off : false ≡ true → ⊥
+        off p = cc
+    keep (Some k) h = refl
+
+    pass : (o : Option ℕ) → o ≡ or_first o false place
+    pass None = refl
+    pass (Some k) = refl
+
+    by_test : (b : Bool) → int_eq x z ≡ b → at z ≡ or_first (at z) b place
+    by_test true same = keep (at z) (ap (λ y. is_some (at y)) (sym ((Decides-int_eq x z).0 same)) ∙ there)
+    by_test false other = pass (at z)
+
+none_is : (o : Option ℕ) → is_some o ≡ false → o ≡ None
+none_is None h = refl
+none_is (Some k) h = absurd (on h)
+  where
+    on : true ≡ false → ⊥
+    on p = cc
+
+-- a place that is noted where none was
+pub noted : (at new : ℤ → Option ℕ) (place : ℕ) (x : ℤ) → is_some (at x) ≡ false → ((z : ℤ) → new z ≡ cond (int_eq x z) (Some place) (at z)) → (z : ℤ) → new z ≡ or_first (at z) (int_eq x z) place
+noted at new place x none puts z = by_test (int_eq x z) refl (puts z)
+  where
+    by_test : (b : Bool) → int_eq x z ≡ b → new z ≡ cond b (Some place) (at z) → new z ≡ or_first (at z) b place
+    by_test true same put = put ∙ ap (λ o. or_first o true place) (sym (none_is (at z) (ap (λ y. is_some (at y)) (sym ((Decides-int_eq x z).0 same)) ∙ none)))
+    by_test false other put = put ∙ keep (at z)
+      where
+        keep : (o : Option ℕ) → o ≡ or_first o false place
+        keep None = refl
+        keep (Some k) = refl
+
+abbrev pub view_of : String Global × ℤ → List ℕ × ℤ
 view_of v = (string_bytes v.0, v.1)
+
+-- one more value, which is noted where no value before it has its number
+pub firsts-more : (vs : List (List ℕ × ℤ)) (v : List ℕ × ℤ) (old new : BTreeMap ℤ ℕ) → AreFirstsOf vs old → ((z : ℤ) → get int_cmp new z ≡ or_first (get int_cmp old z) (int_eq v.1 z) (length vs)) → AreFirstsOf (vs ++ v ∷ []) new
+firsts-more vs v old new are puts z =
+    let count : length vs ≡ 0 + length vs = omega arith in
+    puts z ∙ ap (λ o. or_first o (int_eq v.1 z) (length vs)) (are z) ∙ ap (or_first (position_from (λ (w : List ℕ × ℤ). int_eq w.1 z) 0 vs) (int_eq v.1 z)) count ∙ sym (position_from-push (λ (w : List ℕ × ℤ). int_eq w.1 z) 0 vs v)
+
+-- what a look-up answers is the place
+pub place_found : (vs : List (List ℕ × ℤ)) (firsts : BTreeMap ℤ ℕ) (z : ℤ) (o : Option ℕ) → AreFirstsOf vs firsts → o ≡ get int_cmp firsts z → position_from (λ v. int_eq v.1 z) 0 vs ≡ o
+place_found vs firsts z o are e = sym (are z) ∙ sym e
+
+pub place_within : (vs : List (String Global × ℤ)) (z : ℤ) (k : ℕ) → position_from (λ v. int_eq v.1 z) 0 (map view_of vs) ≡ Some k → k < length vs
+place_within vs z k e = let r = found_there (λ (v : List ℕ × ℤ). int_eq v.1 z) 0 k (map view_of vs) e in omega (arith, r.1, r.2, length-map vs view_of)
+
+pub named_there : (vs : List (String Global × ℤ)) (z : ℤ) (k : ℕ) (v : String Global × ℤ) → position_from (λ w. int_eq w.1 z) 0 (map view_of vs) ≡ Some k → v ≡ get_or vs k v → Some (string_bytes v.0) ≡ value_name z (map view_of vs)
+named_there vs z k v e is =
+    let r = found_there (λ (w : List ℕ × ℤ). int_eq w.1 z) 0 k (map view_of vs) e in
+    let at : r.0 ≡ k = omega (arith, r.1) in
+    let found : find (λ (w : List ℕ × ℤ). int_eq w.1 z) (map view_of vs) ≡ Some (view_of v) = r.3 ∙ ap (slice_get (map view_of vs)) at ∙ get_viewed view_of vs k v (place_within vs z k e) is in
+    sym (ap (option_map (λ (w : List ℕ × ℤ). w.0)) found)
+
+pub named_nowhere : (vs : List (List ℕ × ℤ)) (z : ℤ) → position_from (λ w. int_eq w.1 z) 0 vs ≡ None → None ≡ value_name z vs
+named_nowhere vs z e = sym (ap (option_map (λ (w : List ℕ × ℤ). w.0)) (found_nowhere (λ (w : List ℕ × ℤ). int_eq w.1 z) 0 vs e))
 
 -- the number of each value is that of a value
 pub number_there : (vs : List (String Global × ℤ)) (k : ℕ) (v : String Global × ℤ) → k < length vs → v ≡ get_or vs k v → list_any (λ w. int_eq w.1 v.1) (map view_of vs) ≡ true

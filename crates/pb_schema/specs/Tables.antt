@@ -6,7 +6,7 @@ pub mod Values
 pub use Rattle.pb_schema.specs.Tables.Numbers.{IsNumbered, IsNumberTable}
 pub use Rattle.pb_schema.specs.Tables.Members.{IsMemberTable}
 pub use Rattle.pb_schema.specs.Tables.Names.{IsNameTable, place_of, field_named}
-pub use Rattle.pb_schema.specs.Tables.Values.{AreNumbersOf, AreMarksOf, IsValueTable}
+pub use Rattle.pb_schema.specs.Tables.Values.{or_first, IsNoted, AreFirstsOf, AreMarksOf, IsValueTable}
 use Rattle.std.specs.Prelude.{◌≡◌, ℕ, length, List, [], ◌∷◌, Option, Vec}
 use Rattle.std.specs.declared.alloc.Global.{Global}
 use Rattle.pb_graphs.specs.declared.name_set.NameSet.{NameSet}

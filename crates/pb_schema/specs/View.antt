@@ -1,6 +1,7 @@
 -- The mathematical values of the parts of a pool.
-use Rattle.std.specs.Prelude.{ℕ, List, Option, Vec, map, option_map, string_bytes}
+use Rattle.std.specs.Prelude.{ℕ, ℤ, List, Option, Vec, map, option_map, string_bytes}
 use Rattle.std.specs.declared.alloc.Global.{Global}
+use Rattle.std.specs.declared.string.String.{String}
 use Rattle.pb_schema.specs.Types.{FieldView, MessageView, EnumView, FileView, Types}
 use Rattle.pb_schema.specs.declared.types.Field.{Field}
 use Rattle.pb_schema.specs.declared.types.MessageType.{MessageType}
@@ -23,12 +24,16 @@ message_view t = record {
   oneofs = map string_bytes t.oneofs.items;
 }
 
+-- the names and numbers of values
+abbrev pub values_view : List (String Global × ℤ) → List (List ℕ × ℤ)
+values_view vs = map (λ v. (string_bytes v.0, v.1)) vs
+
 abbrev pub enum_view : EnumType → EnumView
 enum_view t = record {
   name = string_bytes t.name;
   file = t.file;
   parent = parent_view t.parent;
-  values = map (λ v. (string_bytes v.0, v.1)) t.values.items;
+  values = values_view t.values.items;
 }
 
 abbrev pub file_view : FileInfo → FileView

@@ -8,7 +8,7 @@ use crate::rules::meet_rules;
 use crate::scalars::low_half;
 use crate::tables::names::field_named;
 use crate::tables::numbers::field_at;
-use crate::tables::values::has_number;
+use crate::tables::values::{first_named, has_number};
 use crate::tables::{Tables, tables_of};
 use crate::types::{EnumId, EnumType, Field, FileInfo, Kind, MessageId, MessageType};
 use std::alloc::{AllocError, Global};
@@ -178,7 +178,11 @@ impl Pool {
         requires { entry.0 < length self.now.enums }
         ensures found { option_map (λ s. s.now) result ≡ value_name number (enum_values self.now entry.0) }
     {
-        first_named(&self.enums[entry.0].values, number)
+        first_named(
+            &self.enums[entry.0].values,
+            &self.tables.values[entry.0],
+            number,
+        )
     }
 
     /// Whether an enum declares a value with this number. An index out of range declares none.
@@ -245,18 +249,4 @@ impl Pool {
             None => &[],
         }
     }
-}
-
-ghost use Rattle.std.specs.Prelude.{◌≡◌, map, option_map, string_bytes};
-ghost use Rattle.pb_schema.specs.EnumValues.{value_name as named_value};
-
-fn first_named(values: &[(String, i32)], number: i32) -> Option<&str>
-    ensures { option_map (λ s. s.now) result ≡ named_value number (map (λ v. (string_bytes v.0, v.1)) values.now) }
-{
-    for value in values {
-        if value.1 == number {
-            return Some(value.0.as_str());
-        }
-    }
-    None
 }

@@ -6,5 +6,7 @@ pub mod WritingLemmas
 pub mod FrameLemmas
 -- for the law of one frame, from which it follows that whatever is right is answered
 pub mod OneFrame
+-- for frames in turn: the bytes of one, as a length and what it counts, and what comes of an input that begins with none
+pub mod SpanLemmas
 -- small inputs with the frame or the fault that they begin with, worked out by the rules
 mod Rows

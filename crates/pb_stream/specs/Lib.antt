@@ -3,4 +3,7 @@ pub mod Frame
 pub mod Taking
 pub mod Writing
 pub mod Stream
+pub mod Spans
+pub mod Next
+pub mod Passed
 pub mod Loops

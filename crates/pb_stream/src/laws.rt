@@ -12,10 +12,12 @@ ghost use Rattle.pb_stream.specs.Writing.{WrittenIsFrame};
 
 /// An input that has a byte begins with a frame, or has exactly one fault, and it begins with one frame at most.
 pub fn one_frame()
-    ensures exactly { (pool : Types) (m : ℕ) (limits : Bounds) (input : List ℕ) → input ≢ [] → All IsByte input
-        → Exactly (BeginsWithFrame pool m limits input) (FrameFault pool m limits input) }
-    ensures one { (pool : Types) (m : ℕ) (limits : Bounds) (input rest more : List ℕ) (v w : Message)
-        → Frame pool m limits input v rest → Frame pool m limits input w more → (v ≡ w) × (rest ≡ more) }
+    ensures exactly { (pool : Types) (m : ℕ) (limits : Bounds) (input : List ℕ) → input ≢ []
+        → All IsByte input → Exactly (BeginsWithFrame pool m limits input)
+        (FrameFault pool m limits input) }
+    ensures one { (pool : Types) (m : ℕ) (limits : Bounds) (input rest more : List ℕ)
+        (v w : Message) → Frame pool m limits input v rest → Frame pool m limits input w more
+        → (v ≡ w) × (rest ≡ more) }
 {}
 
 /// The frame that is written of a well-formed message is a frame of it within the greatest limits, whatever follows it.

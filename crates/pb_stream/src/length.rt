@@ -14,7 +14,7 @@ use pb_wire::{Cause, DeviceFault, Input, Limits, read_varint};
 use std::alloc::Global;
 
 /// The most bytes that a length has.
-const MAX_LEN: usize = 10;
+pub(crate) const MAX_LEN: usize = 10;
 
 /// The length before a message: `start` bytes that encode `size`.
 #[derive(Clone, Copy)]
@@ -25,10 +25,13 @@ pub(crate) struct Header {
 
 /// Takes one byte, if one is left.
 fn next_byte<I: Input>(input: &mut I) -> Result<Option<u8>, DeviceFault>
-    ensures taken { IfOk result (λ o. IfSome o (λ b. Consumes (I.left input.old) (I.left input.new) (b ∷ []))) }
-    ensures end { IfOk result (λ o. IfNone o (Consumes (I.left input.old) (I.left input.new) [] × IsAtEnd (I.left input.new))) }
+    ensures taken { IfOk result
+        (λ o. IfSome o (λ b. Consumes (I.left input.old) (I.left input.new) (b ∷ []))) }
+    ensures end { IfOk result (λ o. IfNone o (Consumes (I.left input.old) (I.left input.new) []
+        × IsAtEnd (I.left input.new))) }
     ensures kept { OnOk result (I.failures input.new ≡ I.failures input.old) }
-    ensures failed { OnErr result (Keeps (I.left input.old) (I.left input.new) × (I.failures input.new ≢ I.failures input.old)) }
+    ensures failed { OnErr result (Keeps (I.left input.old) (I.left input.new)
+        × (I.failures input.new ≢ I.failures input.old)) }
     ensures steady { I.is_steady input.old ≡ true → IsOk result × (I.is_steady input.new ≡ true) }
 {
     let mut byte = [0u8];
@@ -40,9 +43,13 @@ fn next_byte<I: Input>(input: &mut I) -> Result<Option<u8>, DeviceFault>
 
 /// Takes the bytes of a varint one by one, since no byte past the frame may be taken: up to the first that is below 128,
 /// ten of them, or all that are left. Answers how many there are.
-fn take_varint<I: Input>(input: &mut I, bytes: &mut [u8; MAX_LEN]) -> Result<usize, DeviceFault>
+pub(crate) fn take_varint<I: Input>(
+    input: &mut I,
+    bytes: &mut [u8; MAX_LEN],
+) -> Result<usize, DeviceFault>
     ensures within { IfOk result (λ n. n ≤ 10) }
-    ensures taken { IfOk result (λ n. Consumes (I.left input.old) (I.left input.new) (take n bytes.new)) }
+    ensures taken { IfOk result
+        (λ n. Consumes (I.left input.old) (I.left input.new) (take n bytes.new)) }
     ensures ends { IfOk result (λ n. EndsVarint (take n bytes.new) (I.left input.new)) }
     ensures cut { OnErr result (TakesHigh (I.left input.old) (I.left input.new)) }
     ensures kept { OnOk result (I.failures input.new ≡ I.failures input.old) }
@@ -68,9 +75,12 @@ pub(crate) fn read_length<I: Input>(
     limits: Limits,
 ) -> Result<Option<Header>, DecodeError>
     ensures end { IfOk result (λ o. IfNone o (TakesNone (I.left input.old) (I.left input.new))) }
-    ensures length { IfOk result (λ o. IfSome o (λ h. TakesLength h.start h.size (I.left input.old) (I.left input.new))) }
+    ensures length { IfOk result
+        (λ o. IfSome o (λ h. TakesLength h.start h.size (I.left input.old) (I.left input.new))) }
     ensures small { IfOk result (λ o. IfSome o (λ h. (h.start ≤ 10) × (h.size ≤ limits.bytes))) }
-    ensures fault { IfErr result (λ e. IfRefused e (λ f. IfSome (I.left input.old) (λ left. (pool : Types) (m : ℕ) → FrameFault pool m limits left f))) }
+    ensures fault { IfErr result
+        (λ e. IfRefused e (λ f. IfSome (I.left input.old)
+        (λ left. (pool : Types) (m : ℕ) → FrameFault pool m limits left f))) }
     ensures within { OnErr result (StaysInFrame limits (I.left input.old) (I.left input.new)) }
     ensures failures { TellsFailures result (I.failures input.old) (I.failures input.new) }
     ensures plain { result ≢ Err Memory }

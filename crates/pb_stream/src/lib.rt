@@ -26,10 +26,15 @@
 
 pub mod laws;
 mod length;
+mod next;
+mod passing;
 mod reader;
 mod reading;
+mod skipping;
 mod writing;
 
+pub use next::{NextFrame, Reason, next_frame};
 pub use reader::DelimitedReader;
 pub use reading::read_delimited;
+pub use skipping::pass_frames;
 pub use writing::write_delimited;

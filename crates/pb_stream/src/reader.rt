@@ -48,7 +48,15 @@ impl<'p, I: Input + Drop> DelimitedReader<'p, I> {
         limits: Limits,
     ) -> DelimitedReader<'p, I>
         requires { message_type.0 < length pool.now.messages }
-        ensures { result ≡ record { pool = pool.now; kind = message_type.0; limits = limits; input = input; taken = 0; finished = false } }
+        ensures { result ≡ record {
+          pool = pool.now;
+          kind = message_type.0;
+          limits = limits;
+          input =
+              input;
+          taken = 0;
+          finished = false;
+        } }
     {
         DelimitedReader {
             alloc,
@@ -66,24 +74,39 @@ impl<'p, I: Input + Drop> DelimitedReader<'p, I> {
     ///
     /// [`read_delimited`]: crate::read_delimited
     pub fn next(&mut self) -> Result<Option<DynamicMessage<'p>>, DecodeError>
-        ensures same { (self.new.pool ≡ self.old.pool) × (self.new.kind ≡ self.old.kind) × (self.new.limits ≡ self.old.limits) }
-        ensures finished { self.old.finished ≡ true → (result ≡ Err Finished) × (self.new ≡ self.old) }
+        ensures same { (self.new.pool ≡ self.old.pool) × (self.new.kind ≡ self.old.kind)
+            × (self.new.limits ≡ self.old.limits) }
+        ensures finished { self.old.finished ≡ true
+            → (result ≡ Err Finished) × (self.new ≡ self.old) }
         ensures closes { OnErr result (self.new.finished ≡ true) }
         ensures goes_on { OnOk result (self.new.finished ≡ false) }
-        ensures counted { OnOk result (Counts self.old.taken self.new.taken (I.left self.old.input) (I.left self.new.input)) }
+        ensures counted { OnOk result
+            (Counts self.old.taken self.new.taken (I.left self.old.input) (I.left self.new.input)) }
 
-        ensures of_type { IfOk result (λ o. IfSome o (λ m. (m.pool ≡ self.old.pool) × (m.kind ≡ self.old.kind))) }
-        ensures end { IfOk result (λ o. IfNone o (TakesNone (I.left self.old.input) (I.left self.new.input))) }
-        ensures message { AnswersFrame (λ m. m.body) self.old.pool self.old.kind self.old.limits (I.left self.old.input) (I.left self.new.input) result }
-        ensures fault { self.old.finished ≡ false → TellsFrameFault self.old.pool self.old.kind self.old.limits (I.left self.old.input) result }
+        ensures of_type { IfOk result
+            (λ o. IfSome o (λ m. (m.pool ≡ self.old.pool) × (m.kind ≡ self.old.kind))) }
+        ensures end { IfOk result
+            (λ o. IfNone o (TakesNone (I.left self.old.input) (I.left self.new.input))) }
+        ensures message { AnswersFrame (λ m. m.body) self.old.pool self.old.kind self.old.limits
+            (I.left self.old.input) (I.left self.new.input) result }
+        ensures fault { self.old.finished ≡ false
+            → TellsFrameFault self.old.pool self.old.kind self.old.limits
+            (I.left self.old.input) result }
 
         // Until it has refused, whatever is right is answered, but where memory or the input fails.
-        ensures ended { self.old.finished ≡ false → I.left self.old.input ≡ Some [] → MatchResult result (λ o. o ≡ None) (λ e. e ≡ Device) }
-        ensures accepted { self.old.finished ≡ false → AcceptsFrame (λ m. m.body) self.old.pool self.old.kind self.old.limits (I.left self.old.input) result }
-        ensures refused { self.old.finished ≡ false → RefusesFrameFault self.old.pool self.old.kind self.old.limits (I.left self.old.input) result }
+        ensures ended { self.old.finished ≡ false → I.left self.old.input ≡ Some []
+            → MatchResult result (λ o. o ≡ None) (λ e. e ≡ Device) }
+        ensures accepted { self.old.finished ≡ false
+            → AcceptsFrame (λ m. m.body) self.old.pool self.old.kind self.old.limits
+            (I.left self.old.input) result }
+        ensures refused { self.old.finished ≡ false
+            → RefusesFrameFault self.old.pool self.old.kind self.old.limits
+            (I.left self.old.input) result }
 
-        ensures within { StaysInFrame self.old.limits (I.left self.old.input) (I.left self.new.input) }
-        ensures failures { TellsFailures result (I.failures self.old.input) (I.failures self.new.input) }
+        ensures within { StaysInFrame self.old.limits (I.left self.old.input)
+            (I.left self.new.input) }
+        ensures failures { TellsFailures result (I.failures self.old.input)
+            (I.failures self.new.input) }
         ensures steady { I.is_steady self.old.input ≡ true → result ≢ Err Device }
         ensures stays { I.is_steady self.old.input ≡ true → I.is_steady self.new.input ≡ true }
     {

@@ -30,10 +30,13 @@ fn take_frame<'p, I: Input>(
     limits: Limits,
 ) -> Result<Option<Framed<'p>>, DecodeError>
     requires { message_type.0 < length pool.now.messages }
-    ensures of_type { IfOk result (λ o. IfSome o (λ r. (r.message.pool ≡ pool.now) × (r.message.kind ≡ message_type.0))) }
+    ensures of_type { IfOk result
+        (λ o. IfSome o (λ r. (r.message.pool ≡ pool.now) × (r.message.kind ≡ message_type.0))) }
     ensures end { IfOk result (λ o. IfNone o (TakesNone (I.left input.old) (I.left input.new))) }
-    ensures message { AnswersFrame (λ r. r.message.body) pool.now message_type.0 limits (I.left input.old) (I.left input.new) result }
-    ensures counted { IfOk result (λ o. IfSome o (λ r. Takes r.size (I.left input.old) (I.left input.new))) }
+    ensures message { AnswersFrame (λ r. r.message.body) pool.now message_type.0 limits
+        (I.left input.old) (I.left input.new) result }
+    ensures counted { IfOk result
+        (λ o. IfSome o (λ r. Takes r.size (I.left input.old) (I.left input.new))) }
     ensures fault { TellsFrameFault pool.now message_type.0 limits (I.left input.old) result }
     ensures within { StaysInFrame limits (I.left input.old) (I.left input.new) }
     ensures failures { TellsFailures result (I.failures input.old) (I.failures input.new) }
@@ -61,14 +64,19 @@ pub(crate) fn read_frame<'p, I: Input>(
     limits: Limits,
 ) -> Result<Option<Framed<'p>>, DecodeError>
     requires { message_type.0 < length pool.now.messages }
-    ensures of_type { IfOk result (λ o. IfSome o (λ r. (r.message.pool ≡ pool.now) × (r.message.kind ≡ message_type.0))) }
+    ensures of_type { IfOk result
+        (λ o. IfSome o (λ r. (r.message.pool ≡ pool.now) × (r.message.kind ≡ message_type.0))) }
     ensures end { IfOk result (λ o. IfNone o (TakesNone (I.left input.old) (I.left input.new))) }
-    ensures message { AnswersFrame (λ r. r.message.body) pool.now message_type.0 limits (I.left input.old) (I.left input.new) result }
-    ensures counted { IfOk result (λ o. IfSome o (λ r. Takes r.size (I.left input.old) (I.left input.new))) }
+    ensures message { AnswersFrame (λ r. r.message.body) pool.now message_type.0 limits
+        (I.left input.old) (I.left input.new) result }
+    ensures counted { IfOk result
+        (λ o. IfSome o (λ r. Takes r.size (I.left input.old) (I.left input.new))) }
     ensures fault { TellsFrameFault pool.now message_type.0 limits (I.left input.old) result }
 
-    ensures ended { I.left input.old ≡ Some [] → MatchResult result (λ o. o ≡ None) (λ e. e ≡ Device) }
-    ensures accepted { AcceptsFrame (λ r. r.message.body) pool.now message_type.0 limits (I.left input.old) result }
+    ensures ended { I.left input.old ≡ Some []
+        → MatchResult result (λ o. o ≡ None) (λ e. e ≡ Device) }
+    ensures accepted { AcceptsFrame (λ r. r.message.body) pool.now message_type.0 limits
+        (I.left input.old) result }
     ensures refused { RefusesFrameFault pool.now message_type.0 limits (I.left input.old) result }
 
     ensures within { StaysInFrame limits (I.left input.old) (I.left input.new) }
@@ -92,14 +100,18 @@ pub fn read_delimited<'p, I: Input>(
     limits: Limits,
 ) -> Result<Option<DynamicMessage<'p>>, DecodeError>
     requires { message_type.0 < length pool.now.messages }
-    ensures of_type { IfOk result (λ o. IfSome o (λ m. (m.pool ≡ pool.now) × (m.kind ≡ message_type.0))) }
+    ensures of_type { IfOk result
+        (λ o. IfSome o (λ m. (m.pool ≡ pool.now) × (m.kind ≡ message_type.0))) }
     ensures end { IfOk result (λ o. IfNone o (TakesNone (I.left input.old) (I.left input.new))) }
-    ensures message { AnswersFrame (λ m. m.body) pool.now message_type.0 limits (I.left input.old) (I.left input.new) result }
+    ensures message { AnswersFrame (λ m. m.body) pool.now message_type.0 limits (I.left input.old)
+        (I.left input.new) result }
     ensures fault { TellsFrameFault pool.now message_type.0 limits (I.left input.old) result }
 
     // Whatever is right is answered, but where memory or the input fails.
-    ensures ended { I.left input.old ≡ Some [] → MatchResult result (λ o. o ≡ None) (λ e. e ≡ Device) }
-    ensures accepted { AcceptsFrame (λ m. m.body) pool.now message_type.0 limits (I.left input.old) result }
+    ensures ended { I.left input.old ≡ Some []
+        → MatchResult result (λ o. o ≡ None) (λ e. e ≡ Device) }
+    ensures accepted { AcceptsFrame (λ m. m.body) pool.now message_type.0 limits
+        (I.left input.old) result }
     ensures refused { RefusesFrameFault pool.now message_type.0 limits (I.left input.old) result }
 
     ensures within { StaysInFrame limits (I.left input.old) (I.left input.new) }

@@ -22,10 +22,12 @@ pub fn write_delimited<O: Output>(
     message: &DynamicMessage,
     output: &mut O,
 ) -> Result<(), EncodeError>
-    ensures written { OnOk result (Appends (O.written output.old) (O.written output.new) (frame_of (bytes_of message.now))) }
+    ensures written { OnOk result
+        (Appends (O.written output.old) (O.written output.new) (frame_of (bytes_of message.now))) }
     ensures kept { OnOk result (O.failures output.new ≡ O.failures output.old) }
     ensures fits { OnOk result (length (bytes_of message.now) < 2 ^ 31) }
-    ensures refused { IfErr result (IsUnsent O.written O.failures output.old output.new (bytes_of message.now)) }
+    ensures refused { IfErr result
+        (IsUnsent O.written O.failures output.old output.new (bytes_of message.now)) }
 {
     let plan = plan(message)?;
     let front = put_varint(u64::from(plan.len()));

@@ -63,7 +63,8 @@ fn unknown_of(alloc: Global, word: &str) -> Result<Unknown, WordError>
 }
 
 fn add_record(body: Body, number: u32, payload: Unknown) -> Result<Body, WordError>
-    ensures value { IfOk result (λ b. body_view b ≡ with_record number (payload_of payload) (body_view body)) }
+    ensures value { IfOk result (λ b. body_view b
+        ≡ with_record number (payload_of payload) (body_view body)) }
     ensures memory { IfErr result (λ e. e ≡ Memory) }
 {
     let mut body = body;
@@ -72,16 +73,20 @@ fn add_record(body: Body, number: u32, payload: Unknown) -> Result<Body, WordErr
 }
 
 fn field_onto(alloc: Global, body: Body, number: &str, word: &str) -> Result<Body, WordError>
-    ensures value { IfOk result (λ b. field_onto (body_view body) (number.now, word.now) ≡ Some (body_view b)) }
-    ensures refused { IfErr result (λ e. e ≡ NoMeaning → field_onto (body_view body) (number.now, word.now) ≡ None) }
+    ensures value { IfOk result (λ b. field_onto (body_view body) (number.now, word.now)
+        ≡ Some (body_view b)) }
+    ensures refused { IfErr result (λ e. e ≡ NoMeaning
+        → field_onto (body_view body) (number.now, word.now) ≡ None) }
 {
     let number = u32_of(number)?;
     with_field(body, number, content_of(alloc, word)?)
 }
 
 fn record_onto(alloc: Global, body: Body, number: &str, word: &str) -> Result<Body, WordError>
-    ensures value { IfOk result (λ b. record_onto (body_view body) (number.now, word.now) ≡ Some (body_view b)) }
-    ensures refused { IfErr result (λ e. e ≡ NoMeaning → record_onto (body_view body) (number.now, word.now) ≡ None) }
+    ensures value { IfOk result (λ b. record_onto (body_view body) (number.now, word.now)
+        ≡ Some (body_view b)) }
+    ensures refused { IfErr result (λ e. e ≡ NoMeaning
+        → record_onto (body_view body) (number.now, word.now) ≡ None) }
 {
     let number = u32_of(number)?;
     add_record(body, number, unknown_of(alloc, word)?)
@@ -90,7 +95,8 @@ fn record_onto(alloc: Global, body: Body, number: &str, word: &str) -> Result<Bo
 /// A body with one field more, as `1:i5`, or one unknown record, as `99~v7`; an empty word adds none.
 fn with_word(alloc: Global, body: Body, word: &str) -> Result<Body, WordError>
     ensures value { IfOk result (λ b. word_onto (body_view body) word.now ≡ Some (body_view b)) }
-    ensures refused { IfErr result (λ e. e ≡ NoMeaning → word_onto (body_view body) word.now ≡ None) }
+    ensures refused { IfErr result (λ e. e ≡ NoMeaning
+        → word_onto (body_view body) word.now ≡ None) }
 {
     if word.is_empty() {
         return Ok(body);
@@ -104,7 +110,8 @@ fn with_word(alloc: Global, body: Body, word: &str) -> Result<Body, WordError>
 
 fn with_words(alloc: Global, body: Body, words: &str) -> Result<Body, WordError>
     ensures value { IfOk result (λ b. words_onto (body_view body) words.now ≡ Some (body_view b)) }
-    ensures refused { IfErr result (λ e. e ≡ NoMeaning → words_onto (body_view body) words.now ≡ None) }
+    ensures refused { IfErr result (λ e. e ≡ NoMeaning
+        → words_onto (body_view body) words.now ≡ None) }
 {
     let (word, more) = head_of(words, ' ');
     let body = with_word(alloc, body, word)?;

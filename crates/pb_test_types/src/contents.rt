@@ -14,8 +14,10 @@ use std::collections::BTreeMap;
 
 /// Values with one more; an empty word adds none.
 fn with_element(alloc: Global, values: Vec<Value>, word: &str) -> Result<Vec<Value>, WordError>
-    ensures value { IfOk result (λ vs. element_onto (values_view values.items) word.now ≡ Some (values_view vs.items)) }
-    ensures refused { IfErr result (λ e. e ≡ NoMeaning → element_onto (values_view values.items) word.now ≡ None) }
+    ensures value { IfOk result (λ vs. element_onto (values_view values.items) word.now
+        ≡ Some (values_view vs.items)) }
+    ensures refused { IfErr result (λ e. e ≡ NoMeaning
+        → element_onto (values_view values.items) word.now ≡ None) }
 {
     let mut values = values;
     if !word.is_empty() {
@@ -25,8 +27,10 @@ fn with_element(alloc: Global, values: Vec<Value>, word: &str) -> Result<Vec<Val
 }
 
 fn with_elements(alloc: Global, values: Vec<Value>, words: &str) -> Result<Vec<Value>, WordError>
-    ensures value { IfOk result (λ vs. elements_onto (values_view values.items) words.now ≡ Some (values_view vs.items)) }
-    ensures refused { IfErr result (λ e. e ≡ NoMeaning → elements_onto (values_view values.items) words.now ≡ None) }
+    ensures value { IfOk result (λ vs. elements_onto (values_view values.items) words.now
+        ≡ Some (values_view vs.items)) }
+    ensures refused { IfErr result (λ e. e ≡ NoMeaning
+        → elements_onto (values_view values.items) words.now ≡ None) }
 {
     let (word, more) = head_of(words, ',');
     let values = with_element(alloc, values, word)?;
@@ -40,8 +44,10 @@ type Entries = BTreeMap<MapKey, Value>;
 
 /// Entries with one more, as `tk=i1`; an empty word adds none.
 fn with_entry(alloc: Global, entries: Entries, word: &str) -> Result<Entries, WordError>
-    ensures value { IfOk result (λ es. entry_onto (entries_view entries.entries) word.now ≡ Some (entries_view es.entries)) }
-    ensures refused { IfErr result (λ e. e ≡ NoMeaning → entry_onto (entries_view entries.entries) word.now ≡ None) }
+    ensures value { IfOk result (λ es. entry_onto (entries_view entries.entries) word.now
+        ≡ Some (entries_view es.entries)) }
+    ensures refused { IfErr result (λ e. e ≡ NoMeaning
+        → entry_onto (entries_view entries.entries) word.now ≡ None) }
 {
     let mut entries = entries;
     if !word.is_empty() {
@@ -53,8 +59,10 @@ fn with_entry(alloc: Global, entries: Entries, word: &str) -> Result<Entries, Wo
 }
 
 fn with_entries(alloc: Global, entries: Entries, words: &str) -> Result<Entries, WordError>
-    ensures value { IfOk result (λ es. entries_onto (entries_view entries.entries) words.now ≡ Some (entries_view es.entries)) }
-    ensures refused { IfErr result (λ e. e ≡ NoMeaning → entries_onto (entries_view entries.entries) words.now ≡ None) }
+    ensures value { IfOk result (λ es. entries_onto (entries_view entries.entries) words.now
+        ≡ Some (entries_view es.entries)) }
+    ensures refused { IfErr result (λ e. e ≡ NoMeaning
+        → entries_onto (entries_view entries.entries) words.now ≡ None) }
 {
     let (word, more) = head_of(words, ',');
     let entries = with_entry(alloc, entries, word)?;

@@ -40,7 +40,8 @@ pub(crate) fn halves(word: &str, separator: char) -> Result<(&str, &str), WordEr
 /// The first word of a row, and the row of the others if there are more.
 pub(crate) fn head_of(row: &str, separator: char) -> (&str, Option<&str>)
     requires { separator < 128 }
-    ensures words { parts separator row.now ≡ result.0.now ∷ rest_parts separator (option_map (λ x. x.now) result.1) }
+    ensures words { parts separator row.now ≡ result.0.now ∷ rest_parts separator
+        (option_map (λ x. x.now) result.1) }
     ensures shorter { IfSome result.1 (λ x. length x.now < length row.now) }
 {
     match halves(row, separator) {

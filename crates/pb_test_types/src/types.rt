@@ -78,7 +78,8 @@ pub fn pool_of(
 ) -> Result<Pool, PoolError>
     ensures made { IfOk result (λ p. p ≡ types_in files.now types.now enums.now) }
     ensures rules { IfOk result (λ p. IsPool p) }
-    ensures refused { IfErr result (λ e. e ≡ BadParts → ¬ IsPool (types_in files.now types.now enums.now)) }
+    ensures refused { IfErr result (λ e. e ≡ BadParts
+        → ¬ IsPool (types_in files.now types.now enums.now)) }
 {
     let files = files_of(alloc, files)?;
     let types = types_of(alloc, types)?;

@@ -45,7 +45,8 @@ fn scalar_of(alloc: Global, word: &str) -> Result<Value, WordError>
 
 /// A body with a content at a number.
 pub(crate) fn with_field(body: Body, number: u32, content: Content) -> Result<Body, WordError>
-    ensures value { IfOk result (λ b. body_view b ≡ with_field number (content_view content) (body_view body)) }
+    ensures value { IfOk result (λ b. body_view b
+        ≡ with_field number (content_view content) (body_view body)) }
     ensures memory { IfErr result (λ e. e ≡ Memory) }
 {
     let mut body = body;
@@ -58,7 +59,8 @@ pub(crate) fn with_field(body: Body, number: u32, content: Content) -> Result<Bo
 /// A body with one scalar more, as `1=i5`; an empty word adds none.
 fn with_scalar(alloc: Global, body: Body, word: &str) -> Result<Body, WordError>
     ensures value { IfOk result (λ b. scalar_onto (body_view body) word.now ≡ Some (body_view b)) }
-    ensures refused { IfErr result (λ e. e ≡ NoMeaning → scalar_onto (body_view body) word.now ≡ None) }
+    ensures refused { IfErr result (λ e. e ≡ NoMeaning
+        → scalar_onto (body_view body) word.now ≡ None) }
 {
     if word.is_empty() {
         return Ok(body);
@@ -69,8 +71,10 @@ fn with_scalar(alloc: Global, body: Body, word: &str) -> Result<Body, WordError>
 }
 
 fn with_scalars(alloc: Global, body: Body, words: &str) -> Result<Body, WordError>
-    ensures value { IfOk result (λ b. scalars_onto (body_view body) words.now ≡ Some (body_view b)) }
-    ensures refused { IfErr result (λ e. e ≡ NoMeaning → scalars_onto (body_view body) words.now ≡ None) }
+    ensures value { IfOk result (λ b. scalars_onto (body_view body) words.now
+        ≡ Some (body_view b)) }
+    ensures refused { IfErr result (λ e. e ≡ NoMeaning
+        → scalars_onto (body_view body) words.now ≡ None) }
 {
     let (word, more) = head_of(words, ';');
     let body = with_scalar(alloc, body, word)?;

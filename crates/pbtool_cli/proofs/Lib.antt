@@ -1,3 +1,5 @@
+-- for `explaining`: the line of a refusal, and the lines that explain it
+pub mod ExplainedSteps
 -- for `pages::page`: what clap answers to `--help`
 pub mod HelpPages
 -- for `command_line::run`: what the matches of clap name

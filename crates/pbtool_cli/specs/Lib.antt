@@ -1,3 +1,4 @@
+pub mod Explained
 pub mod Misuse
 pub mod Running
 pub mod StandardFiles

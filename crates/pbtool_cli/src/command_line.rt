@@ -9,10 +9,11 @@ ghost use Rattle.pbtool_files.specs.Report.{device_line, memory_line};
 ghost use Rattle.pb_output.specs.Sending.{Cut, Sent, SentOrCut};
 ghost use Rattle.pbtool_cli.specs.Misuse.{report_of};
 ghost use Rattle.pbtool_cli.specs.Running.{DoesBy, DoesNamed, IsNoCommand, RefusesWords, ReportsMisuse};
-ghost use Rattle.pbtool_command.specs.Explained.{DoesExplained};
+ghost use Rattle.pbtool_cli.specs.Explained.{DoesExplained};
 ghost use Rattle.pbtool_cli.specs.Words.{AreJsonRules, AreRoots, IsFrameForm, IsMatched, IsRawForm, IsSource, ShowsFrames, flag_of, floats_of, layout_of, output_of, reading_of, sources_of};
 ghost use Rattle.pbtool_cli.specs.Words.{IsComparison, is_explained, readers_of, value_of, values_of, tool, tool_names, words_of};
 
+use crate::explaining::execute_explained;
 use crate::misuse::misuse_of;
 use crate::pages::{print_page, print_version};
 use crate::words::definition;
@@ -21,7 +22,7 @@ use clap::{ArgMatches, Error};
 use pb_wire::{Output, write_all};
 use pbtool_command::{
     Cleanup, Command, Comparison, Files, FloatForm, FrameForm, JsonRules, Layout, RawForm, Readers,
-    Reading, Refusal, Roots, Source, execute_explained, execute_then,
+    Reading, Refusal, Roots, Source, execute_then,
 };
 use std::alloc::Global;
 
@@ -37,22 +38,27 @@ pub fn run<F: Files, O: Output, E: Output>(
     // Where clap takes the words and nothing else is wrong with them, what they name is done, unless memory runs out before.
     ensures taken { fault_of tool (words_of args.now) ≡ []
         → report_of (subcommand_of tool (words_of args.now)) ≡ None
-        → DoesNamed (Sent O.written O.failures out.old out.new) (Cut O.written O.failures out.old out.new)
-        (SentOrCut E.written E.failures err.old err.new) (IsSaved F.contents files.old files.new)
-        (IsUnsaved F.contents F.failures files.old files.new) result (IsHonest F.contents F.is_steady files.old)
+        → DoesNamed (Sent O.written O.failures out.old out.new)
+        (Cut O.written O.failures out.old out.new) (SentOrCut E.written E.failures err.old err.new)
+        (IsSaved F.contents files.old files.new)
+        (IsUnsaved F.contents F.failures files.old files.new) result
+        (IsHonest F.contents F.is_steady files.old)
         (DoesExplained F.contents F.failures files.old (Sent O.written O.failures out.old out.new)
-        (Cut O.written O.failures out.old out.new) (SentOrCut E.written E.failures err.old err.new) result (IsHonest F.contents F.is_steady files.old))
-        (subcommand_of tool (words_of args.now)) }
+        (Cut O.written O.failures out.old out.new)
+        (SentOrCut E.written E.failures err.old err.new) result
+        (IsHonest F.contents F.is_steady files.old)) (subcommand_of tool (words_of args.now)) }
 
     // Where something else is wrong with them, it is reported.
     ensures misused { fault_of tool (words_of args.now) ≡ []
         → IfSome (report_of (subcommand_of tool (words_of args.now)))
-        (ReportsMisuse (Sent O.written O.failures out.old out.new) (SentOrCut E.written E.failures err.old err.new)
+        (ReportsMisuse (Sent O.written O.failures out.old out.new)
+        (SentOrCut E.written E.failures err.old err.new)
         (IsSaved F.contents files.old files.new) result) }
 
     // Where they are not taken, nothing goes to standard output.
     ensures refused { fault_of tool (words_of args.now) ≢ []
-        → RefusesWords (Sent O.written O.failures out.old out.new) (SentOrCut E.written E.failures err.old err.new)
+        → RefusesWords (Sent O.written O.failures out.old out.new)
+        (SentOrCut E.written E.failures err.old err.new)
         (IsSaved F.contents files.old files.new) result }
     ensures usage { result ≡ 2 → IsNoCommand (words_of args.now) }
     // The command line is one whose words are judged as clap says, so that the clauses above are not empty.
@@ -68,7 +74,8 @@ pub fn run<F: Files, O: Output, E: Output>(
 
     // Steady files that take writes do not fail.
     ensures unfailing { is_explained (subcommand_of tool (words_of args.now)) ≡ false
-        → F.is_steady files.old ≡ true → F.takes_writes files.old ≡ true → F.failures files.new ≡ F.failures files.old }
+        → F.is_steady files.old ≡ true → F.takes_writes files.old ≡ true
+        → F.failures files.new ≡ F.failures files.old }
 {
     run_then(alloc, Cleanup::Free, args, files, out, err)
 }
@@ -86,22 +93,27 @@ pub fn run_then<F: Files, O: Output, E: Output>(
     // Where clap takes the words and nothing else is wrong with them, what they name is done, unless memory runs out before.
     ensures taken { fault_of tool (words_of args.now) ≡ []
         → report_of (subcommand_of tool (words_of args.now)) ≡ None
-        → DoesNamed (Sent O.written O.failures out.old out.new) (Cut O.written O.failures out.old out.new)
-        (SentOrCut E.written E.failures err.old err.new) (IsSaved F.contents files.old files.new)
-        (IsUnsaved F.contents F.failures files.old files.new) result (IsHonest F.contents F.is_steady files.old)
+        → DoesNamed (Sent O.written O.failures out.old out.new)
+        (Cut O.written O.failures out.old out.new) (SentOrCut E.written E.failures err.old err.new)
+        (IsSaved F.contents files.old files.new)
+        (IsUnsaved F.contents F.failures files.old files.new) result
+        (IsHonest F.contents F.is_steady files.old)
         (DoesExplained F.contents F.failures files.old (Sent O.written O.failures out.old out.new)
-        (Cut O.written O.failures out.old out.new) (SentOrCut E.written E.failures err.old err.new) result (IsHonest F.contents F.is_steady files.old))
-        (subcommand_of tool (words_of args.now)) }
+        (Cut O.written O.failures out.old out.new)
+        (SentOrCut E.written E.failures err.old err.new) result
+        (IsHonest F.contents F.is_steady files.old)) (subcommand_of tool (words_of args.now)) }
 
     // Where something else is wrong with them, it is reported.
     ensures misused { fault_of tool (words_of args.now) ≡ []
         → IfSome (report_of (subcommand_of tool (words_of args.now)))
-        (ReportsMisuse (Sent O.written O.failures out.old out.new) (SentOrCut E.written E.failures err.old err.new)
+        (ReportsMisuse (Sent O.written O.failures out.old out.new)
+        (SentOrCut E.written E.failures err.old err.new)
         (IsSaved F.contents files.old files.new) result) }
 
     // Where they are not taken, nothing goes to standard output.
     ensures refused { fault_of tool (words_of args.now) ≢ []
-        → RefusesWords (Sent O.written O.failures out.old out.new) (SentOrCut E.written E.failures err.old err.new)
+        → RefusesWords (Sent O.written O.failures out.old out.new)
+        (SentOrCut E.written E.failures err.old err.new)
         (IsSaved F.contents files.old files.new) result }
     ensures usage { result ≡ 2 → IsNoCommand (words_of args.now) }
     // The command line is one whose words are judged as clap says, so that the clauses above are not empty.
@@ -117,7 +129,8 @@ pub fn run_then<F: Files, O: Output, E: Output>(
 
     // Steady files that take writes do not fail.
     ensures unfailing { is_explained (subcommand_of tool (words_of args.now)) ≡ false
-        → F.is_steady files.old ≡ true → F.takes_writes files.old ≡ true → F.failures files.new ≡ F.failures files.old }
+        → F.is_steady files.old ≡ true → F.takes_writes files.old ≡ true
+        → F.failures files.new ≡ F.failures files.old }
 {
     let Ok(definition) = definition(alloc) else {
         return out_of_memory(err);
@@ -163,14 +176,18 @@ fn answer<F: Files, O: Output, E: Output>(
 ) -> u8
     requires { Any (λ name. subcommand_name_of matches.now ≡ Some name) tool_names }
     ensures done { report_of (subcommand_rows_of matches.now) ≡ None
-        → DoesNamed (Sent O.written O.failures out.old out.new) (Cut O.written O.failures out.old out.new)
-        (SentOrCut E.written E.failures err.old err.new) (IsSaved F.contents files.old files.new)
-        (IsUnsaved F.contents F.failures files.old files.new) result (IsHonest F.contents F.is_steady files.old)
+        → DoesNamed (Sent O.written O.failures out.old out.new)
+        (Cut O.written O.failures out.old out.new) (SentOrCut E.written E.failures err.old err.new)
+        (IsSaved F.contents files.old files.new)
+        (IsUnsaved F.contents F.failures files.old files.new) result
+        (IsHonest F.contents F.is_steady files.old)
         (DoesExplained F.contents F.failures files.old (Sent O.written O.failures out.old out.new)
-        (Cut O.written O.failures out.old out.new) (SentOrCut E.written E.failures err.old err.new) result (IsHonest F.contents F.is_steady files.old))
-        (subcommand_rows_of matches.now) }
+        (Cut O.written O.failures out.old out.new)
+        (SentOrCut E.written E.failures err.old err.new) result
+        (IsHonest F.contents F.is_steady files.old)) (subcommand_rows_of matches.now) }
     ensures misused { IfSome (report_of (subcommand_rows_of matches.now))
-        (ReportsMisuse (Sent O.written O.failures out.old out.new) (SentOrCut E.written E.failures err.old err.new)
+        (ReportsMisuse (Sent O.written O.failures out.old out.new)
+        (SentOrCut E.written E.failures err.old err.new)
         (IsSaved F.contents files.old files.new) result) }
     ensures usage { result ≡ 2 → IsSome (report_of (subcommand_rows_of matches.now)) }
     ensures kept { is_explained (subcommand_rows_of matches.now) ≡ false
@@ -179,7 +196,8 @@ fn answer<F: Files, O: Output, E: Output>(
         → F.failures files.new ≢ F.failures files.old
         → (path : List ℕ) × SentOrCut E.written E.failures err.old err.new (device_line path) }
     ensures unfailing { is_explained (subcommand_rows_of matches.now) ≡ false
-        → F.is_steady files.old ≡ true → F.takes_writes files.old ≡ true → F.failures files.new ≡ F.failures files.old }
+        → F.is_steady files.old ≡ true → F.takes_writes files.old ≡ true
+        → F.failures files.new ≡ F.failures files.old }
 {
     if let Some(misuse) = misuse_of(matches) {
         misuse.report(err);

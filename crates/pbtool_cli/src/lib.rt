@@ -3,7 +3,8 @@
 //! ```rust
 //! use pb_wire::{Output, ReadInput, WriteOutput, write_all};
 //! use pbtool_cli::{Cleanup, HostFiles, Refusal, StandardFiles, run_then};
-//! use std::io::ErrorKind;
+//! use pbtool_layers::{Overlay, Progress, built_in_files, with_built_in};
+//! use std::io::{ErrorKind, IsTerminal};
 //! use std::process::ExitCode;
 //! use std::{env, io};
 //!
@@ -15,7 +16,12 @@
 //!     };
 //!     let input = ReadInput::new(rt.stdin());
 //!     let output = WriteOutput::new(rt.stdout());
-//!     let mut files = StandardFiles::new(HostFiles::new(&rt), input, output);
+//!     let standard = StandardFiles::new(HostFiles::new(&rt), input, output);
+//!     let Ok(built_in) = built_in_files(rt.alloc()) else {
+//!         return ExitCode::from(Refusal::Memory.tell(&mut err));
+//!     };
+//!     let counted = Progress::new(&rt, standard, wants_progress(&rt, &args));
+//!     let mut files = Overlay::new(counted, &built_in);
 //!     let mut out = WriteOutput::new(rt.stdout());
 //!     let status = run_then(
 //!         rt.alloc(),
@@ -28,24 +34,39 @@
 //!     ExitCode::from(status)
 //! }
 //!
-//! /// The words of the command line, the program's name first.
+//! /// Whether standard error is a terminal, and no other one shows what is printed of the input as it is read.
+//! fn wants_progress(rt: &HostRuntime, args: &[String]) -> bool {
+//!     rt.stderr().is_terminal() && (prints_last(args) || !rt.stdout().is_terminal())
+//! }
+//!
+//! /// Whether the command prints nothing before it has read its input.
+//! fn prints_last(args: &[String]) -> bool {
+//!     match args.get(1) {
+//!         Some(word) => word.as_str() != "raw" && word.as_str() != "frames",
+//!         None => false,
+//!     }
+//! }
+//!
+//! /// The words of the command line, the program's name first, with the folder that is built in.
 //! fn command_line(rt: &HostRuntime) -> io::Result<Vec<String>> {
 //!     let args = env::args(rt)?.collect(rt.alloc())?;
-//!     Ok(args)
+//!     let words = with_built_in(rt.alloc(), args)?;
+//!     Ok(words)
 //! }
 //! ```
 #![tactic(auto)]
 
 mod command_line;
+mod explaining;
 mod misuse;
 mod pages;
 mod standard_files;
 mod words;
 
 pub use command_line::{run, run_then};
+pub use explaining::execute_explained;
 pub use pbtool_command::{
     Cleanup, Command, Comparison, Files, FloatForm, FrameForm, HostFiles, JsonRules, Layout,
-    MemFiles, RawForm, Readers, Reading, Refusal, Roots, Source, execute, execute_explained,
-    execute_then,
+    MemFiles, RawForm, Readers, Reading, Refusal, Roots, Source, execute, execute_then,
 };
 pub use standard_files::{StandardFiles, StandardInput};

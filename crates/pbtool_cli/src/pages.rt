@@ -62,7 +62,8 @@ pub(crate) fn print_page<O: Output, E: Output>(
     ensures printed { ((page : List ℕ) × IsPrinted (Sent O.written O.failures out.old out.new)
         (Cut O.written O.failures out.old out.new)
         (SentOrCut E.written E.failures err.old err.new) result page)
-        ⊎ ((result ≡ 3) × Sent O.written O.failures out.old out.new [] × SentOrCut E.written E.failures err.old err.new memory_line) }
+        ⊎ ((result ≡ 3) × Sent O.written O.failures out.old out.new []
+        × SentOrCut E.written E.failures err.old err.new memory_line) }
     ensures status { result ≢ 2 }
 {
     match page(alloc, command) {

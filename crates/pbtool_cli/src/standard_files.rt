@@ -1,6 +1,6 @@
 //! Files beside which standard input and output have the name `-`.
 
-ghost use Rattle.std.specs.Prelude.{◌≡◌, ◌≢◌, ◌+◌, None, false};
+ghost use Rattle.std.specs.Prelude.{◌≡◌, ◌≢◌, ◌+◌, None, Some, false, IfOk, OnErr, OnOk};
 ghost use Rattle.pbtool_cli.specs.StandardFiles.{failures_of, left_of};
 
 use pb_wire::{DeviceFault, Input, Output, write_all};
@@ -25,13 +25,33 @@ pub struct StandardFiles<F: Drop, I: Drop, O: Drop> {
 }
 
 impl<F: Files + Drop, I: Input + Drop, O: Output + Drop> StandardFiles<F, I, O> {
-    /// These files, with this standard input and output.
-    pub fn new(files: F, input: I, output: O) -> StandardFiles<F, I, O> {
+    /// These files, with this standard input and output. No failure is counted yet.
+    pub fn new(files: F, input: I, output: O) -> StandardFiles<F, I, O>
+        ensures files { result.files ≡ files }
+        ensures input { result.input ≡ Some input }
+        ensures output { result.output ≡ output }
+        ensures none_failed { result.failures ≡ 0 }
+    {
         StandardFiles {
             files,
             input: Some(input),
             output,
             failures: 0,
+        }
+    }
+
+    /// The standard input, once.
+    fn open_standard(&mut self) -> Result<I, DeviceFault>
+        ensures given { IfOk result (λ input. self.old.input ≡ Some input) }
+        ensures once { OnOk result (self.new.input ≡ None) }
+        ensures opened { OnErr result (self.old.input ≡ None) }
+        ensures kept { OnOk result (self.new.failures ≡ self.old.failures) }
+        ensures failed { OnErr result (self.new.failures ≢ self.old.failures) }
+        ensures same { self.new.files ≡ self.old.files }
+    {
+        match self.input.take() {
+            Some(input) => Ok(input),
+            None => Err(self.fail()),
         }
     }
 
@@ -58,9 +78,9 @@ impl<F: Files + Drop, I: Input + Drop, O: Output + Drop> Files for StandardFiles
 
     fn open(&mut self, path: &str) -> Result<Option<StandardInput<F::In, I>>, DeviceFault> {
         if path == STANDARD {
-            return match self.input.take() {
-                Some(input) => Ok(Some(StandardInput::Standard(input))),
-                None => Err(self.fail()),
+            return match self.open_standard() {
+                Ok(input) => Ok(Some(StandardInput::Standard(input))),
+                Err(fault) => Err(fault),
             };
         }
         match self.files.open(path) {

@@ -383,8 +383,10 @@ fn with_source<'a>(
     command: Command<'a>,
     help: &'a str,
 ) -> Result<Command<'a>, AllocError>
-    ensures app { (out-Command command.entry).has_globals ≡ false → IfOk result (λ c. app_of c ≡ of_source (app_of command.entry)) }
-    ensures local { (out-Command command.entry).has_globals ≡ false → IfOk result (λ c. (out-Command c).has_globals ≡ false) }
+    ensures app { (out-Command command.entry).has_globals ≡ false
+        → IfOk result (λ c. app_of c ≡ of_source (app_of command.entry)) }
+    ensures local { (out-Command command.entry).has_globals ≡ false
+        → IfOk result (λ c. (out-Command c).has_globals ≡ false) }
 {
     let explain = explain_option(alloc);
     let with_explain = command.arg(explain)?;

@@ -1,5 +1,5 @@
 -- What `frames --keep-going` comes to, from what its steps leave.
-use Rattle.std.proofs.Common.{◌≡◌, ◌+◌, ℕ, List, [], Bool, true, false, Option, None, Some, refl, inl, inr}
+use Rattle.std.proofs.Common.{◌≡◌, ◌≢◌, ◌+◌, ℕ, List, [], Bool, true, false, Option, None, Some, refl, inl, inr}
 use Rattle.std.specs.Prelude.{Result, Ok, Err}
 use Rattle.pb_wire.specs.Limits.{full}
 use Rattle.pb_wire.specs.declared.device.DeviceFault.{DeviceFault}
@@ -52,6 +52,12 @@ module _ {D : Type 0} (written : D → Option (List ℕ)) (failures : D → ℕ)
       → a ≡ record { held = []; sent = 0; failed = false } → PutsAnswer written failures start mid a b P B r → Finishes written failures mid end b (Err e)
       → AnswerFails start end output
   answer_cut e r output named new h ends = let p = answer_put r h in inr (inl (p.0, named, p.2, finished new p.1 ends, refl))
+
+  pub answer_unsent :
+      {start mid end : D} {a b : Sink} (e : DeviceFault) (r : Result Unit Refusal)
+      → a ≡ record { held = []; sent = 0; failed = false } → PutsAnswer written failures start mid a b P B r → Finishes written failures mid end b (Err e)
+      → failures end ≢ failures start
+  answer_unsent e r new h ends = (finished new (answer_put r h).1 ends).0
 
   -- all lines went out
   pub answer_sent :

@@ -1,5 +1,5 @@
 -- What `frames` comes to, from what its steps leave.
-use Rattle.std.proofs.Common.{◌≡◌, ◌+◌, ℕ, List, [], Bool, true, false, Option, None, Some, refl, inl, inr}
+use Rattle.std.proofs.Common.{◌≡◌, ◌≢◌, ◌+◌, ℕ, List, [], Bool, true, false, Option, None, Some, refl, inl, inr}
 use Rattle.std.specs.Prelude.{Result, Ok, Err}
 use Rattle.pb_wire.specs.Limits.{full}
 use Rattle.pb_wire.specs.declared.device.DeviceFault.{DeviceFault}
@@ -60,6 +60,12 @@ module _
       → a ≡ record { held = []; sent = 0; failed = false } → PutsFrames left is_steady input written failures start mid a b form path pool m stop
       → Finishes written failures mid end b (Err e) → StreamFails start end output
   stream_cut e stop output named new h ends = let p = frames_put stop h in inr (inl (p.0, named, p.2, finished new p.1 ends, refl))
+
+  pub stream_unsent :
+      {start mid end : D} {a b : Sink} (e : DeviceFault) (stop : Option Refusal)
+      → a ≡ record { held = []; sent = 0; failed = false } → PutsFrames left is_steady input written failures start mid a b form path pool m stop
+      → Finishes written failures mid end b (Err e) → failures end ≢ failures start
+  stream_unsent e stop new h ends = (finished new (frames_put stop h).1 ends).0
 
   -- all lines went out
   pub stream_ended :

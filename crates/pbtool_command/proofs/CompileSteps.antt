@@ -5,8 +5,8 @@ use Rattle.std.specs.List.{AllByRecursion}
 use Rattle.std.specs.Prelude.{Result}
 use Rattle.pb_value.specs.Data.{message_depth}
 use Rattle.pb_declarations.specs.Decls.{DeclaredFile}
-use Rattle.pb_descr.specs.Sets.{set_bytes}
-use Rattle.pb_descr.specs.Writing.{set_body}
+use Rattle.pb_descr_message.specs.Sets.{set_bytes}
+use Rattle.pb_descr_message.specs.Writing.{set_body}
 use Rattle.pb_link_rules.specs.Faults.{IsUnlinked}
 use Rattle.pb_link.specs.Resolved.{Resolves}
 use Rattle.pb_link_rules.specs.declared.error.LinkError.{LinkError}

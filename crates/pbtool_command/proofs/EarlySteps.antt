@@ -1,12 +1,14 @@
 -- Bytes that are judged while they are read.
-use Rattle.std.proofs.Common.{◌≡◌, ℕ, ◌+◌, ◌≤◌, ◌⊎◌, List, ◌++◌, length, Bool, true, Option, Some, refl}
+use Rattle.std.proofs.Common.{◌≡◌, ℕ, ◌+◌, ◌≤◌, ◌⊎◌, List, ◌++◌, length, Bool, false, true, Option, Some, refl}
 use Rattle.std.specs.Prelude.{Result, Ok, Err, Vec}
 use Rattle.std.specs.Borrow.{Bor}
 use Rattle.std.specs.declared.alloc.Global.{Global}
 use Rattle.std.specs.Io.KnownBytes.{Consumes}
 use Rattle.pb_wire.specs.Limits.{Bounds}
+use Rattle.pb_wire.specs.declared.fault.RawError.{RawError}
+use Rattle.pb_wire.specs.declared.fault.RawError.TheVariants as raw
 use Rattle.pbtool_files.specs.Known.{IsReadFrom}
-use Rattle.pbtool_files.specs.Refusal.{Refuses}
+use Rattle.pbtool_files.specs.Refusal.{IsTold, Refuses, names_device}
 use Rattle.pbtool_files.proofs.FirstPieces.{early_refuses, stop_refuses}
 use Rattle.pbtool_files.proofs.RefusalLemmas.{refuses_map}
 use Rattle.pbtool_files.specs.declared.report.Refusal.{Refusal}
@@ -14,6 +16,9 @@ use Rattle.pbtool_files.specs.declared.report.Refusal.TheVariants as refusal
 use Rattle.pbtool_command.specs.RawAnswer.{RawAnswer, missing}
 use Rattle.pbtool_command.specs.Steps.{Judges}
 use Rattle.pbtool_command.specs.declared.command.RawForm.{RawForm}
+
+no_true : false ≡ true → ⊥
+no_true is = cc
 
 -- a fault of the first bytes is reported for all
 pub early_judges :
@@ -31,6 +36,11 @@ pub stop_judges :
     → Judges limits path.now (IsReadFrom left is_steady input (limits.bytes + 1)) (Err e)
 stop_judges left is_steady input limits path e stopped = λ form.
     stop_refuses left is_steady input (limits.bytes + 1) (RawAnswer limits form path.now) path e (missing refl refl) stopped
+
+-- a fault of bytes, and memory that ran out, name no device
+pub no_device_told : (e : RawError) (f : Refusal) → IsTold e f → names_device f ≡ true → ⊥
+no_device_told (raw.Fault byte steps cause) f told names = no_true (rw told at names)
+no_device_told raw.Memory f told names = no_true (rw told at names)
 
 -- what holds of an input's bytes holds of the file's
 pub judges_of :

@@ -10,18 +10,22 @@ pub mod Coming
 pub mod FileSteps
 -- for the message of a file
 pub mod MessageSteps
+-- for a file that is judged as a message
+pub mod CheckSteps
 -- for a message that is read from JSON
 pub mod FromJsonSteps
 -- for a line of JSON: a text and then a line feed
 pub mod JsonSteps
--- for the line of a refusal, and the lines that explain it
-pub mod ExplainedSteps
 -- for the loop of `frames`: the frames of a stream, one after another
 pub mod Streams
+-- for `frames`: refusals that report a failed read
+pub mod ReadFailures
 -- for the loop of `frames --keep-going`: all frames of a stream, also those that are refused
 pub mod PassedFrames
 -- for `frames --keep-going`
 pub mod AllStreams
+-- small cases of the definitions of frames, worked by hand
+mod Rows
 -- for `raw`: bytes that are judged while they are read
 pub mod EarlySteps
 -- for `raw`

@@ -10,8 +10,8 @@ use Rattle.pb_value.specs.Dynamic.{Dynamic}
 use Rattle.pb_value.specs.WellFormed.{IsWellFormed}
 use Rattle.pb_stream.specs.Frame.{Frame, FrameFault}
 use Rattle.pb_stream.specs.Taking.{TakesNone}
-use Rattle.pb_frames.specs.Next.{TakesSpan}
-use Rattle.pb_frames.specs.Spans.{HasNoSpan}
+use Rattle.pb_stream.specs.Next.{TakesSpan}
+use Rattle.pb_stream.specs.Spans.{HasNoSpan}
 use Rattle.pbtool_files.specs.Answer.{done, stopped, broken}
 use Rattle.pbtool_files.specs.Known.{OfInput}
 use Rattle.pbtool_files.specs.Report.{frame_fault_line, frames_line}

@@ -3,9 +3,9 @@ use Rattle.std.proofs.Common.{ℕ, ◌≤◌, List, [], ◌∷◌, arith, subst,
 use Rattle.std.specs.List.{AllByRecursion}
 use Rattle.pb_value.specs.Data.{message_depth}
 use Rattle.pb_declarations.specs.Decls.{DeclaredFile}
-use Rattle.pb_descr.specs.Writing.{set_body}
+use Rattle.pb_descr_message.specs.Writing.{set_body}
 use Rattle.pb_declarations.specs.Nests.{all_nest}
-use Rattle.pb_descr.proofs.NestLemmas.{set_levels}
+use Rattle.pb_descr_message.proofs.NestLemmas.{set_levels}
 use Rattle.pb_link.specs.Resolved.{Resolves}
 use Rattle.pb_link.proofs.EnumMapLemmas.{lists_within}
 use Rattle.pb_link.proofs.ResolvedNestLemmas.{resolved_within}

@@ -7,9 +7,9 @@ use Rattle.pb_schema.specs.Context.{a_message, schema_of}
 use Rattle.pb_schema.specs.Types.{Types}
 use Rattle.pb_value.specs.Data.{Message}
 use Rattle.pb_declarations.specs.Decls.{DeclaredFile}
-use Rattle.pb_descr.specs.Omitted.{OmittedView}
-use Rattle.pb_descr.specs.Pool.{descriptor_types, the_set}
-use Rattle.pb_descr.specs.Sets.{IsSetText}
+use Rattle.pb_descr_message.specs.Omitted.{OmittedView}
+use Rattle.pb_descr_message.specs.Pool.{descriptor_types, the_set}
+use Rattle.pb_descr_message.specs.Sets.{IsSetText}
 use Rattle.pb_json.specs.Given.{NamesGiven}
 use Rattle.pb_json_names.specs.Names.{AreNamesOf}
 use Rattle.pbtool_files.specs.Answer.{Answer}

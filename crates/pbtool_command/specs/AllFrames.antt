@@ -6,7 +6,7 @@ use Rattle.pb_schema.specs.Types.{Types}
 use Rattle.pb_value.specs.Data.{Message}
 use Rattle.pb_value.specs.WellFormed.{IsWellFormed}
 use Rattle.pb_stream.specs.Frame.{Frame, FrameFault}
-use Rattle.pb_frames.specs.Spans.{HasNoSpan, IsSpan}
+use Rattle.pb_stream.specs.Spans.{HasNoSpan, IsSpan}
 use Rattle.pbtool_files.specs.Answer.{Answer, done, stopped, broken}
 use Rattle.pbtool_files.specs.Report.{frames_line}
 use Rattle.pbtool_command.specs.FramesAnswer.{AreFrameLines, FrameRefusal, IsRefusedFrame, MayBeRefused, bad_bytes, frame_refusal_line}

@@ -2,7 +2,7 @@
 -- of their pools reports, and the status says whether a difference breaks reading.
 use Rattle.std.specs.Prelude.{◌≡◌, ℕ, List, [], Bool, true, false, Option, Some, Result, Ok, Err, option_map}
 use Rattle.pb_schema.specs.Types.{Types}
-use Rattle.pb_descr.specs.Omitted.{OmittedView}
+use Rattle.pb_descr_message.specs.Omitted.{OmittedView}
 use Rattle.pb_compat_lines.specs.Verdict.{IsVerdict, LacksType}
 use Rattle.pb_compat_lines.specs.declared.verdict.Readers.{Readers}
 use Rattle.pb_compat_lines.specs.declared.verdict.Verdict.{Verdict}

@@ -2,7 +2,7 @@
 use Rattle.std.specs.Prelude.{◌≡◌, ◌<◌, ◌≤◌, ◌^◌, ℕ, List, ◌∷◌, Option, length, map}
 use Rattle.std.specs.Borrow.{Bor}
 use Rattle.pb_declarations.specs.Decls.{DeclaredFile}
-use Rattle.pb_descr.specs.Sets.{set_bytes}
+use Rattle.pb_descr_message.specs.Sets.{set_bytes}
 use Rattle.pb_link_rules.specs.Faults.{LinkFault}
 use Rattle.pb_link.specs.EnumMaps.{ListsEnumMaps}
 use Rattle.pb_link.specs.Resolved.{Resolves}

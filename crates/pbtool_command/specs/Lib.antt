@@ -11,8 +11,8 @@ pub mod AllFrames
 pub mod CompileAnswer
 pub mod CompatAnswer
 pub mod Answers
-pub mod Explained
 pub mod Steps
 pub mod Streaming
 pub mod PassingOn
+pub mod ReadFailures
 pub mod Reaching

@@ -3,7 +3,10 @@ use Rattle.std.specs.Prelude.{◌≡◌, ◌⊎◌, ◌+◌, ℕ, List, [], Bool
 use Rattle.std.specs.declared.alloc.Global.{Global}
 use Rattle.pb_wire.specs.Schema.{blank}
 use Rattle.pb_wire.specs.Exact.{IsSomeText}
+use Rattle.pb_wire.specs.Fault.{Fault}
+use Rattle.pb_wire.specs.Grammar.{HasFault}
 use Rattle.pb_wire.specs.Limits.{Bounds, full}
+use Rattle.pb_schema.specs.Context.{a_message, schema_of}
 use Rattle.pb_schema.specs.Types.{Types}
 use Rattle.pb_value.specs.Dynamic.{Dynamic}
 use Rattle.pb_value.specs.WellFormed.{IsWellFormed}
@@ -15,7 +18,7 @@ use Rattle.pb_json.specs.declared.error.JsonError.TheVariants as json_error
 use Rattle.pb_json.specs.declared.form.Layout.{Layout}
 use Rattle.pb_json_read.specs.declared.rules.JsonRules.{JsonRules}
 use Rattle.pb_declarations.specs.Decls.{DeclaredFile}
-use Rattle.pbtool_files.specs.Answer.{Answer, stopped, broken, device_failed, IsPrinted}
+use Rattle.pbtool_files.specs.Answer.{Answer, stopped, broken, device_failed, refused, IsPrinted}
 use Rattle.pbtool_command.specs.Answers.{FaultAt, TextAt, FramesAt, RefusedFrameAt, FramesBegunAt, AnyFrames, AnyRefusal, canonical_form}
 use Rattle.pbtool_command.specs.AllFrames.{AllBegunBy, AllFramesBy}
 use Rattle.pbtool_command.specs.CompatAnswer.{CompatAnswer}
@@ -27,7 +30,7 @@ use Rattle.pbtool_command.specs.FromJsonAnswer.{FromJsonAnswer}
 use Rattle.pbtool_command.specs.MessageAnswer.{MessageAnswer}
 use Rattle.pbtool_command.specs.RawAnswer.{RawAnswer}
 use Rattle.pbtool_files.specs.Refusal.{ByRefusal, Refuses}
-use Rattle.pbtool_files.specs.Report.{output_name}
+use Rattle.pbtool_files.specs.Report.{fault_line, output_name}
 use Rattle.pb_output.specs.Sending.{Cut, Sent}
 use Rattle.pbtool_command.specs.TypeAnswer.{TypeAnswer}
 use Rattle.pbtool_command.specs.TypesAnswer.{TypesAnswer}
@@ -83,6 +86,17 @@ IsNothing text = text ≡ []
 -- no file is written
 abbrev pub NoFile : Option (List ℕ × List ℕ) → Type 0
 NoFile saved = saved ≡ None
+
+-- A MESSAGE THAT IS JUDGED
+
+-- of bytes that are no message of a type: the answer that reports their fault
+abbrev pub IsNoMessage : Types → ℕ → List ℕ → Answer → Type 0
+IsNoMessage pool m text a = (f : Fault) × HasFault (schema_of pool) (a_message m) full text f × (a ≡ refused (fault_line f))
+
+-- the same of a file at a path, which may not be there
+abbrev pub IsUnfit : Types → ℕ → List ℕ → Option (List ℕ) → Answer → Type 0
+IsUnfit pool m path None a = a ≡ device_failed path
+IsUnfit pool m path (Some text) a = IsNoMessage pool m text a
 
 -- A MESSAGE AS JSON
 

@@ -3,8 +3,8 @@ use Rattle.std.specs.Prelude.{◌≡◌, ℕ, List, ◌++◌, codes, flat_map, O
 use Rattle.pb_schema.specs.Names.{enum_names, message_names}
 use Rattle.pb_schema.specs.Tables.{place_of}
 use Rattle.pb_schema.specs.Types.{Types}
-use Rattle.pb_descr.specs.Omitted.{OmittedView}
-use Rattle.pb_descr.specs.OmittedName.{part_name}
+use Rattle.pb_descr_message.specs.Omitted.{OmittedView}
+use Rattle.pb_descr_message.specs.OmittedName.{part_name}
 use Rattle.pb_listing.specs.RawListing.{line}
 use Rattle.pb_listing.specs.TypesListing.{enum_lines_at, file_name_at, message_lines_at, types_listing}
 use Rattle.pbtool_files.specs.Answer.{Answer, done, refused}

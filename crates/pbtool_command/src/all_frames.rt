@@ -1,27 +1,28 @@
 //! All messages of a file, each after its length: those that are refused are reported, and the others shown.
 
-ghost use Rattle.std.specs.Prelude.{◌≡◌, ◌+◌, ◌-◌, ◌++◌, ◌<◌, ◌≤◌, ◌^◌, length, min, true, IfErr, OnOk};
+ghost use Rattle.std.specs.Prelude.{◌≡◌, ◌≢◌, ◌+◌, ◌-◌, ◌++◌, ◌<◌, ◌≤◌, ◌⊎◌, ◌^◌, length, min, true, IfErr, OnOk};
 ghost use Rattle.pbtool_files.specs.FileMap.{IsSaved, IsUnsaved};
 ghost use Rattle.pbtool_files.specs.Known.{OfInput};
-ghost use Rattle.pbtool_files.specs.Refusal.{KeepsFailures, refusal_line};
+ghost use Rattle.pbtool_files.specs.Refusal.{KeepsFailures, names_device, refusal_line};
 ghost use Rattle.pbtool_files.specs.Report.{frame_fault_line, frame_json_line};
-ghost use Rattle.pb_frames.specs.Next.{fault_of};
+ghost use Rattle.pb_stream.specs.Next.{fault_of};
 ghost use Rattle.pb_json.specs.declared.error.Refusal.{Refusal as JsonRefusal};
 ghost use Rattle.pb_output.specs.Sending.{Cut, Sent};
 ghost use Rattle.pb_output.specs.declared.sink.Sink.{Sink as Sunk};
 ghost use Rattle.pbtool_command.specs.AllFrames.{AllBegunBy, AllFramesBy};
 ghost use Rattle.pbtool_command.specs.PassingOn.{Concludes, IsGoing, PutsAnswer, TurnIs};
+ghost use Rattle.pbtool_command.specs.ReadFailures.{TurnCounts};
 ghost use Rattle.pbtool_command.specs.Steps.{AllBegunAtPath, AllBegunOf, AllFramesAtPath, AllFramesOf, Comes, NoFile};
 
 use crate::cleanup::{Cleanup, clean_up};
 use crate::command::{FrameForm, Source};
 use crate::frames::put_frame;
 use crate::shown::Shown;
-use pb_frames::{NextFrame, Reason, next_frame};
 use pb_json::JsonError;
 use pb_listing::FloatForm;
 use pb_output::Sink;
 use pb_schema::{MessageId, Pool};
+use pb_stream::{NextFrame, Reason, next_frame};
 use pb_wire::{FailurePlan, Input, Limits, MemOutput, Output, ReadFault};
 use pbtool_files::{Files, OUTPUT, Refusal, find_named_type, find_type, open_file};
 use std::alloc::{AllocError, Global};
@@ -66,9 +67,12 @@ pub fn all_frames<'a, F: Files, O: Output>(
     files: &mut F,
     out: &mut O,
 ) -> Result<(), Refusal<'a>>
-    ensures comes { Comes (Sent O.written O.failures out.old out.new) (Cut O.written O.failures out.old out.new)
-        (IsSaved F.contents files.old files.new) (IsUnsaved F.contents F.failures files.old files.new)
-        (AllFramesOf F.contents F.is_steady files.old form source.now) (AllBegunOf F.contents F.is_steady files.old form source.now) result }
+    ensures comes { Comes (Sent O.written O.failures out.old out.new)
+        (Cut O.written O.failures out.old out.new)
+        (IsSaved F.contents files.old files.new)
+        (IsUnsaved F.contents F.failures files.old files.new)
+        (AllFramesOf F.contents F.is_steady files.old form source.now)
+        (AllBegunOf F.contents F.is_steady files.old form source.now) result }
     ensures kept { KeepsFailures F.failures files.old files.new result }
     ensures unfailing { F.is_steady files.old ≡ true → F.failures files.new ≡ F.failures files.old }
 {
@@ -89,8 +93,10 @@ fn all_frames_listed<'a, F: Files, O: Output>(
     files: &mut F,
     out: &mut O,
 ) -> Result<(), Refusal<'a>>
-    ensures comes { Comes (Sent O.written O.failures out.old out.new) (Cut O.written O.failures out.old out.new)
-        (IsSaved F.contents files.old files.new) (IsUnsaved F.contents F.failures files.old files.new)
+    ensures comes { Comes (Sent O.written O.failures out.old out.new)
+        (Cut O.written O.failures out.old out.new)
+        (IsSaved F.contents files.old files.new)
+        (IsUnsaved F.contents F.failures files.old files.new)
         (AllFramesOf F.contents F.is_steady files.old (FrameForm.Listing floats) source.now)
         (AllBegunOf F.contents F.is_steady files.old (FrameForm.Listing floats) source.now) result }
     ensures kept { KeepsFailures F.failures files.old files.new result }
@@ -117,8 +123,10 @@ fn all_frames_json<'a, F: Files, O: Output>(
     files: &mut F,
     out: &mut O,
 ) -> Result<(), Refusal<'a>>
-    ensures comes { Comes (Sent O.written O.failures out.old out.new) (Cut O.written O.failures out.old out.new)
-        (IsSaved F.contents files.old files.new) (IsUnsaved F.contents F.failures files.old files.new)
+    ensures comes { Comes (Sent O.written O.failures out.old out.new)
+        (Cut O.written O.failures out.old out.new)
+        (IsSaved F.contents files.old files.new)
+        (IsUnsaved F.contents F.failures files.old files.new)
         (AllFramesOf F.contents F.is_steady files.old FrameForm.Json source.now)
         (AllBegunOf F.contents F.is_steady files.old FrameForm.Json source.now) result }
     ensures kept { KeepsFailures F.failures files.old files.new result }
@@ -150,10 +158,14 @@ fn all_frames_at<'a, F: Files, O: Output>(
     out: &mut O,
 ) -> Result<(), Refusal<'a>>
     requires { message_type.0 < length pool.now.messages }
-    ensures comes { Comes (Sent O.written O.failures out.old out.new) (Cut O.written O.failures out.old out.new)
-        (IsSaved F.contents files.old files.new) (IsUnsaved F.contents F.failures files.old files.new)
-        (AllFramesAtPath F.contents F.is_steady files.old form.entry pool.now message_type.0 path.entry.now)
-        (AllBegunAtPath F.contents F.is_steady files.old form.entry pool.now message_type.0 path.entry.now) result }
+    ensures comes { Comes (Sent O.written O.failures out.old out.new)
+        (Cut O.written O.failures out.old out.new)
+        (IsSaved F.contents files.old files.new)
+        (IsUnsaved F.contents F.failures files.old files.new)
+        (AllFramesAtPath F.contents F.is_steady files.old form.entry pool.now
+        message_type.0 path.entry.now)
+        (AllBegunAtPath F.contents F.is_steady files.old form.entry pool.now message_type.0
+        path.entry.now) result }
     ensures kept { KeepsFailures F.failures files.old files.new result }
     ensures unfailing { F.is_steady files.old ≡ true → F.failures files.new ≡ F.failures files.old }
 {
@@ -174,9 +186,16 @@ fn write_all_frames<'a, I: Input, O: Output>(
     input: &mut I,
     out: &mut O,
 ) -> Result<(), Refusal<'a>>
-    ensures { Comes (Sent O.written O.failures out.old out.new) (Cut O.written O.failures out.old out.new) NoFile (λ _. ⊥)
-        (AllFramesBy (OfInput I.left I.is_steady input.old) stream.now.form stream.now.path.now stream.now.pool.now stream.now.message_type.0)
-        (AllBegunBy (OfInput I.left I.is_steady input.old) stream.now.form stream.now.pool.now stream.now.message_type.0) result }
+    ensures comes { Comes (Sent O.written O.failures out.old out.new)
+        (Cut O.written O.failures out.old out.new) NoFile (λ _. ⊥)
+        (AllFramesBy (OfInput I.left I.is_steady input.old) stream.now.form stream.now.path.now
+        stream.now.pool.now stream.now.message_type.0)
+        (AllBegunBy (OfInput I.left I.is_steady input.old) stream.now.form stream.now.pool.now
+        stream.now.message_type.0) result }
+    ensures kept { KeepsFailures I.failures input.old input.new result }
+    ensures failed { IfErr result (λ e. names_device e ≡ true
+        → (I.failures input.new ≢ I.failures input.old)
+        ⊎ (O.failures out.new ≢ O.failures out.old)) }
 {
     let mut sink = Sink::new();
     let outcome = put_all_frames(&mut sink, out, stream, input);
@@ -193,9 +212,14 @@ fn put_all_frames<'a, I: Input, O: Output>(
     stream: &Stream<'_, 'a>,
     input: &mut I,
 ) -> Result<(), Refusal<'a>>
-    ensures { PutsAnswer O.written O.failures out.old out.new sink.old sink.new
-        (AllFramesBy (OfInput I.left I.is_steady input.old) stream.now.form stream.now.path.now stream.now.pool.now stream.now.message_type.0)
-        (AllBegunBy (OfInput I.left I.is_steady input.old) stream.now.form stream.now.pool.now stream.now.message_type.0) result }
+    ensures puts { PutsAnswer O.written O.failures out.old out.new sink.old sink.new
+        (AllFramesBy (OfInput I.left I.is_steady input.old) stream.now.form stream.now.path.now
+        stream.now.pool.now stream.now.message_type.0)
+        (AllBegunBy (OfInput I.left I.is_steady input.old) stream.now.form stream.now.pool.now
+        stream.now.message_type.0) result }
+    ensures kept { KeepsFailures I.failures input.old input.new result }
+    ensures failed { IfErr result (λ e. names_device e ≡ true
+        → I.failures input.new ≢ I.failures input.old) }
 {
     let mut progress = Progress {
         offset: 0,
@@ -226,10 +250,13 @@ fn put_turn<'a, I: Input, O: Output>(
 ) -> Turn<'a>
     requires more { index < 2 ^ 64 - 1 }
     requires few { progress.old.refused ≤ index }
-    ensures { (d : O) (a : Sunk) (i : I) → IsGoing O.written O.failures I.left I.is_steady d out.old a sink.old i input.old
+    ensures puts { (d : O) (a : Sunk) (i : I)
+        → IsGoing O.written O.failures I.left I.is_steady d out.old a sink.old i input.old
         stream.now.form stream.now.pool.now stream.now.message_type.0 index progress.old
         → TurnIs O.written O.failures I.left I.is_steady d out.new a sink.new i input.new
-        stream.now.form stream.now.pool.now stream.now.message_type.0 index progress.new stream.now.path.now result }
+        stream.now.form stream.now.pool.now stream.now.message_type.0 index progress.new
+        stream.now.path.now result }
+    ensures reads { TurnCounts (I.failures input.old) (I.failures input.new) result }
 {
     let offset = progress.offset;
     match next_frame(
@@ -278,7 +305,9 @@ impl Progress {
         reason: Reason,
     ) -> Result<(), Refusal<'a>>
         requires { self.old.refused < 2 ^ 64 - 1 }
-        ensures reported { OnOk result (self.new.lines.items ≡ self.old.lines.items ++ frame_fault_line index (fault_of reason)) }
+        ensures reported { OnOk result
+            (self.new.lines.items ≡ self.old.lines.items ++ frame_fault_line index
+            (fault_of reason)) }
         ensures refused { OnOk result (self.new.refused ≡ self.old.refused + 1) }
         ensures offset { OnOk result (self.new.offset ≡ min (self.old.offset + size) (2 ^ 64 - 1)) }
         ensures memory { IfErr result (λ e. e ≡ Refusal.Memory) }
@@ -301,8 +330,10 @@ impl Progress {
         error: JsonError,
     ) -> Result<(), Refusal<'a>>
         requires { self.old.refused < 2 ^ 64 - 1 }
-        ensures reported { OnOk result ((refusal : JsonRefusal) × (error ≡ JsonError.Refused refusal)
-            × (self.new.lines.items ≡ self.old.lines.items ++ frame_json_line index refusal.path.items refusal.cause)) }
+        ensures reported { OnOk result ((refusal : JsonRefusal)
+            × (error ≡ JsonError.Refused refusal)
+            × (self.new.lines.items ≡ self.old.lines.items ++ frame_json_line index
+            refusal.path.items refusal.cause)) }
         ensures refused { OnOk result (self.new.refused ≡ self.old.refused + 1) }
         ensures offset { OnOk result (self.new.offset ≡ min (self.old.offset + size) (2 ^ 64 - 1)) }
         ensures memory { IfErr result (λ e. e ≡ Refusal.Memory) }
@@ -326,7 +357,8 @@ impl Progress {
         refusal: &Refusal<'_>,
     ) -> Result<(), Refusal<'a>>
         requires { self.old.refused < 2 ^ 64 - 1 }
-        ensures reported { OnOk result (self.new.lines.items ≡ self.old.lines.items ++ refusal_line refusal.now) }
+        ensures reported { OnOk result
+            (self.new.lines.items ≡ self.old.lines.items ++ refusal_line refusal.now) }
         ensures refused { OnOk result (self.new.refused ≡ self.old.refused + 1) }
         ensures offset { OnOk result (self.new.offset ≡ min (self.old.offset + size) (2 ^ 64 - 1)) }
         ensures memory { IfErr result (λ e. e ≡ Refusal.Memory) }

@@ -29,9 +29,13 @@ pub fn read_message<'p, 'a, F: Files>(
     requires { message_type.0 < length pool.now.messages }
     ensures of_type { IfOk result (λ m. (m.pool ≡ pool.now) × (m.kind ≡ message_type.0)) }
     ensures read { IfOk result (λ m. IsWellFormed pool.now message_type.0 m.body
-        × OfFiles F.contents F.is_steady files.old path.entry.now (λ content. TextAt content pool.now message_type.0 m.body)) }
-    ensures refused { IfErr result (Refuses (λ a. IsMissing F.contents F.is_steady files.old path.entry.now a
-        ⊎ ((f : Fault) × OfFiles F.contents F.is_steady files.old path.entry.now (λ content. FaultAt content pool.now message_type.0 f)
+        × OfFiles F.contents F.is_steady files.old
+        path.entry.now (λ content. TextAt content pool.now message_type.0 m.body)) }
+    ensures refused { IfErr result
+        (Refuses (λ a. IsMissing F.contents F.is_steady files.old path.entry.now a
+        ⊎ ((f : Fault)
+        × OfFiles F.contents F.is_steady files.old
+        path.entry.now (λ content. FaultAt content pool.now message_type.0 f)
         × (a ≡ refused (fault_line f))))) }
     ensures kept { KeepsFailures F.failures files.old files.new result }
     ensures unfailing { F.is_steady files.old ≡ true → F.failures files.new ≡ F.failures files.old }
@@ -54,11 +58,17 @@ fn decode_input<'p, 'a, I: Input>(
     requires { message_type.0 < length pool.now.messages }
     ensures of_type { IfOk result (λ m. (m.pool ≡ pool.now) × (m.kind ≡ message_type.0)) }
     ensures well { IfOk result (λ m. IsWellFormed pool.now message_type.0 m.body) }
-    ensures read { IfOk result (λ m. OfInput I.left I.is_steady input.old (λ content. TextAt content pool.now message_type.0 m.body)) }
-    ensures refused { IfErr result (Refuses (λ a. (OfInput I.left I.is_steady input.old (λ content. content ≡ None) × (a ≡ device_failed path.entry.now))
-        ⊎ ((f : Fault) × OfInput I.left I.is_steady input.old (λ content. FaultAt content pool.now message_type.0 f) × (a ≡ refused (fault_line f))))) }
+    ensures read { IfOk result (λ m. OfInput I.left I.is_steady
+        input.old (λ content. TextAt content pool.now message_type.0 m.body)) }
+    ensures refused { IfErr result
+        (Refuses (λ a. (OfInput I.left I.is_steady input.old (λ content. content ≡ None)
+        × (a ≡ device_failed path.entry.now))
+        ⊎ ((f : Fault)
+        × OfInput I.left I.is_steady input.old (λ content. FaultAt content pool.now message_type.0
+        f) × (a ≡ refused (fault_line f))))) }
     ensures kept { KeepsFailures I.failures input.old input.new result }
-    ensures failed { IfErr result (λ e. names_device e ≡ true → I.failures input.new ≢ I.failures input.old) }
+    ensures failed { IfErr result (λ e. names_device e ≡ true
+        → I.failures input.new ≢ I.failures input.old) }
 {
     match decode_from(alloc, pool, message_type, input, Limits::FULL) {
         Ok(message) => {

@@ -23,8 +23,10 @@ pub fn compat<'a, F: Files, O: Output>(
     files: &mut F,
     out: &mut O,
 ) -> Result<(), Refusal<'a>>
-    ensures comes { Comes (Sent O.written O.failures out.old out.new) (Cut O.written O.failures out.old out.new)
-        (IsSaved F.contents files.old files.new) (IsUnsaved F.contents F.failures files.old files.new)
+    ensures comes { Comes (Sent O.written O.failures out.old out.new)
+        (Cut O.written O.failures out.old out.new)
+        (IsSaved F.contents files.old files.new)
+        (IsUnsaved F.contents F.failures files.old files.new)
         (CompatOf F.contents F.is_steady files.old comparison.now) IsNothing result }
     ensures kept { KeepsFailures F.failures files.old files.new result }
     ensures unfailing { F.is_steady files.old ≡ true → F.failures files.new ≡ F.failures files.old }
@@ -53,8 +55,10 @@ fn show<'a, O: Output>(
     type_name: Option<&'a str>,
     out: &mut O,
 ) -> Result<(), Refusal<'a>>
-    ensures { Comes (Sent O.written O.failures out.old out.new) (Cut O.written O.failures out.old out.new) NoFile (λ _. ⊥)
-        (ComparesTo readers old.now new.now (option_map (λ n. n.now) type_name.entry)) IsNothing result }
+    ensures { Comes (Sent O.written O.failures out.old out.new)
+        (Cut O.written O.failures out.old out.new) NoFile (λ _. ⊥)
+        (ComparesTo readers old.now new.now (option_map (λ n. n.now) type_name.entry))
+        IsNothing result }
 {
     match judge(alloc, readers, old, new, type_name)? {
         Some(verdict) => print(&verdict, out),
@@ -70,7 +74,8 @@ fn unknown(type_name: Option<&str>) -> Refusal<'_>
 }
 
 fn print<'a, O: Output>(verdict: &Verdict, out: &mut O) -> Result<(), Refusal<'a>>
-    ensures { Comes (Sent O.written O.failures out.old out.new) (Cut O.written O.failures out.old out.new) NoFile (λ _. ⊥)
+    ensures { Comes (Sent O.written O.failures out.old out.new)
+        (Cut O.written O.failures out.old out.new) NoFile (λ _. ⊥)
         (λ a. a ≡ verdict_answer verdict.now) IsNothing result }
 {
     match write_text(&verdict.text, out) {
@@ -80,7 +85,8 @@ fn print<'a, O: Output>(verdict: &Verdict, out: &mut O) -> Result<(), Refusal<'a
 }
 
 fn write_text<O: Output>(text: &[u8], out: &mut O) -> Result<(), DeviceFault>
-    ensures { MatchResult result (λ _. Sent O.written O.failures out.old out.new text.now) (λ _. Cut O.written O.failures out.old out.new text.now) }
+    ensures { MatchResult result (λ _. Sent O.written O.failures out.old out.new text.now)
+        (λ _. Cut O.written O.failures out.old out.new text.now) }
 {
     match write_all(out, text) {
         Ok(()) => Ok(()),

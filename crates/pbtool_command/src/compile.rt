@@ -1,9 +1,9 @@
 //! Sources compiled to a descriptor set.
 
 ghost use Rattle.std.specs.Prelude.{◌≡◌, ◌≤◌, ◌<◌, ◌^◌, [], length, map, IfOk, IfErr, true};
-ghost use Rattle.pb_descr.specs.Sets.{set_bytes};
+ghost use Rattle.pb_descr_message.specs.Sets.{set_bytes};
 ghost use Rattle.pb_declarations.specs.View.{file_view};
-ghost use Rattle.pb_descr.specs.Writing.{set_body};
+ghost use Rattle.pb_descr_message.specs.Writing.{set_body};
 ghost use Rattle.pb_value.specs.Data.{message_depth};
 ghost use Rattle.pbtool_files.specs.Answer.{refused};
 ghost use Rattle.pbtool_command.specs.CompileAnswer.{IsLinkedAs, places_of, texts_of};
@@ -29,10 +29,13 @@ pub fn compile<'a, F: Files>(
     files: &mut F,
 ) -> Result<(), Refusal<'a>>
     ensures comes { Comes (λ text. text ≡ []) (λ _. ⊥)
-        (IsSaved F.contents files.old files.new) (IsUnsaved F.contents F.failures files.old files.new)
-        (CompileOf F.contents F.is_steady files.old (places_of roots.entry) out.entry.now (texts_of names.now)) IsNothing result }
+        (IsSaved F.contents files.old files.new)
+        (IsUnsaved F.contents F.failures files.old files.new)
+        (CompileOf F.contents F.is_steady files.old (places_of roots.entry) out.entry.now
+        (texts_of names.now)) IsNothing result }
     ensures kept { KeepsFailures F.failures files.old files.new result }
-    ensures unfailing { F.is_steady files.old ≡ true → F.takes_writes files.old ≡ true → F.failures files.new ≡ F.failures files.old }
+    ensures unfailing { F.is_steady files.old ≡ true → F.takes_writes files.old ≡ true
+        → F.failures files.new ≡ F.failures files.old }
 {
     let gathered = gather(alloc, roots, names, files)?;
     let linked = files_to_link(alloc, roots.reading, gathered)?;
@@ -50,7 +53,8 @@ fn files_to_link(
     reading: Reading,
     gathered: Vec<FileDecl>,
 ) -> Result<Vec<FileDecl>, AllocError>
-    ensures { IfOk result (λ v. IsLinkedAs reading (map file_view gathered.items) (map file_view v.items)) }
+    ensures { IfOk result (λ v. IsLinkedAs reading (map file_view gathered.items)
+        (map file_view v.items)) }
 {
     match reading {
         Reading::Strict => Ok(gathered),
@@ -61,8 +65,11 @@ fn files_to_link(
 /// The canonical bytes of the set of files.
 fn bytes_of<'a>(alloc: Global, files: &[FileDecl]) -> Result<Vec<u8>, Refusal<'a>>
     requires { message_depth (set_body (map file_view files.now)) ≤ 100 }
-    ensures made { IfOk result (λ v. (v.items ≡ set_bytes (map file_view files.now)) × (length v.items < 2 ^ 31)) }
-    ensures refused { IfErr result (Refuses (λ a. (2 ^ 31 ≤ length (set_bytes (map file_view files.now))) × (a ≡ refused too_large_line))) }
+    ensures made { IfOk result (λ v. (v.items ≡ set_bytes (map file_view files.now))
+        × (length v.items < 2 ^ 31)) }
+    ensures refused { IfErr result
+        (Refuses (λ a. (2 ^ 31 ≤ length (set_bytes (map file_view files.now)))
+        × (a ≡ refused too_large_line))) }
 {
     match write_set(alloc, files) {
         Ok(bytes) => Ok(bytes),

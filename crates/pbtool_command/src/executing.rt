@@ -10,6 +10,7 @@ ghost use Rattle.pb_output.specs.Sending.{Cut, Sent, SentOrCut};
 ghost use Rattle.pbtool_command.specs.Steps.{BegunOf, Comes, RightOf};
 
 use crate::all_frames::all_frames;
+use crate::check::check;
 use crate::cleanup::Cleanup;
 use crate::command::Command;
 use crate::compat::compat;
@@ -34,14 +35,18 @@ pub fn execute<F: Files, O: Output, E: Output>(
 ) -> u8
     // Over honest files the answer is the one of their bytes.
     ensures honest { (map : FileMap) → IsHonest F.contents F.is_steady files.old map
-        → Ends (Sent O.written O.failures out.old out.new) (Cut O.written O.failures out.old out.new)
+        → Ends (Sent O.written O.failures out.old out.new)
+        (Cut O.written O.failures out.old out.new)
         (SentOrCut E.written E.failures err.old err.new) (IsSaved F.contents files.old files.new)
-        (IsUnsaved F.contents F.failures files.old files.new) result (Answers map command.now) (Begins map command.now) }
+        (IsUnsaved F.contents F.failures files.old files.new) result (Answers map command.now)
+        (Begins map command.now) }
 
     // Over any files it has the form of one.
-    ensures any { Ends (Sent O.written O.failures out.old out.new) (Cut O.written O.failures out.old out.new)
+    ensures any { Ends (Sent O.written O.failures out.old out.new)
+        (Cut O.written O.failures out.old out.new)
         (SentOrCut E.written E.failures err.old err.new) (IsSaved F.contents files.old files.new)
-        (IsUnsaved F.contents F.failures files.old files.new) result (AnyAnswers command.now) (AnyBegins command.now) }
+        (IsUnsaved F.contents F.failures files.old files.new) result (AnyAnswers command.now)
+        (AnyBegins command.now) }
     ensures status { result ≢ 2 }
 
     // Where opening or writing a file failed, the status is 3 and the line names a device. Inputs count
@@ -51,7 +56,8 @@ pub fn execute<F: Files, O: Output, E: Output>(
         → (path : List ℕ) × SentOrCut E.written E.failures err.old err.new (device_line path) }
 
     // Steady files that take writes do not fail.
-    ensures unfailing { F.is_steady files.old ≡ true → F.takes_writes files.old ≡ true → F.failures files.new ≡ F.failures files.old }
+    ensures unfailing { F.is_steady files.old ≡ true → F.takes_writes files.old ≡ true
+        → F.failures files.new ≡ F.failures files.old }
 {
     execute_then(alloc, Cleanup::Free, command, files, out, err)
 }
@@ -67,9 +73,11 @@ pub fn execute_then<F: Files, O: Output, E: Output>(
     err: &mut E,
 ) -> u8
     // Over honest files the answer is the one of their bytes, and over any files it has the form of one.
-    ensures done { Does (Sent O.written O.failures out.old out.new) (Cut O.written O.failures out.old out.new)
+    ensures done { Does (Sent O.written O.failures out.old out.new)
+        (Cut O.written O.failures out.old out.new)
         (SentOrCut E.written E.failures err.old err.new) (IsSaved F.contents files.old files.new)
-        (IsUnsaved F.contents F.failures files.old files.new) result (IsHonest F.contents F.is_steady files.old) command.now }
+        (IsUnsaved F.contents F.failures files.old files.new) result
+        (IsHonest F.contents F.is_steady files.old) command.now }
     ensures status { result ≢ 2 }
 
     // Where opening or writing a file failed, the status is 3 and the line names a device. Inputs count
@@ -79,29 +87,34 @@ pub fn execute_then<F: Files, O: Output, E: Output>(
         → (path : List ℕ) × SentOrCut E.written E.failures err.old err.new (device_line path) }
 
     // Steady files that take writes do not fail.
-    ensures unfailing { F.is_steady files.old ≡ true → F.takes_writes files.old ≡ true → F.failures files.new ≡ F.failures files.old }
+    ensures unfailing { F.is_steady files.old ≡ true → F.takes_writes files.old ≡ true
+        → F.failures files.new ≡ F.failures files.old }
 {
     let outcome = perform(alloc, cleanup, command, files, out);
     conclude(outcome, err)
 }
 
 /// The work of a command, without the line that reports a refusal.
-pub(crate) fn perform<'a, F: Files, O: Output>(
+pub fn perform<'a, F: Files, O: Output>(
     alloc: Global,
     cleanup: Cleanup,
     command: &Command<'a>,
     files: &mut F,
     out: &mut O,
 ) -> Result<(), Refusal<'a>>
-    ensures comes { Comes (Sent O.written O.failures out.old out.new) (Cut O.written O.failures out.old out.new)
-        (IsSaved F.contents files.old files.new) (IsUnsaved F.contents F.failures files.old files.new)
-        (RightOf F.contents F.is_steady files.old command.now) (BegunOf F.contents F.is_steady files.old command.now) result }
+    ensures comes { Comes (Sent O.written O.failures out.old out.new)
+        (Cut O.written O.failures out.old out.new)
+        (IsSaved F.contents files.old files.new)
+        (IsUnsaved F.contents F.failures files.old files.new)
+        (RightOf F.contents F.is_steady files.old command.now)
+        (BegunOf F.contents F.is_steady files.old command.now) result }
     ensures kept { KeepsFailures F.failures files.old files.new result }
-    ensures unfailing { F.is_steady files.old ≡ true → F.takes_writes files.old ≡ true → F.failures files.new ≡ F.failures files.old }
+    ensures unfailing { F.is_steady files.old ≡ true → F.takes_writes files.old ≡ true
+        → F.failures files.new ≡ F.failures files.old }
 {
     match command {
         Command::Raw { form, file } => raw(alloc, Limits::FULL, *form, file, files, out),
-        Command::Check { source } => message(alloc, cleanup, Form::Check, source, files, out),
+        Command::Check { source } => check(alloc, cleanup, source, files, out),
         Command::Show { floats, source } => message(
             alloc,
             cleanup,
@@ -158,8 +171,10 @@ fn form_of<'a>(to: Option<&'a str>) -> Form<'a, 'static>
 
 /// Reports a refusal, and answers the exit status.
 fn conclude<E: Output>(outcome: Result<(), Refusal<'_>>, err: &mut E) -> u8
-    ensures { MatchResult outcome.entry (λ _. (result ≡ 0) × Sent E.written E.failures err.old err.new [])
-        (λ e. (result ≡ refusal_status e) × SentOrCut E.written E.failures err.old err.new (refusal_line e)) }
+    ensures { MatchResult outcome.entry (λ _. (result ≡ 0)
+        × Sent E.written E.failures err.old err.new [])
+        (λ e. (result ≡ refusal_status e)
+        × SentOrCut E.written E.failures err.old err.new (refusal_line e)) }
 {
     match outcome {
         Ok(()) => 0,

@@ -45,11 +45,14 @@ pub fn make<'a, F: Files, O: Output>(
     files: &mut F,
     out: &mut O,
 ) -> Result<(), Refusal<'a>>
-    ensures comes { Comes (Sent O.written O.failures out.old out.new) (Cut O.written O.failures out.old out.new)
-        (IsSaved F.contents files.old files.new) (IsUnsaved F.contents F.failures files.old files.new)
+    ensures comes { Comes (Sent O.written O.failures out.old out.new)
+        (Cut O.written O.failures out.old out.new)
+        (IsSaved F.contents files.old files.new)
+        (IsUnsaved F.contents F.failures files.old files.new)
         (FormAnswer form.entry message.now) IsNothing result }
     ensures kept { KeepsFailures F.failures files.old files.new result }
-    ensures unfailing { F.takes_writes files.old ≡ true → F.failures files.new ≡ F.failures files.old }
+    ensures unfailing { F.takes_writes files.old ≡ true
+        → F.failures files.new ≡ F.failures files.old }
 {
     match form {
         Form::Check => print_ok(out),
@@ -60,8 +63,10 @@ pub fn make<'a, F: Files, O: Output>(
     }
 }
 
-fn print_ok<'a, O: Output>(out: &mut O) -> Result<(), Refusal<'a>>
-    ensures { Comes (Sent O.written O.failures out.old out.new) (Cut O.written O.failures out.old out.new) NoFile (λ _. ⊥)
+/// Says that a file is a message.
+pub(crate) fn print_ok<'a, O: Output>(out: &mut O) -> Result<(), Refusal<'a>>
+    ensures { Comes (Sent O.written O.failures out.old out.new)
+        (Cut O.written O.failures out.old out.new) NoFile (λ _. ⊥)
         (λ a. a ≡ done (codes "ok\n")) IsNothing result }
 {
     match write_all(out, b"ok\n") {
@@ -75,7 +80,8 @@ fn print_listing<'a, O: Output>(
     message: &DynamicMessage<'_>,
     out: &mut O,
 ) -> Result<(), Refusal<'a>>
-    ensures { Comes (Sent O.written O.failures out.old out.new) (Cut O.written O.failures out.old out.new) NoFile (λ _. ⊥)
+    ensures { Comes (Sent O.written O.failures out.old out.new)
+        (Cut O.written O.failures out.old out.new) NoFile (λ _. ⊥)
         (ListingAnswer floats message.now) IsNothing result }
 {
     match write_message_as(out, message, floats) {
@@ -90,7 +96,8 @@ fn print_json<'a, O: Output>(
     message: &DynamicMessage<'_>,
     out: &mut O,
 ) -> Result<(), Refusal<'a>>
-    ensures { Comes (Sent O.written O.failures out.old out.new) (Cut O.written O.failures out.old out.new) NoFile (λ _. ⊥)
+    ensures { Comes (Sent O.written O.failures out.old out.new)
+        (Cut O.written O.failures out.old out.new) NoFile (λ _. ⊥)
         (JsonAnswer layout names.entry message.now) IsNothing result }
 {
     match write_json_line(layout, names, message, out) {
@@ -111,7 +118,8 @@ fn write_json_line<O: Output>(
     message: &DynamicMessage<'_>,
     out: &mut O,
 ) -> Result<(), JsonError>
-    ensures { WritesLine O.written O.failures out.old out.new layout names.entry message.now result }
+    ensures { WritesLine O.written O.failures out.old out.new layout names.entry
+        message.now result }
 {
     let mut sink = Sink::new();
     if let Err(error) = put_json_line(&mut sink, out, layout, names, message) {
@@ -131,8 +139,10 @@ pub(crate) fn put_json_line<O: Output>(
     names: &JsonNames,
     message: &DynamicMessage<'_>,
 ) -> Result<(), JsonError>
-    ensures put { OnOk result (PutsSome O.written O.failures out.old out.new sink.old sink.new (IsJsonLine layout names.entry message.now)) }
-    ensures failed { IfErr result (λ e. RefusedAs message.now e × (out.new ≡ out.old) × (sink.new ≡ sink.old)) }
+    ensures put { OnOk result (PutsSome O.written O.failures out.old out.new sink.old sink.new
+        (IsJsonLine layout names.entry message.now)) }
+    ensures failed { IfErr result (λ e. RefusedAs message.now e × (out.new ≡ out.old)
+        × (sink.new ≡ sink.old)) }
 {
     let form = JsonForm {
         names: Names::Given(names),
@@ -151,8 +161,10 @@ fn print_canonical<'a, O: Output>(
     message: &DynamicMessage<'_>,
     out: &mut O,
 ) -> Result<(), Refusal<'a>>
-    ensures { Comes (Sent O.written O.failures out.old out.new) (Cut O.written O.failures out.old out.new) NoFile (λ _. ⊥)
-        (CanonAnswer (bytes_of message.now) (done (encode_lower (bytes_of message.now) ++ line_feed))) IsNothing result }
+    ensures { Comes (Sent O.written O.failures out.old out.new)
+        (Cut O.written O.failures out.old out.new) NoFile (λ _. ⊥)
+        (CanonAnswer (bytes_of message.now) (done
+        (encode_lower (bytes_of message.now) ++ line_feed))) IsNothing result }
 {
     let bytes = canonical(message)?;
     match write_hex_line(&bytes, out) {
@@ -163,7 +175,8 @@ fn print_canonical<'a, O: Output>(
 
 /// The bytes in hexadecimal, as a line.
 fn write_hex_line<O: Output>(bytes: &[u8], out: &mut O) -> Result<(), DeviceFault>
-    ensures { MatchResult result (λ _. Sent O.written O.failures out.old out.new (encode_lower bytes.now ++ line_feed))
+    ensures { MatchResult result (λ _. Sent O.written O.failures out.old out.new
+        (encode_lower bytes.now ++ line_feed))
         (λ _. Cut O.written O.failures out.old out.new (encode_lower bytes.now ++ line_feed)) }
 {
     let mut sink = Sink::new();
@@ -179,10 +192,13 @@ pub(crate) fn save_canonical<'a, F: Files>(
     files: &mut F,
 ) -> Result<(), Refusal<'a>>
     ensures comes { Comes (λ text. text ≡ []) (λ _. ⊥)
-        (IsSaved F.contents files.old files.new) (IsUnsaved F.contents F.failures files.old files.new)
-        (CanonAnswer (bytes_of message.now) (saves path.entry.now (bytes_of message.now))) IsNothing result }
+        (IsSaved F.contents files.old files.new)
+        (IsUnsaved F.contents F.failures files.old files.new)
+        (CanonAnswer (bytes_of message.now) (saves path.entry.now (bytes_of message.now)))
+        IsNothing result }
     ensures kept { KeepsFailures F.failures files.old files.new result }
-    ensures unfailing { F.takes_writes files.old ≡ true → F.failures files.new ≡ F.failures files.old }
+    ensures unfailing { F.takes_writes files.old ≡ true
+        → F.failures files.new ≡ F.failures files.old }
 {
     let bytes = canonical(message)?;
     match files.write_whole(path, &bytes) {
@@ -194,7 +210,8 @@ pub(crate) fn save_canonical<'a, F: Files>(
 /// The canonical bytes.
 fn canonical<'a>(message: &DynamicMessage<'_>) -> Result<Vec<u8>, Refusal<'a>>
     ensures made { IfOk result (λ v. (v.items ≡ bytes_of message.now) × (length v.items < 2 ^ 31)) }
-    ensures refused { IfErr result (Refuses (λ a. (2 ^ 31 ≤ length (bytes_of message.now)) × (a ≡ refused too_large_line))) }
+    ensures refused { IfErr result (Refuses (λ a. (2 ^ 31 ≤ length (bytes_of message.now))
+        × (a ≡ refused too_large_line))) }
 {
     match encode(message) {
         Ok(bytes) => Ok(bytes),

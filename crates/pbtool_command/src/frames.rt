@@ -1,6 +1,6 @@
 //! The messages of a file, each after its length.
 
-ghost use Rattle.std.specs.Prelude.{◌≡◌, ◌<◌, false, length, true, IfErr, OnOk};
+ghost use Rattle.std.specs.Prelude.{◌≡◌, ◌≢◌, ◌<◌, ◌⊎◌, false, length, true, IfErr, OnOk};
 ghost use Rattle.pb_wire.specs.Limits.{full};
 ghost use Rattle.pbtool_files.specs.FileMap.{IsSaved, IsUnsaved};
 ghost use Rattle.pbtool_command.specs.FramesAnswer.{AreFrameLines, are_json, frame_line};
@@ -10,7 +10,8 @@ ghost use Rattle.pb_output.specs.Sending.{Cut, Sent};
 ghost use Rattle.pb_output.specs.Sink.{Puts};
 ghost use Rattle.pbtool_command.specs.Steps.{Comes, NoFile, StreamAt, StreamBegun, StreamBegunAt, StreamOf};
 ghost use Rattle.pbtool_command.specs.Streaming.{FramesBegunIn, FramesIn, IsToldOfFormless, IsToldOfFrame, PutsFrames, PutsNext};
-ghost use Rattle.pbtool_files.specs.Refusal.{KeepsFailures};
+ghost use Rattle.pbtool_command.specs.ReadFailures.{NextCounts, StopCounts};
+ghost use Rattle.pbtool_files.specs.Refusal.{KeepsFailures, names_device};
 
 use crate::cleanup::{Cleanup, clean_up};
 use crate::command::{FrameForm, Source};
@@ -47,9 +48,12 @@ pub fn frames<'a, F: Files, O: Output>(
     files: &mut F,
     out: &mut O,
 ) -> Result<(), Refusal<'a>>
-    ensures comes { Comes (Sent O.written O.failures out.old out.new) (Cut O.written O.failures out.old out.new)
-        (IsSaved F.contents files.old files.new) (IsUnsaved F.contents F.failures files.old files.new)
-        (StreamOf F.contents F.is_steady files.old form source.now) (StreamBegun F.contents F.is_steady files.old form source.now) result }
+    ensures comes { Comes (Sent O.written O.failures out.old out.new)
+        (Cut O.written O.failures out.old out.new)
+        (IsSaved F.contents files.old files.new)
+        (IsUnsaved F.contents F.failures files.old files.new)
+        (StreamOf F.contents F.is_steady files.old form source.now)
+        (StreamBegun F.contents F.is_steady files.old form source.now) result }
     ensures kept { KeepsFailures F.failures files.old files.new result }
     ensures unfailing { F.is_steady files.old ≡ true → F.failures files.new ≡ F.failures files.old }
 {
@@ -68,10 +72,13 @@ fn listed_frames<'a, F: Files, O: Output>(
     files: &mut F,
     out: &mut O,
 ) -> Result<(), Refusal<'a>>
-    ensures comes { Comes (Sent O.written O.failures out.old out.new) (Cut O.written O.failures out.old out.new)
-        (IsSaved F.contents files.old files.new) (IsUnsaved F.contents F.failures files.old files.new)
+    ensures comes { Comes (Sent O.written O.failures out.old out.new)
+        (Cut O.written O.failures out.old out.new)
+        (IsSaved F.contents files.old files.new)
+        (IsUnsaved F.contents F.failures files.old files.new)
         (StreamOf F.contents F.is_steady files.old (FrameForm.Listing floats) source.now)
-        (StreamBegun F.contents F.is_steady files.old (FrameForm.Listing floats) source.now) result }
+        (StreamBegun F.contents F.is_steady files.old (FrameForm.Listing floats)
+        source.now) result }
     ensures kept { KeepsFailures F.failures files.old files.new result }
     ensures unfailing { F.is_steady files.old ≡ true → F.failures files.new ≡ F.failures files.old }
 {
@@ -90,8 +97,10 @@ fn json_frames<'a, F: Files, O: Output>(
     files: &mut F,
     out: &mut O,
 ) -> Result<(), Refusal<'a>>
-    ensures comes { Comes (Sent O.written O.failures out.old out.new) (Cut O.written O.failures out.old out.new)
-        (IsSaved F.contents files.old files.new) (IsUnsaved F.contents F.failures files.old files.new)
+    ensures comes { Comes (Sent O.written O.failures out.old out.new)
+        (Cut O.written O.failures out.old out.new)
+        (IsSaved F.contents files.old files.new)
+        (IsUnsaved F.contents F.failures files.old files.new)
         (StreamOf F.contents F.is_steady files.old FrameForm.Json source.now)
         (StreamBegun F.contents F.is_steady files.old FrameForm.Json source.now) result }
     ensures kept { KeepsFailures F.failures files.old files.new result }
@@ -123,10 +132,14 @@ fn frames_at<'a, F: Files, O: Output>(
     out: &mut O,
 ) -> Result<(), Refusal<'a>>
     requires { message_type.0 < length pool.now.messages }
-    ensures comes { Comes (Sent O.written O.failures out.old out.new) (Cut O.written O.failures out.old out.new)
-        (IsSaved F.contents files.old files.new) (IsUnsaved F.contents F.failures files.old files.new)
-        (StreamAt F.contents F.is_steady files.old form.entry pool.now message_type.0 path.entry.now)
-        (StreamBegunAt F.contents F.is_steady files.old form.entry pool.now message_type.0 path.entry.now) result }
+    ensures comes { Comes (Sent O.written O.failures out.old out.new)
+        (Cut O.written O.failures out.old out.new)
+        (IsSaved F.contents files.old files.new)
+        (IsUnsaved F.contents F.failures files.old files.new)
+        (StreamAt F.contents F.is_steady files.old form.entry pool.now
+        message_type.0 path.entry.now)
+        (StreamBegunAt F.contents F.is_steady files.old form.entry pool.now message_type.0
+        path.entry.now) result }
     ensures kept { KeepsFailures F.failures files.old files.new result }
     ensures unfailing { F.is_steady files.old ≡ true → F.failures files.new ≡ F.failures files.old }
 {
@@ -145,9 +158,16 @@ fn write_frames<'a, I: Input + Drop, O: Output>(
     requires first { reader.old.taken ≡ 0 }
     requires open { reader.old.finished ≡ false }
     requires full { reader.old.limits ≡ full }
-    ensures { Comes (Sent O.written O.failures out.old out.new) (Cut O.written O.failures out.old out.new) NoFile (λ _. ⊥)
-        (FramesIn I.left I.is_steady reader.old.input form.entry path.entry.now reader.old.pool reader.old.kind)
-        (FramesBegunIn I.left I.is_steady reader.old.input form.entry reader.old.pool reader.old.kind) result }
+    ensures comes { Comes (Sent O.written O.failures out.old out.new)
+        (Cut O.written O.failures out.old out.new) NoFile (λ _. ⊥)
+        (FramesIn I.left I.is_steady reader.old.input form.entry path.entry.now reader.old.pool
+        reader.old.kind)
+        (FramesBegunIn I.left I.is_steady reader.old.input form.entry reader.old.pool
+        reader.old.kind) result }
+    ensures kept { KeepsFailures (λ r. I.failures r.input) reader.old reader.new result }
+    ensures failed { IfErr result (λ e. names_device e ≡ true
+        → (I.failures reader.new.input ≢ I.failures reader.old.input)
+        ⊎ (O.failures out.new ≢ O.failures out.old)) }
 {
     let mut sink = Sink::new();
     let stop = put_frames(&mut sink, out, form, reader, path);
@@ -171,8 +191,10 @@ fn put_frames<'a, I: Input + Drop, O: Output>(
     requires first { reader.old.taken ≡ 0 }
     requires open { reader.old.finished ≡ false }
     requires full { reader.old.limits ≡ full }
-    ensures { PutsFrames I.left I.is_steady reader.old.input O.written O.failures out.old out.new sink.old sink.new
+    ensures puts { PutsFrames I.left I.is_steady reader.old.input O.written O.failures out.old
+        out.new sink.old sink.new
         form.entry path.entry.now reader.old.pool reader.old.kind result }
+    ensures reads { StopCounts (I.failures reader.old.input) (I.failures reader.new.input) result }
 {
     for index in 0..u64::MAX {
         if sink.has_failed() {
@@ -197,7 +219,10 @@ fn put_next<'a, I: Input + Drop, O: Output>(
     path: &'a str,
 ) -> Next<'a>
     requires { reader.old.finished ≡ false }
-    ensures { PutsNext O.written O.failures I.left I.is_steady out.old out.new sink.old sink.new reader.old reader.new form.entry index path.entry result }
+    ensures puts { PutsNext O.written O.failures I.left I.is_steady out.old out.new
+        sink.old sink.new
+        reader.old reader.new form.entry index path.entry result }
+    ensures reads { NextCounts (I.failures reader.old.input) (I.failures reader.new.input) result }
 {
     let offset = reader.taken();
     match reader.next() {
@@ -225,8 +250,10 @@ pub(crate) fn put_frame<O: Output>(
     message: &DynamicMessage<'_>,
 ) -> Result<(), JsonError>
     ensures put { OnOk result (PutsSome O.written O.failures out.old out.new sink.old sink.new
-        (AreFrameLines form.entry message.now.pool message.now.kind index offset size message.now.body)) }
-    ensures failed { IfErr result (λ e. (are_json form.entry ≡ true) × RefusedAs message.now e × (out.new ≡ out.old) × (sink.new ≡ sink.old)) }
+        (AreFrameLines form.entry message.now.pool message.now.kind index offset size
+        message.now.body)) }
+    ensures failed { IfErr result (λ e. (are_json form.entry ≡ true) × RefusedAs message.now e
+        × (out.new ≡ out.old) × (sink.new ≡ sink.old)) }
 {
     match form {
         Shown::Listing(floats) => {
@@ -248,14 +275,16 @@ fn put_listed<O: Output>(
     message: &DynamicMessage<'_>,
 )
     ensures { PutsSome O.written O.failures out.old out.new sink.old sink.new
-        (AreFrameLines (Shown.Listing floats) message.now.pool message.now.kind index offset size message.now.body) }
+        (AreFrameLines (Shown.Listing floats) message.now.pool message.now.kind index offset size
+        message.now.body) }
 {
     put_frame_line(sink, out, index, offset, size);
     put_listing_as(sink, out, 1, message, floats);
 }
 
 fn put_frame_line<O: Output>(sink: &mut Sink, out: &mut O, index: u64, offset: u64, size: u64)
-    ensures { Puts O.written O.failures out.old out.new sink.old sink.new (frame_line index offset size) }
+    ensures { Puts O.written O.failures out.old out.new sink.old sink.new
+        (frame_line index offset size) }
 {
     sink.reserve(out, 128);
     sink.held.push(b"frame ");

@@ -37,10 +37,13 @@ pub fn from_json<'a, F: Files>(
     files: &mut F,
 ) -> Result<(), Refusal<'a>>
     ensures comes { Comes (λ text. text ≡ []) (λ _. ⊥)
-        (IsSaved F.contents files.old files.new) (IsUnsaved F.contents F.failures files.old files.new)
-        (JsonReadOf F.contents F.is_steady files.old conversion.entry.rules conversion.entry.out.now source.now) IsNothing result }
+        (IsSaved F.contents files.old files.new)
+        (IsUnsaved F.contents F.failures files.old files.new)
+        (JsonReadOf F.contents F.is_steady files.old conversion.entry.rules conversion.entry.out.now
+        source.now) IsNothing result }
     ensures kept { KeepsFailures F.failures files.old files.new result }
-    ensures unfailing { F.is_steady files.old ≡ true → F.takes_writes files.old ≡ true → F.failures files.new ≡ F.failures files.old }
+    ensures unfailing { F.is_steady files.old ≡ true → F.takes_writes files.old ≡ true
+        → F.failures files.new ≡ F.failures files.old }
 {
     let named = find_named_type(alloc, source.reading, source.set, source.type_name, files)?;
     let answer = from_json_at(alloc, conversion, &named, source.file, files);
@@ -58,11 +61,14 @@ fn from_json_at<'a, F: Files>(
 ) -> Result<(), Refusal<'a>>
     requires { named.now.message_type.0 < length named.now.pool.messages }
     ensures comes { Comes (λ text. text ≡ []) (λ _. ⊥)
-        (IsSaved F.contents files.old files.new) (IsUnsaved F.contents F.failures files.old files.new)
-        (JsonReadAt F.contents F.is_steady files.old conversion.entry.rules named.now.names conversion.entry.out.now named.now.pool named.now.message_type.0 path.entry.now)
+        (IsSaved F.contents files.old files.new)
+        (IsUnsaved F.contents F.failures files.old files.new)
+        (JsonReadAt F.contents F.is_steady files.old conversion.entry.rules named.now.names
+        conversion.entry.out.now named.now.pool named.now.message_type.0 path.entry.now)
         IsNothing result }
     ensures kept { KeepsFailures F.failures files.old files.new result }
-    ensures unfailing { F.is_steady files.old ≡ true → F.takes_writes files.old ≡ true → F.failures files.new ≡ F.failures files.old }
+    ensures unfailing { F.is_steady files.old ≡ true → F.takes_writes files.old ≡ true
+        → F.failures files.new ≡ F.failures files.old }
 {
     let text = read_file(alloc, Limits::FULL, path, files)?;
     let message = read_text(alloc, conversion.rules, named, text.as_slice())?;
@@ -77,11 +83,15 @@ fn read_text<'p, 'a>(
     text: &[u8],
 ) -> Result<DynamicMessage<'p>, Refusal<'a>>
     requires { named.now.message_type.0 < length named.now.pool.messages }
-    ensures of_type { IfOk result (λ m. (m.pool ≡ named.now.pool) × (m.kind ≡ named.now.message_type.0)) }
+    ensures of_type { IfOk result (λ m. (m.pool ≡ named.now.pool)
+        × (m.kind ≡ named.now.message_type.0)) }
     ensures short { IfOk result (λ m. length text.now ≤ full.bytes) }
-    ensures read { IfOk result (λ m. IsReadBy named.now.pool rules named.now.names named.now.message_type.0 text.now m.body) }
-    ensures refused { IfErr result (Refuses (λ a. ((full.bytes < length text.now) × (a ≡ refused too_long_line))
-        ⊎ ((e : ReadError) × (length text.now ≤ full.bytes) × IsRefusedBy named.now.pool rules named.now.names named.now.message_type.0 text.now e
+    ensures read { IfOk result (λ m. IsReadBy named.now.pool rules named.now.names
+        named.now.message_type.0 text.now m.body) }
+    ensures refused { IfErr result
+        (Refuses (λ a. ((full.bytes < length text.now) × (a ≡ refused too_long_line))
+        ⊎ ((e : ReadError) × (length text.now ≤ full.bytes)
+        × IsRefusedBy named.now.pool rules named.now.names named.now.message_type.0 text.now e
         × (a ≡ refused (json_text_line e.byte (name_of e.cause)))))) }
 {
     if text.len() > Limits::FULL.max_bytes() as usize {
@@ -106,7 +116,8 @@ fn read_text<'p, 'a>(
 /// Why a text is refused.
 fn refusal_of<'a>(error: JsonReadError) -> Refusal<'a>
     ensures memory { error ≡ out_of_memory → result ≡ Refusal.Memory }
-    ensures reported { Refuses (λ a. a ≡ refused (json_text_line error.byte (name_of error.cause))) result }
+    ensures reported { Refuses (λ a. a ≡ refused
+        (json_text_line error.byte (name_of error.cause))) result }
 {
     if error.cause == JsonReadCause::OutOfMemory {
         return Refusal::Memory;

@@ -43,9 +43,12 @@ pub fn gather<'a, F: Files>(
     files: &mut F,
 ) -> Result<Vec<FileDecl>, Refusal<'a>>
     ensures gathered { IfOk result (λ v. (g : Gathered)
-        × GathersOf F.contents F.is_steady files.old (places_of roots.entry) given (texts_of names.now) nothing_yet (gathered g)
+        × GathersOf F.contents F.is_steady files.old (places_of roots.entry) given
+        (texts_of names.now) nothing_yet (gathered g)
         × (map file_view v.items ≡ g.files)) }
-    ensures refused { IfErr result (Refuses (StopsOf F.contents F.is_steady files.old (places_of roots.entry) given (texts_of names.now) nothing_yet)) }
+    ensures refused { IfErr result
+        (Refuses (StopsOf F.contents F.is_steady files.old (places_of roots.entry) given
+        (texts_of names.now) nothing_yet)) }
     ensures kept { KeepsFailures F.failures files.old files.new result }
     ensures steady { F.is_steady files.old ≡ true → F.is_steady files.new ≡ true }
     ensures unfailing { F.is_steady files.old ≡ true → F.failures files.new ≡ F.failures files.old }
@@ -94,11 +97,15 @@ impl Gathering {
         files: &mut F,
     ) -> Result<(), Refusal<'a>>
         ensures taken { OnOk result
-            (GathersOf F.contents F.is_steady files.old (places_of roots.entry) given (name.now ∷ []) (reached self.old) (gathered (reached self.new))) }
-        ensures refused { IfErr result (Refuses (StopsOf F.contents F.is_steady files.old (places_of roots.entry) given (name.now ∷ []) (reached self.old))) }
+            (GathersOf F.contents F.is_steady files.old (places_of roots.entry) given
+            (name.now ∷ []) (reached self.old) (gathered (reached self.new))) }
+        ensures refused { IfErr result
+            (Refuses (StopsOf F.contents F.is_steady files.old (places_of roots.entry) given
+            (name.now ∷ []) (reached self.old))) }
         ensures kept { KeepsFailures F.failures files.old files.new result }
         ensures steady { F.is_steady files.old ≡ true → F.is_steady files.new ≡ true }
-        ensures unfailing { F.is_steady files.old ≡ true → F.failures files.new ≡ F.failures files.old }
+        ensures unfailing { F.is_steady files.old ≡ true
+            → F.failures files.new ≡ F.failures files.old }
         ensures takes_writes { F.takes_writes files.old ≡ true → F.takes_writes files.new ≡ true }
         ensures files { KeepsMap (F.contents files.old) (F.contents files.new) }
     {
@@ -120,13 +127,16 @@ impl Gathering {
         files: &mut F,
     ) -> Result<(), Refusal<'a>>
         ensures closed { OnOk result ((g : Gathered)
-            × GathersOf F.contents F.is_steady files.old (places_of roots.entry) imported (file_view file).imports (reached self.old) (gathered g)
+            × GathersOf F.contents F.is_steady files.old (places_of roots.entry) imported
+            (file_view file).imports (reached self.old) (gathered g)
             × (reached self.new ≡ with_file (file_view file) g)) }
         ensures refused { IfErr result
-            (Refuses (StopsOf F.contents F.is_steady files.old (places_of roots.entry) imported (file_view file).imports (reached self.old))) }
+            (Refuses (StopsOf F.contents F.is_steady files.old (places_of roots.entry) imported
+            (file_view file).imports (reached self.old))) }
         ensures kept { KeepsFailures F.failures files.old files.new result }
         ensures steady { F.is_steady files.old ≡ true → F.is_steady files.new ≡ true }
-        ensures unfailing { F.is_steady files.old ≡ true → F.failures files.new ≡ F.failures files.old }
+        ensures unfailing { F.is_steady files.old ≡ true
+            → F.failures files.new ≡ F.failures files.old }
         ensures takes_writes { F.takes_writes files.old ≡ true → F.takes_writes files.new ≡ true }
         ensures files { KeepsMap (F.contents files.old) (F.contents files.new) }
     {
@@ -151,14 +161,18 @@ impl Gathering {
         stack: &mut Vec<Open>,
         files: &mut F,
     ) -> Result<(), Refusal<'a>>
-        ensures moved { OnOk result (Moves (AbsentOf F.contents F.is_steady files.old (places_of roots.entry).roots)
+        ensures moved { OnOk result
+            (Moves (AbsentOf F.contents F.is_steady files.old (places_of roots.entry).roots)
             (DeclaredOf F.contents F.is_steady files.old (places_of roots.entry)) (reached self.old)
-            (open_view innermost ∷ stack_of stack.old.items) (reached self.new) (stack_of stack.new.items)) }
+            (open_view innermost ∷ stack_of stack.old.items) (reached self.new)
+            (stack_of stack.new.items)) }
         ensures refused { IfErr result
-            (Refuses (StopsInside (TroubleOf F.contents F.is_steady files.old (places_of roots.entry)) (reached self.old) (open_view innermost).left)) }
+            (Refuses (StopsInside (TroubleOf F.contents F.is_steady files.old
+            (places_of roots.entry)) (reached self.old) (open_view innermost).left)) }
         ensures kept { KeepsFailures F.failures files.old files.new result }
         ensures steady { F.is_steady files.old ≡ true → F.is_steady files.new ≡ true }
-        ensures unfailing { F.is_steady files.old ≡ true → F.failures files.new ≡ F.failures files.old }
+        ensures unfailing { F.is_steady files.old ≡ true
+            → F.failures files.new ≡ F.failures files.old }
         ensures takes_writes { F.takes_writes files.old ≡ true → F.takes_writes files.new ≡ true }
         ensures files { KeepsMap (F.contents files.old) (F.contents files.new) }
     {
@@ -185,14 +199,18 @@ impl Gathering {
         name: &str,
         files: &mut F,
     ) -> Result<Option<FileDecl>, Refusal<'a>>
-        ensures found { IfOk result (λ o. FindsImport (AbsentOf F.contents F.is_steady files.old (places_of roots.entry).roots)
-            (DeclaredOf F.contents F.is_steady files.old (places_of roots.entry)) (reached self.old) name.now (reached self.new) (option_map file_view o)) }
+        ensures found { IfOk result (λ o. FindsImport
+            (AbsentOf F.contents F.is_steady files.old (places_of roots.entry).roots)
+            (DeclaredOf F.contents F.is_steady files.old (places_of roots.entry)) (reached self.old)
+            name.now (reached self.new) (option_map file_view o)) }
         ensures refused { IfErr result (Refuses (λ a. (t : Trouble)
-            × RefusesImport (TroubleOf F.contents F.is_steady files.old (places_of roots.entry)) (reached self.old) name.now t
+            × RefusesImport (TroubleOf F.contents F.is_steady files.old (places_of roots.entry))
+            (reached self.old) name.now t
             × (a ≡ told_of name.now t))) }
         ensures kept { KeepsFailures F.failures files.old files.new result }
         ensures steady { F.is_steady files.old ≡ true → F.is_steady files.new ≡ true }
-        ensures unfailing { F.is_steady files.old ≡ true → F.failures files.new ≡ F.failures files.old }
+        ensures unfailing { F.is_steady files.old ≡ true
+            → F.failures files.new ≡ F.failures files.old }
         ensures takes_writes { F.takes_writes files.old ≡ true → F.takes_writes files.new ≡ true }
         ensures files { KeepsMap (F.contents files.old) (F.contents files.new) }
     {

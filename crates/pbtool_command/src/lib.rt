@@ -3,13 +3,13 @@
 
 mod all_frames;
 mod by_type;
+mod check;
 mod cleanup;
 mod command;
 mod compat;
 mod compile;
 mod early;
 mod executing;
-mod explaining;
 mod form;
 mod frames;
 mod from_json;
@@ -22,8 +22,7 @@ mod types;
 
 pub use cleanup::Cleanup;
 pub use command::{Command, Comparison, FrameForm, RawForm, Roots, Source};
-pub use executing::{execute, execute_then};
-pub use explaining::execute_explained;
+pub use executing::{execute, execute_then, perform};
 pub use pb_compat_lines::Readers;
 pub use pb_json::Layout;
 pub use pb_json_read::JsonRules;

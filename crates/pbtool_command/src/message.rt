@@ -32,11 +32,14 @@ pub fn message<'a, F: Files, O: Output>(
     files: &mut F,
     out: &mut O,
 ) -> Result<(), Refusal<'a>>
-    ensures comes { Comes (Sent O.written O.failures out.old out.new) (Cut O.written O.failures out.old out.new)
-        (IsSaved F.contents files.old files.new) (IsUnsaved F.contents F.failures files.old files.new)
+    ensures comes { Comes (Sent O.written O.failures out.old out.new)
+        (Cut O.written O.failures out.old out.new)
+        (IsSaved F.contents files.old files.new)
+        (IsUnsaved F.contents F.failures files.old files.new)
         (MessageOf F.contents F.is_steady files.old form.entry source.now) IsNothing result }
     ensures kept { KeepsFailures F.failures files.old files.new result }
-    ensures unfailing { F.is_steady files.old ≡ true → F.takes_writes files.old ≡ true → F.failures files.new ≡ F.failures files.old }
+    ensures unfailing { F.is_steady files.old ≡ true → F.takes_writes files.old ≡ true
+        → F.failures files.new ≡ F.failures files.old }
 {
     let (pool, kind) = find_type(alloc, source.reading, source.set, source.type_name, files)?;
     let of = Typed {
@@ -57,11 +60,14 @@ pub fn json<'a, F: Files, O: Output>(
     files: &mut F,
     out: &mut O,
 ) -> Result<(), Refusal<'a>>
-    ensures comes { Comes (Sent O.written O.failures out.old out.new) (Cut O.written O.failures out.old out.new)
-        (IsSaved F.contents files.old files.new) (IsUnsaved F.contents F.failures files.old files.new)
+    ensures comes { Comes (Sent O.written O.failures out.old out.new)
+        (Cut O.written O.failures out.old out.new)
+        (IsSaved F.contents files.old files.new)
+        (IsUnsaved F.contents F.failures files.old files.new)
         (JsonOf F.contents F.is_steady files.old layout source.now) IsNothing result }
     ensures kept { KeepsFailures F.failures files.old files.new result }
-    ensures unfailing { F.is_steady files.old ≡ true → F.takes_writes files.old ≡ true → F.failures files.new ≡ F.failures files.old }
+    ensures unfailing { F.is_steady files.old ≡ true → F.takes_writes files.old ≡ true
+        → F.failures files.new ≡ F.failures files.old }
 {
     let named = find_named_type(alloc, source.reading, source.set, source.type_name, files)?;
     let form = Form::Json(layout, &named.names);
@@ -85,11 +91,15 @@ fn message_at<'a, F: Files, O: Output>(
     out: &mut O,
 ) -> Result<(), Refusal<'a>>
     requires { of.message_type.0 < length of.pool.now.messages }
-    ensures comes { Comes (Sent O.written O.failures out.old out.new) (Cut O.written O.failures out.old out.new)
-        (IsSaved F.contents files.old files.new) (IsUnsaved F.contents F.failures files.old files.new)
-        (MessageAt F.contents F.is_steady files.old form.entry of.entry.pool.now of.entry.message_type.0 path.entry.now) IsNothing result }
+    ensures comes { Comes (Sent O.written O.failures out.old out.new)
+        (Cut O.written O.failures out.old out.new)
+        (IsSaved F.contents files.old files.new)
+        (IsUnsaved F.contents F.failures files.old files.new)
+        (MessageAt F.contents F.is_steady files.old form.entry of.entry.pool.now
+        of.entry.message_type.0 path.entry.now) IsNothing result }
     ensures kept { KeepsFailures F.failures files.old files.new result }
-    ensures unfailing { F.is_steady files.old ≡ true → F.takes_writes files.old ≡ true → F.failures files.new ≡ F.failures files.old }
+    ensures unfailing { F.is_steady files.old ≡ true → F.takes_writes files.old ≡ true
+        → F.failures files.new ≡ F.failures files.old }
 {
     let message = read_message(alloc, of.pool, of.message_type, path, files)?;
     let answer = make(form, &message, files, out);

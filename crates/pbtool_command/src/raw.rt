@@ -31,9 +31,12 @@ pub fn raw<'a, F: Files, O: Output>(
 ) -> Result<(), Refusal<'a>>
     requires bytes { limits.bytes < 2 ^ 31 }
     requires depth { limits.depth ≤ 100 }
-    ensures comes { Comes (Sent O.written O.failures out.old out.new) (Cut O.written O.failures out.old out.new)
-        (IsSaved F.contents files.old files.new) (IsUnsaved F.contents F.failures files.old files.new)
-        (λ a. (content : Option (List ℕ)) × IsReadOf F.contents F.is_steady files.old (limits.bytes + 1) path.entry.now content
+    ensures comes { Comes (Sent O.written O.failures out.old out.new)
+        (Cut O.written O.failures out.old out.new)
+        (IsSaved F.contents files.old files.new)
+        (IsUnsaved F.contents F.failures files.old files.new)
+        (λ a. (content : Option (List ℕ))
+        × IsReadOf F.contents F.is_steady files.old (limits.bytes + 1) path.entry.now content
         × RawAnswer limits form path.entry.now content a) IsNothing result }
     ensures kept { KeepsFailures F.failures files.old files.new result }
     ensures unfailing { F.is_steady files.old ≡ true → F.failures files.new ≡ F.failures files.old }
@@ -51,7 +54,8 @@ fn read_judged<'a, F: Files>(
     path: &'a str,
     files: &mut F,
 ) -> Result<Vec<u8>, Refusal<'a>>
-    ensures judged { Judges limits path.entry.now (IsReadOf F.contents F.is_steady files.old (limits.bytes + 1) path.entry.now) result }
+    ensures judged { Judges limits path.entry.now
+        (IsReadOf F.contents F.is_steady files.old (limits.bytes + 1) path.entry.now) result }
     ensures kept { KeepsFailures F.failures files.old files.new result }
     ensures unfailing { F.is_steady files.old ≡ true → F.failures files.new ≡ F.failures files.old }
     ensures files { KeepsMap (F.contents files.old) (F.contents files.new) }
@@ -63,7 +67,8 @@ fn read_judged<'a, F: Files>(
 /// Writes the records that the bytes encode in a form.
 fn show<'a, O: Output>(form: RawForm, text: &[u8], out: &mut O) -> Result<(), Refusal<'a>>
     ensures { (rs : List Record) → IsText blank tt full text.now rs
-        → Comes (Sent O.written O.failures out.old out.new) (Cut O.written O.failures out.old out.new) NoFile (λ _. ⊥)
+        → Comes (Sent O.written O.failures out.old out.new)
+        (Cut O.written O.failures out.old out.new) NoFile (λ _. ⊥)
         (ShownAnswer form rs) IsNothing result }
 {
     match write_as(form, text, out) {
@@ -74,7 +79,8 @@ fn show<'a, O: Output>(form: RawForm, text: &[u8], out: &mut O) -> Result<(), Re
 
 fn write_as<O: Output>(form: RawForm, text: &[u8], out: &mut O) -> Result<(), DeviceFault>
     ensures { (rs : List Record) → IsText blank tt full text.now rs
-        → MatchResult result (λ _. SentSome O.written O.failures out.old out.new (IsShownAs form rs))
+        → MatchResult result (λ _. SentSome O.written O.failures out.old out.new
+        (IsShownAs form rs))
         (λ _. CutSome O.written O.failures out.old out.new (IsShownAs form rs)) }
 {
     match form {

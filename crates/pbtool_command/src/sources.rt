@@ -55,8 +55,10 @@ fn read_bytes<F: Files>(
     path: &str,
     files: &mut F,
 ) -> Result<Option<Vec<u8>>, ReadFault>
-    ensures read { IfOk result (λ o. IsReadOf F.contents F.is_steady files.old (full.bytes + 1) path.now (option_map (λ v. v.items) o)) }
-    ensures failed { IsErrOf result ReadFault.Device → Fails F.contents F.is_steady files.old path.now }
+    ensures read { IfOk result (λ o. IsReadOf F.contents F.is_steady files.old (full.bytes + 1)
+        path.now (option_map (λ v. v.items) o)) }
+    ensures failed { IsErrOf result ReadFault.Device
+        → Fails F.contents F.is_steady files.old path.now }
     ensures kept { OnOk result (F.failures files.new ≡ F.failures files.old) }
     ensures memory { IsErrOf result ReadFault.Memory → F.failures files.new ≡ F.failures files.old }
     ensures steady { F.is_steady files.old ≡ true → F.is_steady files.new ≡ true }
@@ -101,7 +103,8 @@ fn parse_by(
     bytes: &[u8],
 ) -> Result<FileDecl, SourceFault>
     ensures source { IfOk result (λ f. IsSourceBy reading name.now bytes.now (file_view f)) }
-    ensures fault { IfErr result (λ e. (e ≡ out_of_memory) ⊎ HasFaultBy reading bytes.now e.byte e.cause) }
+    ensures fault { IfErr result (λ e. (e ≡ out_of_memory)
+        ⊎ HasFaultBy reading bytes.now e.byte e.cause) }
 {
     match reading {
         Reading::Strict => parse(alloc, name, bytes),
@@ -117,7 +120,8 @@ fn parse_source<'a>(
     bytes: &[u8],
 ) -> Result<FileDecl, Refusal<'a>>
     ensures source { IfOk result (λ f. IsSourceBy reading name.now bytes.now (file_view f)) }
-    ensures refused { IfErr result (Refuses (λ a. (place : ℕ) × (c : SourceCause) × HasFaultBy reading bytes.now place c
+    ensures refused { IfErr result (Refuses (λ a. (place : ℕ) × (c : SourceCause)
+        × HasFaultBy reading bytes.now place c
         × (a ≡ refused (source_line name.now place c)))) }
 {
     match parse_by(alloc, reading, name, bytes) {
@@ -134,10 +138,13 @@ fn read_under<'a, F: Files>(
     name: &str,
     files: &mut F,
 ) -> Result<Option<FileDecl>, Refusal<'a>>
-    ensures read { IfOk result (λ o. MatchOption o (IsAt F.contents F.is_steady files.old (path_under root.now name.now) None)
-        (λ f. DeclaresAt (IsAt F.contents F.is_steady files.old) reading (path_under root.now name.now) name.now (file_view f))) }
+    ensures read { IfOk result (λ o. MatchOption o
+        (IsAt F.contents F.is_steady files.old (path_under root.now name.now) None)
+        (λ f. DeclaresAt (IsAt F.contents F.is_steady files.old) reading
+        (path_under root.now name.now) name.now (file_view f))) }
     ensures refused { IfErr result (Refuses (λ a. (t : Trouble)
-        × HasTroubleAt (IsAt F.contents F.is_steady files.old) reading (path_under root.now name.now) (Fails F.contents F.is_steady files.old) t
+        × HasTroubleAt (IsAt F.contents F.is_steady files.old) reading
+        (path_under root.now name.now) (Fails F.contents F.is_steady files.old) t
         × (a ≡ told_of name.now t))) }
     ensures kept { KeepsFailures F.failures files.old files.new result }
     ensures steady { F.is_steady files.old ≡ true → F.is_steady files.new ≡ true }
@@ -165,10 +172,13 @@ fn read_first<'a, F: Files>(
     name: &str,
     files: &mut F,
 ) -> Result<Option<FileDecl>, Refusal<'a>>
-    ensures read { IfOk result (λ o. MatchOption o (AbsentOf F.contents F.is_steady files.old (texts_of roots.now) name.now)
-        (λ f. DeclaredOf F.contents F.is_steady files.old (places reading (texts_of roots.now)) name.now (file_view f))) }
+    ensures read { IfOk result (λ o. MatchOption o
+        (AbsentOf F.contents F.is_steady files.old (texts_of roots.now) name.now)
+        (λ f. DeclaredOf F.contents F.is_steady files.old (places reading (texts_of roots.now))
+        name.now (file_view f))) }
     ensures refused { IfErr result (Refuses (λ a. (t : Trouble)
-        × TroubleOf F.contents F.is_steady files.old (places reading (texts_of roots.now)) imported name.now t × (a ≡ told_of name.now t))) }
+        × TroubleOf F.contents F.is_steady files.old (places reading (texts_of roots.now)) imported
+        name.now t × (a ≡ told_of name.now t))) }
     ensures kept { KeepsFailures F.failures files.old files.new result }
     ensures steady { F.is_steady files.old ≡ true → F.is_steady files.new ≡ true }
     ensures unfailing { F.is_steady files.old ≡ true → F.failures files.new ≡ F.failures files.old }
@@ -190,10 +200,13 @@ pub fn read_source<'a, F: Files>(
     name: &str,
     files: &mut F,
 ) -> Result<Option<FileDecl>, Refusal<'a>>
-    ensures read { IfOk result (λ o. MatchOption o (AbsentOf F.contents F.is_steady files.old (places_of roots.entry).roots name.now)
-        (λ f. DeclaredOf F.contents F.is_steady files.old (places_of roots.entry) name.now (file_view f))) }
+    ensures read { IfOk result (λ o. MatchOption o
+        (AbsentOf F.contents F.is_steady files.old (places_of roots.entry).roots name.now)
+        (λ f. DeclaredOf F.contents F.is_steady files.old (places_of roots.entry) name.now
+        (file_view f))) }
     ensures refused { IfErr result (Refuses (λ a. (t : Trouble)
-        × TroubleOf F.contents F.is_steady files.old (places_of roots.entry) imported name.now t × (a ≡ told_of name.now t))) }
+        × TroubleOf F.contents F.is_steady files.old (places_of roots.entry) imported name.now t
+        × (a ≡ told_of name.now t))) }
     ensures kept { KeepsFailures F.failures files.old files.new result }
     ensures steady { F.is_steady files.old ≡ true → F.is_steady files.new ≡ true }
     ensures unfailing { F.is_steady files.old ≡ true → F.failures files.new ≡ F.failures files.old }
@@ -213,9 +226,11 @@ pub fn read_given<'a, F: Files>(
     name: &str,
     files: &mut F,
 ) -> Result<FileDecl, Refusal<'a>>
-    ensures read { IfOk result (λ f. DeclaredOf F.contents F.is_steady files.old (places_of roots.entry) name.now (file_view f)) }
+    ensures read { IfOk result (λ f. DeclaredOf F.contents F.is_steady files.old
+        (places_of roots.entry) name.now (file_view f)) }
     ensures refused { IfErr result (Refuses (λ a. (t : Trouble)
-        × TroubleOf F.contents F.is_steady files.old (places_of roots.entry) given name.now t × (a ≡ told_of name.now t))) }
+        × TroubleOf F.contents F.is_steady files.old (places_of roots.entry) given name.now t
+        × (a ≡ told_of name.now t))) }
     ensures kept { KeepsFailures F.failures files.old files.new result }
     ensures steady { F.is_steady files.old ≡ true → F.is_steady files.new ≡ true }
     ensures unfailing { F.is_steady files.old ≡ true → F.failures files.new ≡ F.failures files.old }

@@ -2,7 +2,7 @@
 
 ghost use Rattle.std.specs.Prelude.{◌≡◌, ◌<◌, map, option_map, true, length, MatchResult};
 ghost use Rattle.std.specs.List.{flat_map};
-ghost use Rattle.pb_descr.specs.Omitted.{omitted_view};
+ghost use Rattle.pb_descr_message.specs.Omitted.{omitted_view};
 ghost use Rattle.pb_listing.specs.TypesListing.{enum_lines_at, message_lines_at};
 ghost use Rattle.pb_output.specs.Sending.{Cut, Sent};
 ghost use Rattle.pb_output.specs.Sink.{Puts};
@@ -31,9 +31,12 @@ pub fn types<'a, F: Files, O: Output>(
     files: &mut F,
     out: &mut O,
 ) -> Result<(), Refusal<'a>>
-    ensures comes { Comes (Sent O.written O.failures out.old out.new) (Cut O.written O.failures out.old out.new)
-        (IsSaved F.contents files.old files.new) (IsUnsaved F.contents F.failures files.old files.new)
-        (TypesOf F.contents F.is_steady files.old reading set.entry.now (option_map (λ n. n.now) name.entry)) IsNothing result }
+    ensures comes { Comes (Sent O.written O.failures out.old out.new)
+        (Cut O.written O.failures out.old out.new)
+        (IsSaved F.contents files.old files.new)
+        (IsUnsaved F.contents F.failures files.old files.new)
+        (TypesOf F.contents F.is_steady files.old reading set.entry.now
+        (option_map (λ n. n.now) name.entry)) IsNothing result }
     ensures kept { KeepsFailures F.failures files.old files.new result }
     ensures unfailing { F.is_steady files.old ≡ true → F.failures files.new ≡ F.failures files.old }
 {
@@ -49,8 +52,10 @@ fn show<'a, O: Output>(
     name: Option<&'a str>,
     out: &mut O,
 ) -> Result<(), Refusal<'a>>
-    ensures { Comes (Sent O.written O.failures out.old out.new) (Cut O.written O.failures out.old out.new) NoFile (λ _. ⊥)
-        (ShownAnswer (option_map (λ n. n.now) name.entry) set.now.pool (map omitted_view set.now.omitted.items)) IsNothing result }
+    ensures { Comes (Sent O.written O.failures out.old out.new)
+        (Cut O.written O.failures out.old out.new) NoFile (λ _. ⊥)
+        (ShownAnswer (option_map (λ n. n.now) name.entry) set.now.pool
+        (map omitted_view set.now.omitted.items)) IsNothing result }
 {
     match name {
         None => print_set(set, out),
@@ -59,8 +64,10 @@ fn show<'a, O: Output>(
 }
 
 fn print_set<'a, O: Output>(set: &LinkedSet, out: &mut O) -> Result<(), Refusal<'a>>
-    ensures { Comes (Sent O.written O.failures out.old out.new) (Cut O.written O.failures out.old out.new) NoFile (λ _. ⊥)
-        (λ a. a ≡ done (set_listing set.now.pool (map omitted_view set.now.omitted.items))) IsNothing result }
+    ensures { Comes (Sent O.written O.failures out.old out.new)
+        (Cut O.written O.failures out.old out.new) NoFile (λ _. ⊥)
+        (λ a. a ≡ done (set_listing set.now.pool (map omitted_view set.now.omitted.items)))
+        IsNothing result }
 {
     match write_set_listing(set, out) {
         Ok(()) => Ok(()),
@@ -70,8 +77,10 @@ fn print_set<'a, O: Output>(set: &LinkedSet, out: &mut O) -> Result<(), Refusal<
 
 fn write_set_listing<O: Output>(set: &LinkedSet, out: &mut O) -> Result<(), DeviceFault>
     ensures { MatchResult result
-        (λ _. Sent O.written O.failures out.old out.new (set_listing set.now.pool (map omitted_view set.now.omitted.items)))
-        (λ _. Cut O.written O.failures out.old out.new (set_listing set.now.pool (map omitted_view set.now.omitted.items))) }
+        (λ _. Sent O.written O.failures out.old out.new
+        (set_listing set.now.pool (map omitted_view set.now.omitted.items)))
+        (λ _. Cut O.written O.failures out.old out.new
+        (set_listing set.now.pool (map omitted_view set.now.omitted.items))) }
 {
     let mut sink = Sink::new();
     put_types(&mut sink, out, &set.pool);
@@ -81,7 +90,8 @@ fn write_set_listing<O: Output>(set: &LinkedSet, out: &mut O) -> Result<(), Devi
 
 /// A line for each part that was left out.
 fn put_omitted<O: Output>(sink: &mut Sink, out: &mut O, pool: &Pool, omitted: &[Omitted])
-    ensures { Puts O.written O.failures out.old out.new sink.old sink.new (flat_map (omitted_line pool.now) (map omitted_view omitted.now)) }
+    ensures { Puts O.written O.failures out.old out.new sink.old sink.new
+        (flat_map (omitted_line pool.now) (map omitted_view omitted.now)) }
 {
     for part in omitted {
         put_omitted_part(sink, out, pool, part);
@@ -89,7 +99,8 @@ fn put_omitted<O: Output>(sink: &mut Sink, out: &mut O, pool: &Pool, omitted: &[
 }
 
 fn put_omitted_part<O: Output>(sink: &mut Sink, out: &mut O, pool: &Pool, omitted: &Omitted)
-    ensures { Puts O.written O.failures out.old out.new sink.old sink.new (omitted_line pool.now (omitted_view omitted.now)) }
+    ensures { Puts O.written O.failures out.old out.new sink.old sink.new
+        (omitted_line pool.now (omitted_view omitted.now)) }
 {
     sink.put(out, b"omitted ");
     sink.put(out, file_name(pool, omitted.file));
@@ -102,7 +113,8 @@ fn put_omitted_part<O: Output>(sink: &mut Sink, out: &mut O, pool: &Pool, omitte
 
 /// Shows the message type of a name, or else the enum of this name.
 fn print_named<'a, O: Output>(pool: &Pool, name: &'a str, out: &mut O) -> Result<(), Refusal<'a>>
-    ensures { Comes (Sent O.written O.failures out.old out.new) (Cut O.written O.failures out.old out.new) NoFile (λ _. ⊥)
+    ensures { Comes (Sent O.written O.failures out.old out.new)
+        (Cut O.written O.failures out.old out.new) NoFile (λ _. ⊥)
         (NamedAnswer name.entry.now pool.now) IsNothing result }
 {
     if let Some(message_type) = pool.message_by_name(name) {
@@ -120,7 +132,8 @@ fn print_message_type<'a, O: Output>(
     out: &mut O,
 ) -> Result<(), Refusal<'a>>
     requires { message_type.0 < length pool.now.messages }
-    ensures { Comes (Sent O.written O.failures out.old out.new) (Cut O.written O.failures out.old out.new) NoFile (λ _. ⊥)
+    ensures { Comes (Sent O.written O.failures out.old out.new)
+        (Cut O.written O.failures out.old out.new) NoFile (λ _. ⊥)
         (λ a. a ≡ done (message_lines_at pool.now message_type.0)) IsNothing result }
 {
     match write_message_type(pool, message_type, out) {
@@ -135,7 +148,8 @@ fn write_message_type<O: Output>(
     out: &mut O,
 ) -> Result<(), DeviceFault>
     requires { message_type.0 < length pool.now.messages }
-    ensures { MatchResult result (λ _. Sent O.written O.failures out.old out.new (message_lines_at pool.now message_type.0))
+    ensures { MatchResult result (λ _. Sent O.written O.failures out.old out.new
+        (message_lines_at pool.now message_type.0))
         (λ _. Cut O.written O.failures out.old out.new (message_lines_at pool.now message_type.0)) }
 {
     let mut sink = Sink::new();
@@ -149,7 +163,8 @@ fn print_enum_type<'a, O: Output>(
     out: &mut O,
 ) -> Result<(), Refusal<'a>>
     requires { enum_type.0 < length pool.now.enums }
-    ensures { Comes (Sent O.written O.failures out.old out.new) (Cut O.written O.failures out.old out.new) NoFile (λ _. ⊥)
+    ensures { Comes (Sent O.written O.failures out.old out.new)
+        (Cut O.written O.failures out.old out.new) NoFile (λ _. ⊥)
         (λ a. a ≡ done (enum_lines_at pool.now enum_type.0)) IsNothing result }
 {
     match write_enum_type(pool, enum_type, out) {
@@ -164,7 +179,8 @@ fn write_enum_type<O: Output>(
     out: &mut O,
 ) -> Result<(), DeviceFault>
     requires { enum_type.0 < length pool.now.enums }
-    ensures { MatchResult result (λ _. Sent O.written O.failures out.old out.new (enum_lines_at pool.now enum_type.0))
+    ensures { MatchResult result (λ _. Sent O.written O.failures out.old out.new
+        (enum_lines_at pool.now enum_type.0))
         (λ _. Cut O.written O.failures out.old out.new (enum_lines_at pool.now enum_type.0)) }
 {
     let mut sink = Sink::new();

@@ -32,8 +32,10 @@ pub fn write_fault<O: Output>(
     requires within { refused.byte ≤ length given.bytes.now }
     requires small { given.offset + refused.byte < 2 ^ 64 }
     ensures { MatchResult result
-        (λ _. SentSome O.written O.failures out.old out.new (IsExplained pool.now parent given.entry refused.entry))
-        (λ _. CutSome O.written O.failures out.old out.new (IsExplained pool.now parent given.entry refused.entry)) }
+        (λ _. SentSome O.written O.failures out.old out.new
+        (IsExplained pool.now parent given.entry refused.entry))
+        (λ _. CutSome O.written O.failures out.old out.new
+        (IsExplained pool.now parent given.entry refused.entry)) }
 {
     let mut sink = Sink::new();
     put_fault(&mut sink, out, pool, parent, given, refused);
@@ -63,7 +65,8 @@ pub fn put_fault<O: Output>(
 /// The line that says where a byte of what is given is in its file.
 fn put_site<O: Output>(sink: &mut Sink, out: &mut O, given: Given<'_>, byte: usize)
     requires { given.offset + byte < 2 ^ 64 }
-    ensures { Puts O.written O.failures out.old out.new sink.old sink.new (site_line given.entry byte) }
+    ensures { Puts O.written O.failures out.old out.new sink.old sink.new
+        (site_line given.entry byte) }
 {
     put_byte(sink, out, given.offset + byte as u64);
     sink.put(out, given.file.as_bytes());
@@ -74,7 +77,8 @@ fn put_site<O: Output>(sink: &mut Sink, out: &mut O, given: Given<'_>, byte: usi
 }
 
 fn put_byte<O: Output>(sink: &mut Sink, out: &mut O, byte: u64)
-    ensures { Puts O.written O.failures out.old out.new sink.old sink.new (codes "  at byte " ++ decimal byte ++ codes " of ") }
+    ensures { Puts O.written O.failures out.old out.new sink.old sink.new
+        (codes "  at byte " ++ decimal byte ++ codes " of ") }
 {
     sink.reserve(out, 64);
     sink.held.push(b"  at byte ");
@@ -84,7 +88,8 @@ fn put_byte<O: Output>(sink: &mut Sink, out: &mut O, byte: u64)
 
 /// Which byte of which frame it is.
 fn put_frame<O: Output>(sink: &mut Sink, out: &mut O, byte: u64, index: u64, offset: u64)
-    ensures { Puts O.written O.failures out.old out.new sink.old sink.new (frame_text byte index offset) }
+    ensures { Puts O.written O.failures out.old out.new sink.old sink.new
+        (frame_text byte index offset) }
 {
     sink.reserve(out, 128);
     sink.held.push(b": byte ");

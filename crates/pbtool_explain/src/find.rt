@@ -71,7 +71,8 @@ pub(crate) fn find_record(bytes: &[u8], start: usize, step: PathStep) -> Option<
 /// What comes at an index, before which there are this number of records of the step's number.
 fn take_turn(bytes: &[u8], at: usize, before: u32, step: PathStep) -> Turn
     requires { before ≤ step.occurrence }
-    ensures { (start : ℕ) (rs : List Record) → IsReached bytes.now start step rs at before → TurnIs bytes.now start step at result }
+    ensures { (start : ℕ) (rs : List Record) → IsReached bytes.now start step rs at before
+        → TurnIs bytes.now start step at result }
 {
     let rest = rest_at(bytes, at);
     match tag_of(rest, before, step) {
@@ -89,9 +90,12 @@ fn take_turn(bytes: &[u8], at: usize, before: u32, step: PathStep) -> Turn
 /// The tag of a step that begins the bytes, if this number of records before it is that of the step.
 fn tag_of(rest: &[u8], before: u32, step: PathStep) -> Option<Tag>
     ensures counted { IfSome result (λ t. before ≡ step.occurrence) }
-    ensures found { IfSome result (λ t. (0 < t.size) × (t.size ≤ length rest.now) × (t.wire_type < 6) × (t.wire_type ≢ 4)
-        × ((at : ℕ) → HasTag (given_at at None rest.now) step.number t.wire_type (passed (given_at at None rest.now) t.size))) }
-    ensures none { IfNone result (before ≡ step.occurrence → (at w : ℕ) (q : Place) → HasTag (given_at at None rest.now) step.number w q → w ≢ 4 → ⊥) }
+    ensures found { IfSome result (λ t. (0 < t.size) × (t.size ≤ length rest.now)
+        × (t.wire_type < 6) × (t.wire_type ≢ 4)
+        × ((at : ℕ) → HasTag (given_at at None rest.now) step.number t.wire_type
+        (passed (given_at at None rest.now) t.size))) }
+    ensures none { IfNone result (before ≡ step.occurrence → (at w : ℕ) (q : Place)
+        → HasTag (given_at at None rest.now) step.number w q → w ≢ 4 → ⊥) }
 {
     if before == step.occurrence {
         step_tag(rest, step.number)
@@ -122,8 +126,10 @@ fn rest_at(bytes: &[u8], at: usize) -> &[u8]
 /// The varint that begins the bytes, and how many bytes it takes.
 fn varint_of(rest: &[u8]) -> Option<(u64, usize)>
     ensures found { IfSome result (λ r. (0 < r.1) × (r.1 ≤ length rest.now)
-        × ((at : ℕ) → Reads (given_at at None rest.now) r.0 (passed (given_at at None rest.now) r.1))) }
-    ensures none { IfNone result ((at : ℕ) → (f : Fault) × VarintFault (given_at at None rest.now) f) }
+        × ((at : ℕ) → Reads (given_at at None rest.now) r.0
+        (passed (given_at at None rest.now) r.1))) }
+    ensures none { IfNone result ((at : ℕ) → (f : Fault)
+        × VarintFault (given_at at None rest.now) f) }
 {
     match scan_varint(rest, None) {
         Scanned::Whole(number, size) => Some((number, size)),
@@ -133,7 +139,8 @@ fn varint_of(rest: &[u8]) -> Option<(u64, usize)>
 
 /// How many bytes the varint takes that begins the bytes, if one does.
 fn varint_size(rest: &[u8]) -> usize
-    ensures { (at n : ℕ) (q : Place) → Reads (given_at at None rest.now) n q → q ≡ passed (given_at at None rest.now) result }
+    ensures { (at n : ℕ) (q : Place) → Reads (given_at at None rest.now) n q
+        → q ≡ passed (given_at at None rest.now) result }
 {
     match varint_of(rest) {
         Some((_, size)) => size,
@@ -143,9 +150,12 @@ fn varint_size(rest: &[u8]) -> usize
 
 /// The tag of a number that begins the bytes, if it ends no group.
 fn step_tag(rest: &[u8], number: u32) -> Option<Tag>
-    ensures found { IfSome result (λ t. (0 < t.size) × (t.size ≤ length rest.now) × (t.wire_type < 6) × (t.wire_type ≢ 4)
-        × ((at : ℕ) → HasTag (given_at at None rest.now) number t.wire_type (passed (given_at at None rest.now) t.size))) }
-    ensures none { IfNone result ((at w : ℕ) (q : Place) → HasTag (given_at at None rest.now) number w q → w ≢ 4 → ⊥) }
+    ensures found { IfSome result (λ t. (0 < t.size) × (t.size ≤ length rest.now)
+        × (t.wire_type < 6) × (t.wire_type ≢ 4)
+        × ((at : ℕ) → HasTag (given_at at None rest.now) number t.wire_type
+        (passed (given_at at None rest.now) t.size))) }
+    ensures none { IfNone result ((at w : ℕ) (q : Place)
+        → HasTag (given_at at None rest.now) number w q → w ≢ 4 → ⊥) }
 {
     let (tag, size) = varint_of(rest)?;
     if is_step_tag(tag, number) {
@@ -160,7 +170,8 @@ fn step_tag(rest: &[u8], number: u32) -> Option<Tag>
 
 /// Whether a varint is a tag of a field number that ends no group: the number is from 1 to 2^29 - 1, and the wire type from 0 to 5.
 fn is_step_tag(tag: u64, number: u32) -> bool
-    ensures { result ≡ true ↔ ((0 < number) × (number < 2 ^ 29) × (tag / 8 ≡ number) × (tag % 8 < 6) × (tag % 8 ≢ 4)) }
+    ensures { result ≡ true ↔ ((0 < number) × (number < 2 ^ 29) × (tag / 8 ≡ number) × (tag % 8 < 6)
+        × (tag % 8 ≢ 4)) }
 {
     let wire_type = tag % 8;
     0 < number
@@ -176,7 +187,8 @@ fn found_at(rest: &[u8], at: usize, tag: Tag) -> Found
     requires within { tag.size ≤ length rest.now }
     requires known { (tag.wire_type < 6) × (tag.wire_type ≢ 4) }
     ensures start { result.start ≡ at }
-    ensures value { IsValueAt tag.wire_type (passed (given_at at None rest.now) tag.size) result.payload result.end }
+    ensures value { IsValueAt tag.wire_type
+        (passed (given_at at None rest.now) tag.size) result.payload result.end }
 {
     let value = value_bounds(rest_at(rest, tag.size), at + tag.size, tag.wire_type);
     Found {
@@ -226,7 +238,8 @@ fn bytes_bounds(value: &[u8], at: usize) -> (usize, Option<usize>)
 
 /// The record that begins the bytes, if it is whole: its number and its payload.
 fn first_record(rest: &[u8]) -> Option<(u32, Payload<'_>)>
-    ensures whole { IfSome result (λ r. (at : ℕ) → (q : Place) × (h : ShowsRecord 100 (given_at at None rest.now) (r.0, seen r.1) q)
+    ensures whole { IfSome result (λ r. (at : ℕ)
+        → (q : Place) × (h : ShowsRecord 100 (given_at at None rest.now) (r.0, seen r.1) q)
         × (length h.front < 2 ^ 31)) }
     ensures none { IfNone result ((at : ℕ) → IsWholeAt (given_at at None rest.now) → ⊥) }
 {
@@ -239,7 +252,8 @@ fn first_record(rest: &[u8]) -> Option<(u32, Payload<'_>)>
 
 /// How many bytes the record with this payload takes that begins the bytes.
 fn record_size(rest: &[u8], payload: Payload<'_>) -> usize
-    ensures { (at k : ℕ) (q : Place) → ShowsRecord 100 (given_at at None rest.now) (k, seen payload.entry) q
+    ensures { (at k : ℕ) (q : Place)
+        → ShowsRecord 100 (given_at at None rest.now) (k, seen payload.entry) q
         → q ≡ passed (given_at at None rest.now) result }
 {
     let tag = varint_size(rest);
@@ -248,7 +262,8 @@ fn record_size(rest: &[u8], payload: Payload<'_>) -> usize
 
 /// How many bytes follow the tag of a record with this payload, where these begin them.
 fn value_size(value: &[u8], payload: Payload<'_>) -> usize
-    ensures { (at : ℕ) (q : Place) → ShowsValue (given_at at None value.now) (seen payload.entry) q → q ≡ passed (given_at at None value.now) result }
+    ensures { (at : ℕ) (q : Place) → ShowsValue (given_at at None value.now) (seen payload.entry) q
+        → q ≡ passed (given_at at None value.now) result }
 {
     match payload {
         Payload::Varint(_) => varint_size(value),

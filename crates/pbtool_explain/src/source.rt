@@ -57,7 +57,8 @@ pub fn write_source_line<O: Output>(
     at: usize,
 ) -> Result<(), DeviceFault>
     requires { at ≤ length source.now }
-    ensures { MatchResult result (λ _. SentSome O.written O.failures out.old out.new (IsShownAt source.now at))
+    ensures { MatchResult result
+        (λ _. SentSome O.written O.failures out.old out.new (IsShownAt source.now at))
         (λ _. CutSome O.written O.failures out.old out.new (IsShownAt source.now at)) }
 {
     let mut sink = Sink::new();
@@ -68,7 +69,8 @@ pub fn write_source_line<O: Output>(
 /// Puts these lines.
 pub fn put_source_line<O: Output>(sink: &mut Sink, out: &mut O, source: &[u8], at: usize)
     requires { at ≤ length source.now }
-    ensures { PutsSome O.written O.failures out.old out.new sink.old sink.new (IsShownAt source.now at) }
+    ensures { PutsSome O.written O.failures out.old out.new sink.old sink.new
+        (IsShownAt source.now at) }
 {
     let line = line_at(source, at);
     let before = front_of_line(source, line.start, at);
@@ -113,7 +115,8 @@ fn begins(byte: u8) -> bool
 }
 
 fn put_position<O: Output>(sink: &mut Sink, out: &mut O, line: u64, column: u64)
-    ensures { Puts O.written O.failures out.old out.new sink.old sink.new (position_text line column) }
+    ensures { Puts O.written O.failures out.old out.new sink.old sink.new
+        (position_text line column) }
 {
     sink.reserve(out, 128);
     sink.held.push(b"  line ");

@@ -168,7 +168,8 @@ fn put_step<O: Output>(
     step: PathStep,
     span: Option<Span>,
 )
-    ensures { Puts O.written O.failures out.old out.new sink.old sink.new (step_line pool.now parent step span) }
+    ensures { Puts O.written O.failures out.old out.new sink.old sink.new
+        (step_line pool.now parent step span) }
 {
     put_step_text(sink, out, step);
     put_label(sink, out, pool, parent, step.number);
@@ -177,7 +178,8 @@ fn put_step<O: Output>(
 
 /// A step as the line of a refusal has it.
 fn put_step_text<O: Output>(sink: &mut Sink, out: &mut O, step: PathStep)
-    ensures { Puts O.written O.failures out.old out.new sink.old sink.new (codes "  " ++ step_text step) }
+    ensures { Puts O.written O.failures out.old out.new sink.old sink.new
+        (codes "  " ++ step_text step) }
 {
     sink.reserve(out, 64);
     sink.held.push(b"  ");
@@ -189,7 +191,8 @@ fn put_step_text<O: Output>(sink: &mut Sink, out: &mut O, step: PathStep)
 
 /// The name and the type of the record of a number.
 fn put_label<O: Output>(sink: &mut Sink, out: &mut O, pool: &Pool, parent: Parent, number: u32)
-    ensures { Puts O.written O.failures out.old out.new sink.old sink.new (label_of pool.now parent number) }
+    ensures { Puts O.written O.failures out.old out.new sink.old sink.new
+        (label_of pool.now parent number) }
 {
     match parent {
         Parent::Untyped => {}
@@ -202,7 +205,8 @@ fn put_label<O: Output>(sink: &mut Sink, out: &mut O, pool: &Pool, parent: Paren
 
 /// The name and the type of a field.
 fn put_field<O: Output>(sink: &mut Sink, out: &mut O, pool: &Pool, field: Option<&Field>)
-    ensures { Puts O.written O.failures out.old out.new sink.old sink.new (field_label pool.now (option_map (λ f. field_view f.now) field.entry)) }
+    ensures { Puts O.written O.failures out.old out.new sink.old sink.new
+        (field_label pool.now (option_map (λ f. field_view f.now) field.entry)) }
 {
     let Some(field) = field else {
         sink.put(out, b" unknown");
@@ -216,7 +220,8 @@ fn put_field<O: Output>(sink: &mut Sink, out: &mut O, pool: &Pool, field: Option
 
 /// The type of a field's values, or of a map.
 fn put_type<O: Output>(sink: &mut Sink, out: &mut O, pool: &Pool, shape: Shape, kind: Kind)
-    ensures { Puts O.written O.failures out.old out.new sink.old sink.new (type_label pool.now shape kind) }
+    ensures { Puts O.written O.failures out.old out.new sink.old sink.new
+        (type_label pool.now shape kind) }
 {
     match shape {
         Shape::Map { key } => {
@@ -239,7 +244,8 @@ fn put_entry_part<O: Output>(
     value: Kind,
     number: u32,
 )
-    ensures { Puts O.written O.failures out.old out.new sink.old sink.new (entry_label pool.now key value number) }
+    ensures { Puts O.written O.failures out.old out.new sink.old sink.new
+        (entry_label pool.now key value number) }
 {
     if number == 1 {
         sink.put(out, b" key, ");

@@ -17,7 +17,8 @@ const BLANKS: &[u8] = b"                                                ";
 /// mark under the one at the position. At the end of the bytes the mark is after the last.
 pub fn put_window<O: Output>(sink: &mut Sink, out: &mut O, bytes: &[u8], at: usize)
     requires { at ≤ length bytes.now }
-    ensures { Puts O.written O.failures out.old out.new sink.old sink.new (window_lines bytes.now at) }
+    ensures { Puts O.written O.failures out.old out.new sink.old sink.new
+        (window_lines bytes.now at) }
 {
     let before = bytes_before(bytes, at);
     let after = bytes_after(bytes, at);

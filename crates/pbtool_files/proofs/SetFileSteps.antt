@@ -4,11 +4,11 @@ use Rattle.std.specs.Borrow.{Bor}
 use Rattle.std.specs.Io.KnownBytes.{Consumes}
 use Rattle.pb_wire.specs.Limits.{full}
 use Rattle.pb_declarations.specs.Decls.{DeclaredFile}
-use Rattle.pb_descr.specs.Lenient.{IsLenientSetOf}
-use Rattle.pb_descr.specs.Omitted.{OmittedView}
-use Rattle.pb_descr.specs.Sets.{IsSetOf}
-use Rattle.pb_descr.specs.declared.error.DescrError.{DescrError}
-use Rattle.pb_descr.specs.declared.error.DescrError.TheVariants as descr
+use Rattle.pb_descr_message.specs.Lenient.{IsLenientSetOf}
+use Rattle.pb_descr_message.specs.Omitted.{OmittedView}
+use Rattle.pb_descr_message.specs.Sets.{IsSetOf}
+use Rattle.pb_descr_message.specs.declared.error.DescrError.{DescrError}
+use Rattle.pb_descr_message.specs.declared.error.DescrError.TheVariants as descr
 use Rattle.pb_link_rules.specs.Faults.{IsUnlinked}
 use Rattle.pb_link_rules.specs.declared.error.LinkError.{LinkError}
 use Rattle.pb_link_rules.specs.declared.error.LinkError.TheVariants as link

@@ -3,8 +3,8 @@ use Rattle.std.specs.Prelude.{◌≡◌, ◌++◌, ℕ, List, [], Bool, true, fa
 use Rattle.pb_wire.specs.Fault.{fault}
 use Rattle.pb_wire.specs.declared.fault.RawError.{RawError}
 use Rattle.pb_wire.specs.declared.fault.RawError.TheVariants as raw
-use Rattle.pb_descr.specs.declared.error.DescrError.{DescrError}
-use Rattle.pb_descr.specs.declared.error.DescrError.TheVariants as descr
+use Rattle.pb_descr_message.specs.declared.error.DescrError.{DescrError}
+use Rattle.pb_descr_message.specs.declared.error.DescrError.TheVariants as descr
 use Rattle.pb_link_rules.specs.declared.error.LinkError.{LinkError}
 use Rattle.pb_link_rules.specs.declared.error.LinkError.TheVariants as link
 use Rattle.pbtool_files.specs.Answer.{Answer, refused, device_failed}

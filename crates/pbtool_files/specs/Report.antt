@@ -3,8 +3,8 @@ use Rattle.std.specs.Prelude.{ℕ, List, [], ◌∷◌, ◌++◌, codes, decimal
 use Rattle.pb_wire.specs.Fault.{Fault}
 use Rattle.pb_wire.specs.CauseName.{name_of}
 use Rattle.pb_wire.specs.PathText.{path_text}
-use Rattle.pb_descr.specs.CauseName as descr
-use Rattle.pb_descr.specs.declared.cause.DeclCause.{DeclCause}
+use Rattle.pb_descr_message.specs.CauseName as descr
+use Rattle.pb_descr_message.specs.declared.cause.DeclCause.{DeclCause}
 use Rattle.pb_link_rules.specs.CauseName.{cause_name}
 use Rattle.pb_link_rules.specs.declared.cause.LinkCause.{LinkCause}
 use Rattle.pb_json.specs.CauseName as json

@@ -9,15 +9,15 @@ use Rattle.pb_schema.specs.Tables.{place_of}
 use Rattle.pb_schema.specs.Types.{Types}
 use Rattle.pb_value.specs.Data.{Message}
 use Rattle.pb_declarations.specs.Decls.{DeclaredFile}
-use Rattle.pb_descr.specs.Causes.{set_causes}
-use Rattle.pb_descr.specs.Lenient.{IsUnreadLeniently}
-use Rattle.pb_descr.specs.Omitted.{OmittedView, omitted_in}
-use Rattle.pb_descr.specs.Pool.{descriptor_types, the_set}
-use Rattle.pb_descr.specs.Reading.{files_in}
-use Rattle.pb_descr.specs.Sets.{IsSetText, IsUnread}
-use Rattle.pb_descr.specs.Without.{without_parts}
-use Rattle.pb_descr.specs.declared.cause.DeclCause.{DeclCause}
-use Rattle.pb_descr.specs.declared.error.DescrError.{DescrError}
+use Rattle.pb_descr_message.specs.Causes.{set_causes}
+use Rattle.pb_descr_message.specs.Lenient.{IsUnreadLeniently}
+use Rattle.pb_descr_message.specs.Omitted.{OmittedView, omitted_in}
+use Rattle.pb_descr_message.specs.Pool.{descriptor_types, the_set}
+use Rattle.pb_descr_message.specs.Reading.{files_in}
+use Rattle.pb_descr_message.specs.Sets.{IsSetText, IsUnread}
+use Rattle.pb_descr_message.specs.Without.{without_parts}
+use Rattle.pb_descr_message.specs.declared.cause.DeclCause.{DeclCause}
+use Rattle.pb_descr_message.specs.declared.error.DescrError.{DescrError}
 use Rattle.pb_link.specs.Linking.{Links}
 use Rattle.pb_link_rules.specs.Faults.{LinkFault}
 use Rattle.pb_link_rules.specs.declared.cause.LinkCause.{LinkCause}

@@ -3,7 +3,7 @@
 ghost use Rattle.std.specs.Prelude.{◌≡◌, ◌≢◌, ◌+◌, ◌++◌, ◌<◌, true, false, ℕ, List, Option, Some, length, map, IfOk, IfErr};
 ghost use Rattle.pb_wire.specs.Limits.{full};
 ghost use Rattle.pb_declarations.specs.View.{file_view};
-ghost use Rattle.pb_descr.specs.Omitted.{omitted_view};
+ghost use Rattle.pb_descr_message.specs.Omitted.{omitted_view};
 ghost use Rattle.pb_json_names.specs.Names.{AreNamesOf};
 ghost use Rattle.pbtool_files.specs.FileMap.{KeepsMap};
 ghost use Rattle.pbtool_files.specs.Known.{IsReadFrom, IsReadOf};

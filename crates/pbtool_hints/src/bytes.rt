@@ -3,9 +3,9 @@
 use crate::sets::put_format;
 use crate::subject::{Subject, TypeOf};
 use pb_descr::descriptor_pool;
-use pb_frames::pass_frames;
 use pb_output::Sink;
 use pb_schema::{MessageId, Pool};
+use pb_stream::pass_frames;
 use pb_wire::{Cause, Input, MemOutput, PathStep, read_up_to, read_varint};
 use pbtool_explain::{Given, Parent, Refused, put_fault};
 use pbtool_files::{Files, find_type};

@@ -4,8 +4,8 @@ ghost use Rattle.std.specs.Prelude.{◌<◌, length};
 
 use crate::bytes::{At, Part, limit_after, put_at};
 use crate::subject::Subject;
-use pb_frames::{NextFrame, Reason, next_frame};
 use pb_schema::{MessageId, Pool};
+use pb_stream::{NextFrame, Reason, next_frame};
 use pb_wire::{Input, Limits, MemOutput, read_up_to};
 use pbtool_explain::Parent;
 use pbtool_files::{Files, find_type};

@@ -5,9 +5,9 @@ use Rattle.pb_value.specs.ErrorName.{number_of}
 use Rattle.pb_value.specs.declared.error.ValueError.{ValueError}
 use Rattle.pb_value.specs.declared.error.ValueError.TheVariants.{Memory}
 use Rattle.pb_place.specs.declared.error.ChangeError.TheVariants as change
-use Rattle.pb_c_changes.specs.Ends.{Outcome, made, unmade}
-use Rattle.pb_c_changes.specs.declared.unchanged.Unchanged.{Unchanged}
-use Rattle.pb_c_changes.specs.declared.unchanged.Unchanged.TheVariants.{BadPlace, BadValue, Refused}
+use Rattle.pb_c_message.specs.Ends.{Outcome, made, unmade}
+use Rattle.pb_c_message.specs.declared.unchanged.Unchanged.{Unchanged}
+use Rattle.pb_c_message.specs.declared.unchanged.Unchanged.TheVariants.{BadPlace, BadValue, Refused}
 
 -- a cause has its own number, 21 to 30, but that memory ran out is answered as by every call
 abbrev pub cause_answer : ValueError → ℕ

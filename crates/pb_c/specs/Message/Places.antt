@@ -2,11 +2,11 @@
 use Rattle.std.specs.Prelude.{◌≡◌, ◌⊎◌, ℕ, List, Option, Some, None}
 use Rattle.pb_value.specs.Dynamic.{Dynamic}
 use Rattle.pb_place.specs.At.{Seen}
-use Rattle.pb_c_values.specs.Answers.{Answers}
-use Rattle.pb_c_values.specs.Places.{Bytes, places}
-use Rattle.pb_c_values.specs.declared.miss.Miss.{Miss}
-use Rattle.pb_c_values.specs.declared.miss.Miss.TheVariants.{Absent, BadPlace, Memory}
-use Rattle.pb_c_values.specs.declared.value.PlainValue.{PlainValue}
+use Rattle.pb_c_message.specs.Answers.{Answers}
+use Rattle.pb_c_message.specs.Places.{Bytes, places}
+use Rattle.pb_c_message.specs.declared.miss.Miss.{Miss}
+use Rattle.pb_c_message.specs.declared.miss.Miss.TheVariants.{Absent, BadPlace, Memory}
+use Rattle.pb_c_message.specs.declared.value.PlainValue.{PlainValue}
 
 abbrev pub miss_number : Miss → ℕ
 miss_number Absent = 6

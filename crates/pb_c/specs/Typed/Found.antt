@@ -4,12 +4,12 @@ use Rattle.pb_schema.specs.Scalar.{Scalar}
 use Rattle.pb_decode.specs.declared.error.DecodeError.{DecodeError}
 use Rattle.pb_find.specs.View.{scalar_view}
 use Rattle.pb_find.specs.declared.scalar_ref.ScalarRef.{ScalarRef}
-use Rattle.pb_c_values.specs.Plain.{scalar_bytes, scalar_plain}
-use Rattle.pb_c_values.specs.declared.value.PlainValue.{PlainValue}
-use Rattle.pb_c_reports.specs.Reporting.{Tells, laid_over}
-use Rattle.pb_c_reports.specs.Typed.{ByFault}
-use Rattle.pb_c_reports.specs.declared.reporting.FaultReport.{FaultReport}
-use Rattle.pb_c_reports.specs.declared.reporting.Step.{Step}
+use Rattle.pb_c_message.specs.Plain.{scalar_bytes, scalar_plain}
+use Rattle.pb_c_message.specs.declared.value.PlainValue.{PlainValue}
+use Rattle.pb_c_answers.specs.Reporting.{Tells, laid_over}
+use Rattle.pb_c_answers.specs.Typed.{ByFault}
+use Rattle.pb_c_answers.specs.declared.reporting.FaultReport.{FaultReport}
+use Rattle.pb_c_answers.specs.declared.reporting.Step.{Step}
 
 -- The value is the scalar, and its bytes, if it has some, are laid over the buffer.
 pub record Reports (x : Scalar) (reported : PlainValue) (old new : List ℕ) : Type 0 where

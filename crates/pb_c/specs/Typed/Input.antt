@@ -7,7 +7,7 @@ use Rattle.pb_value.specs.Canon.{canon_bytes}
 use Rattle.pb_value.specs.Derives.{Text}
 use Rattle.pb_canonical.specs.Canonical.{IsCanonical}
 use Rattle.pb_decode.specs.Push.{IsFaultOf}
-use Rattle.pb_c_reports.specs.Typed.{message_of}
+use Rattle.pb_c_message.specs.Holds.{message_of}
 use Rattle.pb_c.specs.Typed.Frames as frames
 use Rattle.pb_c.specs.declared.typed.frames.FrameReport.{FrameReport}
 use Rattle.pb_c.specs.declared.typed.input.TypedInput.{TypedInput}

@@ -3,15 +3,15 @@
 ghost use Rattle.std.specs.Prelude.{◌≡◌, ◌≢◌, ◌≤◌, ◌↔◌, ◌⊎◌, ℕ, None, Some, length, Err, IfOk, IfErr, IfSome, IfNone};
 ghost use Rattle.pb_schema.specs.Types.{Types};
 ghost use Rattle.pb_value.specs.Dynamic.{Dynamic};
-ghost use Rattle.pb_c.specs.Held.{types_held};
+ghost use Rattle.pb_c_handles.specs.Held.{types_held};
 ghost use Rattle.pb_c.specs.Shown.{IsPairAt, IsShown, IsUnshown};
-ghost use Rattle.pb_c_reports.specs.Typed.{HasType, LacksType};
+ghost use Rattle.pb_c_answers.specs.Typed.{HasType, LacksType};
 
 use super::DifferenceReport;
-use crate::handle::{PoolHandle, put, take};
-use crate::message::handle::{MessageHandle, hold};
-use crate::message::own::{OwnMessage, boxed};
-use pb_c_reports::{ABSENT, DONE, EMPTY, MEMORY, NO_TYPE, type_numbered};
+use pb_c_answers::{ABSENT, DONE, EMPTY, MEMORY, NO_TYPE, type_numbered};
+use pb_c_handles::message::own::{OwnMessage, boxed};
+use pb_c_handles::message::{MessageHandle, hold};
+use pb_c_handles::pool::{PoolHandle, put, take};
 use pb_compat::{ComparedTypes, compare, nested_witness};
 use pb_schema::Pool;
 use std::alloc::Global;
@@ -40,9 +40,12 @@ fn witness_of(
     new_type: u32,
     difference: &DifferenceReport,
 ) -> Result<Box<OwnMessage, Global>, u32>
-    ensures shown { IfOk result (λ b. IsShown old.now.value new.now old_type new_type difference.now b.value) }
-    ensures absent { result ≡ Err ABSENT → IsUnshown old.now.value new.now old_type new_type difference.now }
-    ensures no_type { result ≡ Err NO_TYPE ↔ (length old.now.value.messages ≤ old_type) ⊎ (length new.now.messages ≤ new_type) }
+    ensures shown { IfOk result
+        (λ b. IsShown old.now.value new.now old_type new_type difference.now b.value) }
+    ensures absent { result ≡ Err ABSENT
+        → IsUnshown old.now.value new.now old_type new_type difference.now }
+    ensures no_type { result ≡ Err NO_TYPE ↔ (length old.now.value.messages ≤ old_type)
+        ⊎ (length new.now.messages ≤ new_type) }
     ensures answers { IfErr result (λ a. (a ≡ NO_TYPE) ⊎ (a ≡ ABSENT) ⊎ (a ≡ MEMORY)) }
 {
     let Some(from) = type_numbered(old, old_type) else {
@@ -84,17 +87,25 @@ pub extern "C" fn mb_compat_witness(
     difference: &DifferenceReport,
     message: &mut MessageHandle,
 ) -> u32
-    ensures shown { result ≡ DONE → (ts us : Types) × HasType (types_held old_pool.old) old_type ts × HasType (types_held new_pool.old) new_type us
-        × (w : Dynamic) × (message.new.seal.message ≡ Some w) × IsShown ts us old_type new_type difference.now w }
-    ensures absent { result ≡ ABSENT → (ts us : Types) × HasType (types_held old_pool.old) old_type ts × HasType (types_held new_pool.old) new_type us
+    ensures shown { result ≡ DONE → (ts us : Types) × HasType (types_held old_pool.old) old_type ts
+        × HasType (types_held new_pool.old) new_type us × (w : Dynamic)
+        × (message.new.seal.message ≡ Some w) × IsShown ts us old_type new_type difference.now w }
+    ensures absent { result ≡ ABSENT → (ts us : Types)
+        × HasType (types_held old_pool.old) old_type ts
+        × HasType (types_held new_pool.old) new_type us
         × IsUnshown ts us old_type new_type difference.now }
     ensures kept { result ≢ DONE → message.new ≡ message.old }
-    ensures empty { result ≡ EMPTY ↔ (types_held old_pool.old ≡ None) ⊎ (types_held new_pool.old ≡ None) }
-    ensures no_type { result ≡ NO_TYPE → LacksType (types_held old_pool.old) old_type ⊎ LacksType (types_held new_pool.old) new_type }
-    ensures typed { (ts us : Types) → HasType (types_held old_pool.old) old_type ts → HasType (types_held new_pool.old) new_type us
+    ensures empty { result ≡ EMPTY ↔ (types_held old_pool.old ≡ None)
+        ⊎ (types_held new_pool.old ≡ None) }
+    ensures no_type { result ≡ NO_TYPE → LacksType (types_held old_pool.old) old_type
+        ⊎ LacksType (types_held new_pool.old) new_type }
+    ensures typed { (ts us : Types) → HasType (types_held old_pool.old) old_type ts
+        → HasType (types_held new_pool.old) new_type us
         → (result ≡ DONE) ⊎ (result ≡ ABSENT) ⊎ (result ≡ MEMORY) }
-    ensures answers { (result ≡ DONE) ⊎ (result ≡ EMPTY) ⊎ (result ≡ NO_TYPE) ⊎ (result ≡ ABSENT) ⊎ (result ≡ MEMORY) }
-    ensures same { (old_pool.new.seal.pool ≡ old_pool.old.seal.pool) × (new_pool.new.seal.pool ≡ new_pool.old.seal.pool) }
+    ensures answers { (result ≡ DONE) ⊎ (result ≡ EMPTY) ⊎ (result ≡ NO_TYPE) ⊎ (result ≡ ABSENT)
+        ⊎ (result ≡ MEMORY) }
+    ensures same { (old_pool.new.seal.pool ≡ old_pool.old.seal.pool)
+        × (new_pool.new.seal.pool ≡ new_pool.old.seal.pool) }
 {
     let Some(from) = take(alloc, old_pool) else {
         return EMPTY;

@@ -2,11 +2,12 @@
 
 ghost use Rattle.std.specs.Prelude.{◌≡◌, ◌≢◌, ◌+◌, ◌*◌, ◌≤◌, ◌↔◌, ◌⊎◌, None, Some};
 ghost use Rattle.pb_decode.specs.Decoder.{Decoder};
-ghost use Rattle.pb_c_reports.specs.Reporting.{Tells};
-ghost use Rattle.pb_c_decoding.specs.Answers.{IsFed};
+ghost use Rattle.pb_c_answers.specs.Reporting.{Tells};
+ghost use Rattle.pb_c_answers.specs.Decoder.{IsFed};
 
-use pb_c_decoding::{DecoderHandle, feed, put, take};
-use pb_c_reports::{DONE, EMPTY, FAULT, FINISHED, FaultReport, MEMORY, Step};
+use pb_c_answers::decoder::feed;
+use pb_c_answers::{DONE, EMPTY, FAULT, FINISHED, FaultReport, MEMORY, Step};
+use pb_c_handles::decoder::{DecoderHandle, put, take};
 use std::alloc::Global;
 
 /// Gives the decoder the next piece of the encoding. Bytes that no encoding begins with are refused in the first piece that settles it.
@@ -21,11 +22,14 @@ pub extern "C" fn mb_decoder_feed(
     fault: &mut FaultReport,
     path: &mut [Step],
 ) -> u32
-    ensures fed { IsFed decoder.old.seal.decoder decoder.new.seal.decoder piece.now result (λ f. Tells f fault.new path.old path.new) }
-    ensures steps { (d : Decoder) → decoder.old.seal.decoder ≡ Some d → result ≡ FAULT → fault.new.steps ≤ 2 * d.limits.depth + 1 }
+    ensures fed { IsFed decoder.old.seal.decoder decoder.new.seal.decoder piece.now result
+        (λ f. Tells f fault.new path.old path.new) }
+    ensures steps { (d : Decoder) → decoder.old.seal.decoder ≡ Some d → result ≡ FAULT
+        → fault.new.steps ≤ 2 * d.limits.depth + 1 }
     ensures untold { result ≢ FAULT → (fault.new ≡ fault.old) × (path.new ≡ path.old) }
     ensures empty { result ≡ EMPTY ↔ (decoder.old.seal.decoder ≡ None) }
-    ensures answers { (result ≡ DONE) ⊎ (result ≡ EMPTY) ⊎ (result ≡ FAULT) ⊎ (result ≡ MEMORY) ⊎ (result ≡ FINISHED) }
+    ensures answers { (result ≡ DONE) ⊎ (result ≡ EMPTY) ⊎ (result ≡ FAULT) ⊎ (result ≡ MEMORY)
+        ⊎ (result ≡ FINISHED) }
 {
     let Some(mut own) = take(alloc, decoder) else {
         return EMPTY;

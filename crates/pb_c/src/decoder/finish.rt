@@ -3,13 +3,15 @@
 ghost use Rattle.std.specs.Prelude.{◌≡◌, ◌≢◌, ◌+◌, ◌*◌, ◌≤◌, ◌↔◌, ◌⊎◌, None, Some, Err, IfOk, IfErr};
 ghost use Rattle.pb_decode.specs.Decoder.{Decoder};
 ghost use Rattle.pb_decode.specs.Parts.{IsOfPool, decoder_of};
-ghost use Rattle.pb_c_reports.specs.Reporting.{Tells};
-ghost use Rattle.pb_c_decoding.specs.Answers.{IsEnded};
+ghost use Rattle.pb_c_answers.specs.Reporting.{Tells};
+ghost use Rattle.pb_c_answers.specs.Decoder.{IsEnded};
 
-use crate::message::handle::{MessageHandle, hold};
-use crate::message::own::{OwnMessage, boxed};
-use pb_c_decoding::{DecoderHandle, OwnDecoder, end, put, take};
-use pb_c_reports::{DONE, EMPTY, FAULT, FINISHED, FaultReport, MEMORY, Step};
+use pb_c_answers::decoder::end;
+use pb_c_answers::{DONE, EMPTY, FAULT, FINISHED, FaultReport, MEMORY, Step};
+use pb_c_handles::decoder::own::OwnDecoder;
+use pb_c_handles::decoder::{DecoderHandle, put, take};
+use pb_c_handles::message::own::{OwnMessage, boxed};
+use pb_c_handles::message::{MessageHandle, hold};
 use pb_decode::DecoderParts;
 use pb_schema::Pool;
 use std::alloc::Global;
@@ -25,10 +27,14 @@ fn message_of_parts(
     path: &mut [Step],
 ) -> Result<Box<OwnMessage, Global>, u32>
     requires { IsOfPool pool.now.value parts.old }
-    ensures given { IfOk result (λ b. IsEnded (Some (decoder_of pool.now.value parts.old)) (Some (decoder_of pool.now.value parts.new)) DONE
-        (λ m. b.value ≡ m) (λ f. Tells f fault.new path.old path.new)) }
-    ensures refused { IfErr result (λ a. IsEnded (Some (decoder_of pool.now.value parts.old)) (Some (decoder_of pool.now.value parts.new)) a
-        (λ m. ⊥) (λ f. Tells f fault.new path.old path.new)) }
+    ensures given { IfOk result
+        (λ b. IsEnded (Some (decoder_of pool.now.value parts.old))
+        (Some (decoder_of pool.now.value parts.new)) DONE (λ m. b.value ≡ m)
+        (λ f. Tells f fault.new path.old path.new)) }
+    ensures refused { IfErr result
+        (λ a. IsEnded (Some (decoder_of pool.now.value parts.old))
+        (Some (decoder_of pool.now.value parts.new)) a (λ m. ⊥)
+        (λ f. Tells f fault.new path.old path.new)) }
     ensures of_pool { IsOfPool pool.now.value parts.new }
     ensures steps { result ≡ Err FAULT → fault.new.steps ≤ 2 * parts.old.limits.depth + 1 }
     ensures untold { result ≢ Err FAULT → (fault.new ≡ fault.old) × (path.new ≡ path.old) }
@@ -50,8 +56,12 @@ fn finish_own(
     fault: &mut FaultReport,
     path: &mut [Step],
 ) -> Result<Box<OwnMessage, Global>, u32>
-    ensures given { IfOk result (λ b. IsEnded (Some own.old) (Some own.new) DONE (λ m. b.value ≡ m) (λ f. Tells f fault.new path.old path.new)) }
-    ensures refused { IfErr result (λ a. IsEnded (Some own.old) (Some own.new) a (λ m. ⊥) (λ f. Tells f fault.new path.old path.new)) }
+    ensures given { IfOk result
+        (λ b. IsEnded (Some own.old) (Some own.new) DONE (λ m. b.value ≡ m)
+        (λ f. Tells f fault.new path.old path.new)) }
+    ensures refused { IfErr result
+        (λ a. IsEnded (Some own.old) (Some own.new) a (λ m. ⊥)
+        (λ f. Tells f fault.new path.old path.new)) }
     ensures steps { result ≡ Err FAULT → fault.new.steps ≤ 2 * own.old.limits.depth + 1 }
     ensures untold { result ≢ Err FAULT → (fault.new ≡ fault.old) × (path.new ≡ path.old) }
     ensures answers { IfErr result (λ a. (a ≡ FAULT) ⊎ (a ≡ MEMORY) ⊎ (a ≡ FINISHED)) }
@@ -76,10 +86,12 @@ pub extern "C" fn mb_decoder_finish(
     ensures ended { IsEnded decoder.old.seal.decoder decoder.new.seal.decoder result
         (λ m. message.new.seal.message ≡ Some m) (λ f. Tells f fault.new path.old path.new) }
     ensures kept { result ≢ DONE → message.new ≡ message.old }
-    ensures steps { (d : Decoder) → decoder.old.seal.decoder ≡ Some d → result ≡ FAULT → fault.new.steps ≤ 2 * d.limits.depth + 1 }
+    ensures steps { (d : Decoder) → decoder.old.seal.decoder ≡ Some d → result ≡ FAULT
+        → fault.new.steps ≤ 2 * d.limits.depth + 1 }
     ensures untold { result ≢ FAULT → (fault.new ≡ fault.old) × (path.new ≡ path.old) }
     ensures empty { result ≡ EMPTY ↔ (decoder.old.seal.decoder ≡ None) }
-    ensures answers { (result ≡ DONE) ⊎ (result ≡ EMPTY) ⊎ (result ≡ FAULT) ⊎ (result ≡ MEMORY) ⊎ (result ≡ FINISHED) }
+    ensures answers { (result ≡ DONE) ⊎ (result ≡ EMPTY) ⊎ (result ≡ FAULT) ⊎ (result ≡ MEMORY)
+        ⊎ (result ≡ FINISHED) }
 {
     let Some(mut own) = take(alloc, decoder) else {
         return EMPTY;

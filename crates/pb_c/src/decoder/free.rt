@@ -2,7 +2,7 @@
 
 ghost use Rattle.std.specs.Prelude.{◌≡◌};
 
-use pb_c_decoding::{DecoderHandle, take};
+use pb_c_handles::decoder::{DecoderHandle, take};
 use std::alloc::Global;
 
 /// Frees the decoder that a handle holds, which holds nothing then. Its pool is freed with the last handle that holds it.

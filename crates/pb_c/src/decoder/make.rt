@@ -3,14 +3,15 @@
 ghost use Rattle.std.specs.Prelude.{◌≡◌, ◌≢◌, ◌↔◌, ◌⊎◌, None, Some};
 ghost use Rattle.pb_schema.specs.Types.{Types};
 ghost use Rattle.pb_decode.specs.Decoder.{Decoder};
-ghost use Rattle.pb_c_reports.specs.Reporting.{AreLimits, bounds};
-ghost use Rattle.pb_c_reports.specs.Typed.{HasType, LacksType};
-ghost use Rattle.pb_c_decoding.specs.Answers.{IsBegun};
-ghost use Rattle.pb_c.specs.Held.{types_held};
+ghost use Rattle.pb_c_answers.specs.Reporting.{AreLimits, bounds};
+ghost use Rattle.pb_c_answers.specs.Typed.{HasType, LacksType};
+ghost use Rattle.pb_c_answers.specs.Decoder.{IsBegun};
+ghost use Rattle.pb_c_handles.specs.Held.{types_held};
 
-use crate::handle::{PoolHandle, put, take};
-use pb_c_decoding::{DecoderHandle, begin, hold};
-use pb_c_reports::{BAD_LIMITS, DONE, EMPTY, MEMORY, NO_TYPE};
+use pb_c_answers::decoder::begin;
+use pb_c_answers::{BAD_LIMITS, DONE, EMPTY, MEMORY, NO_TYPE};
+use pb_c_handles::decoder::{DecoderHandle, hold};
+use pb_c_handles::pool::{PoolHandle, put, take};
 use pb_wire::Limits;
 use std::alloc::Global;
 
@@ -29,12 +30,15 @@ pub extern "C" fn mb_decoder_new(
     decoder: &mut DecoderHandle,
 ) -> u32
     ensures made { result ≡ DONE → (ts : Types) × HasType (types_held pool.old) message_type ts
-        × ((d : Decoder) × IsBegun ts message_type (bounds max_bytes max_depth) d × (decoder.new.seal.decoder ≡ Some d)) }
+        × ((d : Decoder) × IsBegun ts message_type (bounds max_bytes max_depth) d
+        × (decoder.new.seal.decoder ≡ Some d)) }
     ensures kept { result ≢ DONE → decoder.new ≡ decoder.old }
     ensures limits { result ≡ BAD_LIMITS ↔ ¬ AreLimits max_bytes max_depth }
     ensures empty { result ≡ EMPTY ↔ AreLimits max_bytes max_depth × (types_held pool.old ≡ None) }
-    ensures no_type { result ≡ NO_TYPE ↔ AreLimits max_bytes max_depth × LacksType (types_held pool.old) message_type }
-    ensures answers { (result ≡ DONE) ⊎ (result ≡ BAD_LIMITS) ⊎ (result ≡ EMPTY) ⊎ (result ≡ NO_TYPE) ⊎ (result ≡ MEMORY) }
+    ensures no_type { result ≡ NO_TYPE ↔ AreLimits max_bytes max_depth
+        × LacksType (types_held pool.old) message_type }
+    ensures answers { (result ≡ DONE) ⊎ (result ≡ BAD_LIMITS) ⊎ (result ≡ EMPTY)
+        ⊎ (result ≡ NO_TYPE) ⊎ (result ≡ MEMORY) }
     ensures same { pool.new.seal.pool ≡ pool.old.seal.pool }
 {
     let Some(limits) = Limits::new(max_bytes, max_depth) else {

@@ -1,10 +1,11 @@
 //! How many bytes a decoder that a handle holds has of what is open.
 
 ghost use Rattle.std.specs.Prelude.{◌≡◌, ◌≢◌, ◌↔◌, ◌⊎◌, None};
-ghost use Rattle.pb_c_decoding.specs.Answers.{IsCounted};
+ghost use Rattle.pb_c_answers.specs.Decoder.{IsCounted};
 
-use pb_c_decoding::{DecoderHandle, count, put, take};
-use pb_c_reports::{DONE, EMPTY};
+use pb_c_answers::decoder::count;
+use pb_c_answers::{DONE, EMPTY};
+use pb_c_handles::decoder::{DecoderHandle, put, take};
 use std::alloc::Global;
 
 /// Reports how many bytes the decoder holds: those received of the open token, or of the payload of a string, of bytes or of an unknown record. 0 where

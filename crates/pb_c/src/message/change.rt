@@ -1,17 +1,15 @@
 //! Changes of a message that a handle holds, at a place.
 
 ghost use Rattle.std.specs.Prelude.{◌≡◌, ◌↔◌, ◌⊎◌, None, Some};
-ghost use Rattle.pb_c_changes.specs.Ends.{ends};
-ghost use Rattle.pb_c_changes.specs.declared.changing.PlainChange.TheVariants as change;
-ghost use Rattle.pb_c_changes.specs.declared.changing.Put.TheVariants.{Set, Push, Insert};
+ghost use Rattle.pb_c_message.specs.Ends.{ends};
+ghost use Rattle.pb_c_message.specs.declared.changing.PlainChange.TheVariants as change;
+ghost use Rattle.pb_c_message.specs.declared.changing.Put.TheVariants.{Set, Push, Insert};
 ghost use Rattle.pb_c.specs.Message.Changes.{IsChangeAnswer, IsChanged, cause_answer, unmade_answer};
 
-use super::handle::{MessageHandle, put, take};
-use super::own::OwnMessage;
-use pb_c_changes::{PlainChange, Put, Unchanged, change};
-use pb_c_held::{Held, take_body};
-use pb_c_reports::{ABSENT, BAD_PLACE, BAD_VALUE, DONE, EMPTY, MEMORY};
-use pb_c_values::PlainValue;
+use pb_c_answers::{ABSENT, BAD_PLACE, BAD_VALUE, DONE, EMPTY, MEMORY};
+use pb_c_handles::message::own::OwnMessage;
+use pb_c_handles::message::{MessageHandle, put, take};
+use pb_c_message::{Held, PlainChange, PlainValue, Put, Unchanged, change, take_body};
 use pb_place::ChangeError;
 use pb_value::bodies::from_well_formed;
 use pb_value::{DynamicMessage, ValueError};
@@ -47,9 +45,11 @@ fn change_message(
     strings: &[&[u8]],
     plain: PlainChange,
 ) -> u32
-    ensures changed { IsChanged (ends strings.now place.now plain) (Some message.old) (Some message.new) result }
+    ensures changed { IsChanged (ends strings.now place.now plain) (Some message.old)
+        (Some message.new) result }
     ensures answers { IsChangeAnswer result }
-    ensures same_type { (message.new.pool ≡ message.old.pool) × (message.new.kind ≡ message.old.kind) }
+    ensures same_type { (message.new.pool ≡ message.old.pool)
+        × (message.new.kind ≡ message.old.kind) }
 {
     match change(alloc, message, place, strings, plain) {
         Ok(()) => DONE,
@@ -65,7 +65,8 @@ fn change_own(
     strings: &[&[u8]],
     plain: PlainChange,
 ) -> u32
-    ensures changed { IsChanged (ends strings.now place.now plain) (Some own.old) (Some own.new) result }
+    ensures changed { IsChanged (ends strings.now place.now plain) (Some own.old)
+        (Some own.new) result }
     ensures answers { IsChangeAnswer result }
 {
     let Some(body) = take_body(alloc, &own.pool, own.message_type, &mut own.held) else {
@@ -86,7 +87,9 @@ fn change_held(
     strings: &[&[u8]],
     plain: PlainChange,
 ) -> u32
-    ensures changed { IsChanged (ends strings.now place.now plain) message.old.seal.message message.new.seal.message result }
+    ensures changed { IsChanged
+        (ends strings.now place.now plain) message.old.seal.message message.new.seal.message
+        result }
     ensures empty { result ≡ EMPTY ↔ (message.old.seal.message ≡ None) }
     ensures answers { (result ≡ EMPTY) ⊎ IsChangeAnswer result }
 {
@@ -112,7 +115,9 @@ pub extern "C" fn mb_message_set(
     strings: &[&[u8]],
     value: &PlainValue,
 ) -> u32
-    ensures changed { IsChanged (ends strings.now place.now (change.Put Set value.now)) message.old.seal.message message.new.seal.message result }
+    ensures changed { IsChanged
+        (ends strings.now place.now (change.Put Set value.now)) message.old.seal.message
+        message.new.seal.message result }
     ensures empty { result ≡ EMPTY ↔ (message.old.seal.message ≡ None) }
     ensures answers { (result ≡ EMPTY) ⊎ IsChangeAnswer result }
 {
@@ -135,7 +140,9 @@ pub extern "C" fn mb_message_clear(
     place: &[PlainValue],
     strings: &[&[u8]],
 ) -> u32
-    ensures changed { IsChanged (ends strings.now place.now change.Clear) message.old.seal.message message.new.seal.message result }
+    ensures changed { IsChanged
+        (ends strings.now place.now change.Clear) message.old.seal.message message.new.seal.message
+        result }
     ensures empty { result ≡ EMPTY ↔ (message.old.seal.message ≡ None) }
     ensures answers { (result ≡ EMPTY) ⊎ IsChangeAnswer result }
 {
@@ -153,7 +160,9 @@ pub extern "C" fn mb_message_push(
     strings: &[&[u8]],
     value: &PlainValue,
 ) -> u32
-    ensures changed { IsChanged (ends strings.now place.now (change.Put Push value.now)) message.old.seal.message message.new.seal.message result }
+    ensures changed { IsChanged
+        (ends strings.now place.now (change.Put Push value.now)) message.old.seal.message
+        message.new.seal.message result }
     ensures empty { result ≡ EMPTY ↔ (message.old.seal.message ≡ None) }
     ensures answers { (result ≡ EMPTY) ⊎ IsChangeAnswer result }
 {
@@ -177,7 +186,9 @@ pub extern "C" fn mb_message_insert(
     strings: &[&[u8]],
     value: &PlainValue,
 ) -> u32
-    ensures changed { IsChanged (ends strings.now place.now (change.Put Insert value.now)) message.old.seal.message message.new.seal.message result }
+    ensures changed { IsChanged
+        (ends strings.now place.now (change.Put Insert value.now)) message.old.seal.message
+        message.new.seal.message result }
     ensures empty { result ≡ EMPTY ↔ (message.old.seal.message ≡ None) }
     ensures answers { (result ≡ EMPTY) ⊎ IsChangeAnswer result }
 {
@@ -200,7 +211,9 @@ pub extern "C" fn mb_message_remove(
     place: &[PlainValue],
     strings: &[&[u8]],
 ) -> u32
-    ensures changed { IsChanged (ends strings.now place.now change.Remove) message.old.seal.message message.new.seal.message result }
+    ensures changed { IsChanged
+        (ends strings.now place.now change.Remove) message.old.seal.message message.new.seal.message
+        result }
     ensures empty { result ≡ EMPTY ↔ (message.old.seal.message ≡ None) }
     ensures answers { (result ≡ EMPTY) ⊎ IsChangeAnswer result }
 {
@@ -217,7 +230,9 @@ pub extern "C" fn mb_message_drop_unknown(
     place: &[PlainValue],
     strings: &[&[u8]],
 ) -> u32
-    ensures changed { IsChanged (ends strings.now place.now change.DropUnknown) message.old.seal.message message.new.seal.message result }
+    ensures changed { IsChanged
+        (ends strings.now place.now change.DropUnknown) message.old.seal.message
+        message.new.seal.message result }
     ensures empty { result ≡ EMPTY ↔ (message.old.seal.message ≡ None) }
     ensures answers { (result ≡ EMPTY) ⊎ IsChangeAnswer result }
 {

@@ -6,12 +6,12 @@ ghost use Rattle.pb_value.specs.Dynamic.{Dynamic};
 ghost use Rattle.pb_value.specs.Value.{value};
 ghost use Rattle.pb_canonical.specs.Canonical.{IsCanonical};
 ghost use Rattle.pb_encode.specs.Encoding.{bytes_of};
-ghost use Rattle.pb_c_reports.specs.Typed.{message_of};
+ghost use Rattle.pb_c_message.specs.Holds.{message_of};
 
-use super::handle::{MessageHandle, hold, put, take};
-use super::own::{OwnMessage, boxed, bytes_boxed};
-use pb_c_held::{Held, canonical_bytes, take_body};
-use pb_c_reports::{DONE, EMPTY, MEMORY, TOO_LARGE, canonical_of};
+use pb_c_answers::{DONE, EMPTY, MEMORY, TOO_LARGE, canonical_of};
+use pb_c_handles::message::own::{OwnMessage, boxed, bytes_boxed};
+use pb_c_handles::message::{MessageHandle, hold, put, take};
+use pb_c_message::{Held, canonical_bytes, take_body};
 use pb_decode::decode;
 use pb_schema::{MessageId, Pool};
 use pb_value::DynamicMessage;
@@ -80,7 +80,8 @@ pub(super) fn bytes_copied(
     requires within { message_type.0 < length pool.now.value.messages }
     requires canonical { IsCanonical pool.now.value message_type.0 bytes.now }
     ensures value { IfOk result (λ b. b.value
-        ≡ message_of pool.now.value message_type.0 (value pool.now.value message_type.0 (records_spelled bytes.now))) }
+        ≡ message_of pool.now.value message_type.0
+        (value pool.now.value message_type.0 (records_spelled bytes.now))) }
     ensures memory { IfErr result (λ a. a ≡ MEMORY) }
 {
     match bytes_boxed(alloc, pool, message_type, bytes) {
@@ -121,9 +122,11 @@ pub extern "C" fn mb_message_copy(
 ) -> u32
     ensures copied { result ≡ DONE → other.new.seal.message ≡ message.old.seal.message }
     ensures kept { result ≢ DONE → other.new ≡ other.old }
-    ensures too_large { result ≡ TOO_LARGE → (m : Dynamic) × (message.old.seal.message ≡ Some m) × (2 ^ 31 ≤ length (bytes_of m)) }
+    ensures too_large { result ≡ TOO_LARGE → (m : Dynamic) × (message.old.seal.message ≡ Some m)
+        × (2 ^ 31 ≤ length (bytes_of m)) }
     ensures empty { result ≡ EMPTY ↔ (message.old.seal.message ≡ None) }
-    ensures answers { (result ≡ DONE) ⊎ (result ≡ EMPTY) ⊎ (result ≡ TOO_LARGE) ⊎ (result ≡ MEMORY) }
+    ensures answers { (result ≡ DONE) ⊎ (result ≡ EMPTY) ⊎ (result ≡ TOO_LARGE)
+        ⊎ (result ≡ MEMORY) }
     ensures same { message.new.seal.message ≡ message.old.seal.message }
 {
     let Some(mut own) = take(alloc, message) else {

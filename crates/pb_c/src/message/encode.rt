@@ -4,13 +4,13 @@ ghost use Rattle.std.specs.Prelude.{◌≡◌, ◌≢◌, ◌<◌, ◌≤◌, �
 ghost use Rattle.pb_value.specs.Dynamic.{Dynamic};
 ghost use Rattle.pb_encode.specs.Encoding.{bytes_of};
 ghost use Rattle.pb_encode.specs.Sizes.{capped};
-ghost use Rattle.pb_c_reports.specs.Reporting.{IsLaid};
+ghost use Rattle.pb_c_answers.specs.Reporting.{IsLaid};
 
-use super::handle::{MessageHandle, put, take};
-use super::own::OwnMessage;
 use crate::typed::canon::write_canonical;
-use pb_c_held::{Held, canonical_bytes, take_body};
-use pb_c_reports::{DONE, EMPTY, MEMORY, TOO_LARGE, write_out};
+use pb_c_answers::{DONE, EMPTY, MEMORY, TOO_LARGE, write_out};
+use pb_c_handles::message::own::OwnMessage;
+use pb_c_handles::message::{MessageHandle, put, take};
+use pb_c_message::{Held, canonical_bytes, take_body};
 use pb_encode::encoded_len;
 use pb_value::bodies::{empty_body, from_well_formed};
 use pb_wire::MAX_BYTES;
@@ -19,7 +19,8 @@ use std::mem;
 
 /// Writes the canonical bytes of the message.
 fn encode_own(alloc: Global, own: &mut OwnMessage, out: &mut [u8], size: &mut usize) -> u32
-    ensures written { result ≡ DONE → (length (bytes_of own.old) < 2 ^ 31) × IsLaid (bytes_of own.old) out.old out.new size.new }
+    ensures written { result ≡ DONE → (length (bytes_of own.old) < 2 ^ 31)
+        × IsLaid (bytes_of own.old) out.old out.new size.new }
     ensures too_large { result ≡ TOO_LARGE → 2 ^ 31 ≤ length (bytes_of own.old) }
     ensures unwritten { result ≢ DONE → (out.new ≡ out.old) × (size.new ≡ size.old) }
     ensures answers { (result ≡ DONE) ⊎ (result ≡ TOO_LARGE) ⊎ (result ≡ MEMORY) }
@@ -63,7 +64,8 @@ fn count_own(alloc: Global, own: &mut OwnMessage) -> u128
 
 /// Reports how many canonical bytes a message that is owned has.
 fn report_count(alloc: Global, own: &mut OwnMessage, size: &mut usize) -> u32
-    ensures counted { result ≡ DONE → (length (bytes_of own.old) < 2 ^ 31) × (size.new ≡ length (bytes_of own.old)) }
+    ensures counted { result ≡ DONE → (length (bytes_of own.old) < 2 ^ 31)
+        × (size.new ≡ length (bytes_of own.old)) }
     ensures too_large { result ≡ TOO_LARGE → 2 ^ 31 ≤ length (bytes_of own.old) }
     ensures uncounted { result ≢ DONE → size.new ≡ size.old }
     ensures answers { (result ≡ DONE) ⊎ (result ≡ TOO_LARGE) }
@@ -88,12 +90,14 @@ pub extern "C" fn mb_message_encode(
     out: &mut [u8],
     size: &mut usize,
 ) -> u32
-    ensures written { result ≡ DONE → (m : Dynamic) × (message.old.seal.message ≡ Some m) × (length (bytes_of m) < 2 ^ 31)
-        × IsLaid (bytes_of m) out.old out.new size.new }
-    ensures too_large { result ≡ TOO_LARGE → (m : Dynamic) × (message.old.seal.message ≡ Some m) × (2 ^ 31 ≤ length (bytes_of m)) }
+    ensures written { result ≡ DONE → (m : Dynamic) × (message.old.seal.message ≡ Some m)
+        × (length (bytes_of m) < 2 ^ 31) × IsLaid (bytes_of m) out.old out.new size.new }
+    ensures too_large { result ≡ TOO_LARGE → (m : Dynamic) × (message.old.seal.message ≡ Some m)
+        × (2 ^ 31 ≤ length (bytes_of m)) }
     ensures unwritten { result ≢ DONE → (out.new ≡ out.old) × (size.new ≡ size.old) }
     ensures empty { result ≡ EMPTY ↔ (message.old.seal.message ≡ None) }
-    ensures answers { (result ≡ DONE) ⊎ (result ≡ EMPTY) ⊎ (result ≡ TOO_LARGE) ⊎ (result ≡ MEMORY) }
+    ensures answers { (result ≡ DONE) ⊎ (result ≡ EMPTY) ⊎ (result ≡ TOO_LARGE)
+        ⊎ (result ≡ MEMORY) }
     ensures same { message.new.seal.message ≡ message.old.seal.message }
 {
     let Some(mut own) = take(alloc, message) else {
@@ -114,9 +118,10 @@ pub extern "C" fn mb_message_encoded_length(
     message: &mut MessageHandle,
     size: &mut usize,
 ) -> u32
-    ensures counted { result ≡ DONE → (m : Dynamic) × (message.old.seal.message ≡ Some m) × (length (bytes_of m) < 2 ^ 31)
-        × (size.new ≡ length (bytes_of m)) }
-    ensures too_large { result ≡ TOO_LARGE → (m : Dynamic) × (message.old.seal.message ≡ Some m) × (2 ^ 31 ≤ length (bytes_of m)) }
+    ensures counted { result ≡ DONE → (m : Dynamic) × (message.old.seal.message ≡ Some m)
+        × (length (bytes_of m) < 2 ^ 31) × (size.new ≡ length (bytes_of m)) }
+    ensures too_large { result ≡ TOO_LARGE → (m : Dynamic) × (message.old.seal.message ≡ Some m)
+        × (2 ^ 31 ≤ length (bytes_of m)) }
     ensures uncounted { result ≢ DONE → size.new ≡ size.old }
     ensures empty { result ≡ EMPTY ↔ (message.old.seal.message ≡ None) }
     ensures answers { (result ≡ DONE) ⊎ (result ≡ EMPTY) ⊎ (result ≡ TOO_LARGE) }

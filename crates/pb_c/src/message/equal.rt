@@ -3,13 +3,13 @@
 ghost use Rattle.std.specs.Prelude.{◌≡◌, ◌≢◌, ◌<◌, ◌≤◌, ◌^◌, ◌↔◌, ◌⊎◌, true, None, length, Err, IfOk, IfErr};
 ghost use Rattle.std.specs.Bool.{Decides};
 ghost use Rattle.pb_encode.specs.Encoding.{bytes_of};
-ghost use Rattle.pb_c_values.specs.Plain.{bit};
+ghost use Rattle.pb_c_message.specs.Plain.{bit};
 ghost use Rattle.pb_c.specs.Message.Pairs.{IsTooLargeIn, Marks};
 
-use super::handle::{MessageHandle, put, take};
-use super::own::OwnMessage;
-use pb_c_held::{Held, take_body};
-use pb_c_reports::{DONE, EMPTY, MEMORY, TOO_LARGE, canonical_of};
+use pb_c_answers::{DONE, EMPTY, MEMORY, TOO_LARGE, canonical_of};
+use pb_c_handles::message::own::OwnMessage;
+use pb_c_handles::message::{MessageHandle, put, take};
+use pb_c_message::{Held, take_body};
 use pb_encode::encoded_len;
 use pb_value::DynamicMessage;
 use pb_value::bodies::from_well_formed;
@@ -17,7 +17,8 @@ use std::alloc::Global;
 
 /// Whether two messages are of one type of equal pools.
 fn are_alike(message: &DynamicMessage<'_>, other: &DynamicMessage<'_>) -> bool
-    ensures { Decides result ((message.now.kind ≡ other.now.kind) × (message.now.pool ≡ other.now.pool)) }
+    ensures { Decides result ((message.now.kind ≡ other.now.kind)
+        × (message.now.pool ≡ other.now.pool)) }
 {
     if message.message_type().0 != other.message_type().0 {
         return false;
@@ -41,7 +42,8 @@ fn are_bytes_of(bytes: &[u8], message: &DynamicMessage<'_>) -> Result<bool, u32>
 fn have_same_bytes(message: &DynamicMessage<'_>, other: &DynamicMessage<'_>) -> Result<bool, u32>
     ensures decided { IfOk result (λ e. Decides e (bytes_of message.now ≡ bytes_of other.now)) }
     ensures small { IfOk result (λ e. e ≡ true → length (bytes_of message.now) < 2 ^ 31) }
-    ensures too_large { result ≡ Err TOO_LARGE → (2 ^ 31 ≤ length (bytes_of message.now)) ⊎ (2 ^ 31 ≤ length (bytes_of other.now)) }
+    ensures too_large { result ≡ Err TOO_LARGE
+        → (2 ^ 31 ≤ length (bytes_of message.now)) ⊎ (2 ^ 31 ≤ length (bytes_of other.now)) }
     ensures answers { IfErr result (λ a. (a ≡ TOO_LARGE) ⊎ (a ≡ MEMORY)) }
 {
     if encoded_len(message) != encoded_len(other) {
@@ -56,7 +58,8 @@ fn have_same_bytes(message: &DynamicMessage<'_>, other: &DynamicMessage<'_>) -> 
 /// Whether two messages are equal: of one type of equal pools, with the same contents.
 fn are_equal(message: &DynamicMessage<'_>, other: &DynamicMessage<'_>) -> Result<bool, u32>
     ensures decided { IfOk result (λ e. Decides e (message.now ≡ other.now)) }
-    ensures too_large { result ≡ Err TOO_LARGE → (2 ^ 31 ≤ length (bytes_of message.now)) ⊎ (2 ^ 31 ≤ length (bytes_of other.now)) }
+    ensures too_large { result ≡ Err TOO_LARGE
+        → (2 ^ 31 ≤ length (bytes_of message.now)) ⊎ (2 ^ 31 ≤ length (bytes_of other.now)) }
     ensures answers { IfErr result (λ a. (a ≡ TOO_LARGE) ⊎ (a ≡ MEMORY)) }
 {
     if !are_alike(message, other) {
@@ -79,7 +82,8 @@ fn mark_of(is: bool) -> u32
 fn report_equal(message: &DynamicMessage<'_>, other: &DynamicMessage<'_>, equal: &mut u32) -> u32
     ensures decided { result ≡ DONE → Marks equal.new (message.now ≡ other.now) }
     ensures undecided { result ≢ DONE → equal.new ≡ equal.old }
-    ensures too_large { result ≡ TOO_LARGE → (2 ^ 31 ≤ length (bytes_of message.now)) ⊎ (2 ^ 31 ≤ length (bytes_of other.now)) }
+    ensures too_large { result ≡ TOO_LARGE → (2 ^ 31 ≤ length (bytes_of message.now))
+        ⊎ (2 ^ 31 ≤ length (bytes_of other.now)) }
     ensures answers { (result ≡ DONE) ⊎ (result ≡ TOO_LARGE) ⊎ (result ≡ MEMORY) }
 {
     match are_equal(message, other) {
@@ -100,7 +104,8 @@ fn equal_to(
 ) -> u32
     ensures decided { result ≡ DONE → Marks equal.new (message.now ≡ other.old) }
     ensures undecided { result ≢ DONE → equal.new ≡ equal.old }
-    ensures too_large { result ≡ TOO_LARGE → (2 ^ 31 ≤ length (bytes_of message.now)) ⊎ (2 ^ 31 ≤ length (bytes_of other.old)) }
+    ensures too_large { result ≡ TOO_LARGE → (2 ^ 31 ≤ length (bytes_of message.now))
+        ⊎ (2 ^ 31 ≤ length (bytes_of other.old)) }
     ensures answers { (result ≡ DONE) ⊎ (result ≡ TOO_LARGE) ⊎ (result ≡ MEMORY) }
     ensures same { other.new ≡ other.old }
 {
@@ -117,7 +122,8 @@ fn equal_to(
 fn equal_own(alloc: Global, own: &mut OwnMessage, other: &mut OwnMessage, equal: &mut u32) -> u32
     ensures decided { result ≡ DONE → Marks equal.new (own.old ≡ other.old) }
     ensures undecided { result ≢ DONE → equal.new ≡ equal.old }
-    ensures too_large { result ≡ TOO_LARGE → (2 ^ 31 ≤ length (bytes_of own.old)) ⊎ (2 ^ 31 ≤ length (bytes_of other.old)) }
+    ensures too_large { result ≡ TOO_LARGE → (2 ^ 31 ≤ length (bytes_of own.old))
+        ⊎ (2 ^ 31 ≤ length (bytes_of other.old)) }
     ensures answers { (result ≡ DONE) ⊎ (result ≡ TOO_LARGE) ⊎ (result ≡ MEMORY) }
     ensures same { (own.new ≡ own.old) × (other.new ≡ other.old) }
 {
@@ -142,12 +148,17 @@ pub extern "C" fn mb_message_equal(
     other: &mut MessageHandle,
     equal: &mut u32,
 ) -> u32
-    ensures decided { result ≡ DONE → Marks equal.new (message.old.seal.message ≡ other.old.seal.message) }
+    ensures decided { result ≡ DONE
+        → Marks equal.new (message.old.seal.message ≡ other.old.seal.message) }
     ensures undecided { result ≢ DONE → equal.new ≡ equal.old }
-    ensures too_large { result ≡ TOO_LARGE → IsTooLargeIn message.old.seal.message ⊎ IsTooLargeIn other.old.seal.message }
-    ensures empty { result ≡ EMPTY ↔ (message.old.seal.message ≡ None) ⊎ (other.old.seal.message ≡ None) }
-    ensures answers { (result ≡ DONE) ⊎ (result ≡ EMPTY) ⊎ (result ≡ TOO_LARGE) ⊎ (result ≡ MEMORY) }
-    ensures same { (message.new.seal.message ≡ message.old.seal.message) × (other.new.seal.message ≡ other.old.seal.message) }
+    ensures too_large { result ≡ TOO_LARGE → IsTooLargeIn message.old.seal.message
+        ⊎ IsTooLargeIn other.old.seal.message }
+    ensures empty { result ≡ EMPTY ↔ (message.old.seal.message ≡ None)
+        ⊎ (other.old.seal.message ≡ None) }
+    ensures answers { (result ≡ DONE) ⊎ (result ≡ EMPTY) ⊎ (result ≡ TOO_LARGE)
+        ⊎ (result ≡ MEMORY) }
+    ensures same { (message.new.seal.message ≡ message.old.seal.message)
+        × (other.new.seal.message ≡ other.old.seal.message) }
 {
     let Some(mut own) = take(alloc, message) else {
         return EMPTY;

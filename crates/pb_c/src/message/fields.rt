@@ -2,15 +2,14 @@
 
 ghost use Rattle.std.specs.Prelude.{◌≡◌, ◌≢◌, ◌↔◌, ◌⊎◌, None, Some, length};
 ghost use Rattle.pb_place.specs.Ask.{laid_over};
-ghost use Rattle.pb_c_values.specs.Answers.{numbers_in};
+ghost use Rattle.pb_c_message.specs.Answers.{numbers_in};
 ghost use Rattle.pb_c.specs.Message.Places.{IsAnswered};
 
-use super::handle::{MessageHandle, put, take};
 use super::miss::miss_number;
-use super::own::OwnMessage;
-use pb_c_held::{Held, take_body};
-use pb_c_reports::{ABSENT, BAD_PLACE, DONE, EMPTY, MEMORY};
-use pb_c_values::{PlainValue, fields_at};
+use pb_c_answers::{ABSENT, BAD_PLACE, DONE, EMPTY, MEMORY};
+use pb_c_handles::message::own::OwnMessage;
+use pb_c_handles::message::{MessageHandle, put, take};
+use pb_c_message::{Held, PlainValue, fields_at, take_body};
 use pb_value::DynamicMessage;
 use pb_value::bodies::from_well_formed;
 use std::alloc::Global;
@@ -27,7 +26,8 @@ fn write_fields(
     ensures answered { IsAnswered numbers_in keys.now place.now (Some message.now) result
         (λ ns. (numbers.new ≡ laid_over ns numbers.old) × (count.new ≡ length ns)) }
     ensures unwritten { result ≢ DONE → (numbers.new ≡ numbers.old) × (count.new ≡ count.old) }
-    ensures answers { (result ≡ DONE) ⊎ (result ≡ ABSENT) ⊎ (result ≡ BAD_PLACE) ⊎ (result ≡ MEMORY) }
+    ensures answers { (result ≡ DONE) ⊎ (result ≡ ABSENT) ⊎ (result ≡ BAD_PLACE)
+        ⊎ (result ≡ MEMORY) }
 {
     match fields_at(alloc, message.view(), place, keys, numbers) {
         Ok(found) => {
@@ -50,7 +50,8 @@ fn fields_own(
     ensures answered { IsAnswered numbers_in keys.now place.now (Some own.old) result
         (λ ns. (numbers.new ≡ laid_over ns numbers.old) × (count.new ≡ length ns)) }
     ensures unwritten { result ≢ DONE → (numbers.new ≡ numbers.old) × (count.new ≡ count.old) }
-    ensures answers { (result ≡ DONE) ⊎ (result ≡ ABSENT) ⊎ (result ≡ BAD_PLACE) ⊎ (result ≡ MEMORY) }
+    ensures answers { (result ≡ DONE) ⊎ (result ≡ ABSENT) ⊎ (result ≡ BAD_PLACE)
+        ⊎ (result ≡ MEMORY) }
     ensures same { own.new ≡ own.old }
 {
     let Some(body) = take_body(alloc, &own.pool, own.message_type, &mut own.held) else {
@@ -80,7 +81,8 @@ pub extern "C" fn mb_message_fields(
         (λ ns. (numbers.new ≡ laid_over ns numbers.old) × (count.new ≡ length ns)) }
     ensures unwritten { result ≢ DONE → (numbers.new ≡ numbers.old) × (count.new ≡ count.old) }
     ensures empty { result ≡ EMPTY ↔ (message.old.seal.message ≡ None) }
-    ensures answers { (result ≡ DONE) ⊎ (result ≡ EMPTY) ⊎ (result ≡ ABSENT) ⊎ (result ≡ BAD_PLACE) ⊎ (result ≡ MEMORY) }
+    ensures answers { (result ≡ DONE) ⊎ (result ≡ EMPTY) ⊎ (result ≡ ABSENT) ⊎ (result ≡ BAD_PLACE)
+        ⊎ (result ≡ MEMORY) }
     ensures same { message.new.seal.message ≡ message.old.seal.message }
 {
     let Some(mut own) = take(alloc, message) else {

@@ -4,12 +4,12 @@ ghost use Rattle.std.specs.Prelude.{◌≡◌, ◌≢◌, ◌<◌, ◌≤◌, �
 ghost use Rattle.pb_value.specs.Dynamic.{Dynamic};
 ghost use Rattle.pb_encode.specs.Encoding.{bytes_of};
 ghost use Rattle.pb_stream.specs.Writing.{frame_of};
-ghost use Rattle.pb_c_reports.specs.Reporting.{IsLaid};
+ghost use Rattle.pb_c_answers.specs.Reporting.{IsLaid};
 
-use super::handle::{MessageHandle, put, take};
-use super::own::OwnMessage;
-use pb_c_held::{Held, canonical_bytes, take_body};
-use pb_c_reports::{DONE, EMPTY, MEMORY, TOO_LARGE, canonical_of, write_out};
+use pb_c_answers::{DONE, EMPTY, MEMORY, TOO_LARGE, canonical_of, write_out};
+use pb_c_handles::message::own::OwnMessage;
+use pb_c_handles::message::{MessageHandle, put, take};
+use pb_c_message::{Held, canonical_bytes, take_body};
 use pb_value::DynamicMessage;
 use pb_value::bodies::from_well_formed;
 use pb_wire::put_varint;
@@ -42,7 +42,8 @@ fn write_framed(alloc: Global, bytes: &[u8], out: &mut [u8], size: &mut usize) -
 
 /// Writes the frame of the message.
 fn write_frame(message: &DynamicMessage<'_>, out: &mut [u8], size: &mut usize) -> u32
-    ensures written { result ≡ DONE → (length (bytes_of message.now) < 2 ^ 31) × IsLaid (frame_of (bytes_of message.now)) out.old out.new size.new }
+    ensures written { result ≡ DONE → (length (bytes_of message.now) < 2 ^ 31)
+        × IsLaid (frame_of (bytes_of message.now)) out.old out.new size.new }
     ensures too_large { result ≡ TOO_LARGE → 2 ^ 31 ≤ length (bytes_of message.now) }
     ensures unwritten { result ≢ DONE → (out.new ≡ out.old) × (size.new ≡ size.old) }
     ensures answers { (result ≡ DONE) ⊎ (result ≡ TOO_LARGE) ⊎ (result ≡ MEMORY) }
@@ -55,7 +56,8 @@ fn write_frame(message: &DynamicMessage<'_>, out: &mut [u8], size: &mut usize) -
 
 /// Writes the frame of a message that is owned.
 fn frame_own(alloc: Global, own: &mut OwnMessage, out: &mut [u8], size: &mut usize) -> u32
-    ensures written { result ≡ DONE → (length (bytes_of own.old) < 2 ^ 31) × IsLaid (frame_of (bytes_of own.old)) out.old out.new size.new }
+    ensures written { result ≡ DONE → (length (bytes_of own.old) < 2 ^ 31)
+        × IsLaid (frame_of (bytes_of own.old)) out.old out.new size.new }
     ensures too_large { result ≡ TOO_LARGE → 2 ^ 31 ≤ length (bytes_of own.old) }
     ensures unwritten { result ≢ DONE → (out.new ≡ out.old) × (size.new ≡ size.old) }
     ensures answers { (result ≡ DONE) ⊎ (result ≡ TOO_LARGE) ⊎ (result ≡ MEMORY) }
@@ -85,12 +87,14 @@ pub extern "C" fn mb_message_frame(
     out: &mut [u8],
     size: &mut usize,
 ) -> u32
-    ensures written { result ≡ DONE → (m : Dynamic) × (message.old.seal.message ≡ Some m) × (length (bytes_of m) < 2 ^ 31)
-        × IsLaid (frame_of (bytes_of m)) out.old out.new size.new }
-    ensures too_large { result ≡ TOO_LARGE → (m : Dynamic) × (message.old.seal.message ≡ Some m) × (2 ^ 31 ≤ length (bytes_of m)) }
+    ensures written { result ≡ DONE → (m : Dynamic) × (message.old.seal.message ≡ Some m)
+        × (length (bytes_of m) < 2 ^ 31) × IsLaid (frame_of (bytes_of m)) out.old out.new size.new }
+    ensures too_large { result ≡ TOO_LARGE → (m : Dynamic) × (message.old.seal.message ≡ Some m)
+        × (2 ^ 31 ≤ length (bytes_of m)) }
     ensures unwritten { result ≢ DONE → (out.new ≡ out.old) × (size.new ≡ size.old) }
     ensures empty { result ≡ EMPTY ↔ (message.old.seal.message ≡ None) }
-    ensures answers { (result ≡ DONE) ⊎ (result ≡ EMPTY) ⊎ (result ≡ TOO_LARGE) ⊎ (result ≡ MEMORY) }
+    ensures answers { (result ≡ DONE) ⊎ (result ≡ EMPTY) ⊎ (result ≡ TOO_LARGE)
+        ⊎ (result ≡ MEMORY) }
     ensures same { message.new.seal.message ≡ message.old.seal.message }
 {
     let Some(mut own) = take(alloc, message) else {

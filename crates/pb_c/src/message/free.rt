@@ -2,7 +2,7 @@
 
 ghost use Rattle.std.specs.Prelude.{◌≡◌};
 
-use super::handle::{MessageHandle, take};
+use pb_c_handles::message::{MessageHandle, take};
 use std::alloc::Global;
 
 /// Frees the message that a handle holds, which holds nothing then. Its pool is freed with the last handle that holds it.

@@ -5,15 +5,15 @@ ghost use Rattle.pb_schema.specs.Types.{Types};
 ghost use Rattle.pb_value.specs.Data.{Message};
 ghost use Rattle.pb_json_read.specs.Answers.{IsReadBy, IsRefusedBy};
 ghost use Rattle.pb_json_read.specs.declared.error.JsonReadError.{JsonReadError as ReadError};
-ghost use Rattle.pb_c.specs.Held.{names_held, types_held};
-ghost use Rattle.pb_c_json.specs.Reading.{IsReadHeld, IsRefusedHeld, ReportsRead, rules_of};
-ghost use Rattle.pb_c_reports.specs.Typed.{HasType, LacksType, message_of};
+ghost use Rattle.pb_c_handles.specs.Held.{names_held, types_held};
+ghost use Rattle.pb_c_answers.specs.Json.Reading.{IsReadHeld, IsRefusedHeld, ReportsRead, rules_of};
+ghost use Rattle.pb_c_message.specs.Holds.{message_of};
+ghost use Rattle.pb_c_answers.specs.Typed.{HasType, LacksType};
 
-use super::handle::{MessageHandle, hold};
-use super::own::{OwnMessage, boxed};
-use crate::handle::{PoolHandle, put, take};
-use pb_c_json::{read_text, rules_of};
-use pb_c_reports::{DONE, EMPTY, MEMORY, NO_TYPE};
+use pb_c_answers::{DONE, EMPTY, MEMORY, NO_TYPE, read_text, rules_of};
+use pb_c_handles::message::own::{OwnMessage, boxed};
+use pb_c_handles::message::{MessageHandle, hold};
+use pb_c_handles::pool::{PoolHandle, put, take};
 use pb_json::JsonNames;
 use pb_json_read::JsonRules;
 use pb_schema::Pool;
@@ -30,17 +30,21 @@ fn boxed_text(
     names: &JsonNames,
     byte: &mut usize,
 ) -> Result<Box<OwnMessage, Global>, u32>
-    ensures read { IfOk result (λ b. (v : Message) × IsReadBy pool.now.value rules names.now number json.now v
+    ensures read { IfOk result (λ b. (v : Message)
+        × IsReadBy pool.now.value rules names.now number json.now v
         × (b.value ≡ message_of pool.now.value number v)) }
     ensures fault { IfErr result (λ a. a ≢ NO_TYPE → a ≢ MEMORY
-        → (e : ReadError) × IsRefusedBy pool.now.value rules names.now number json.now e × ReportsRead e a byte.new) }
+        → (e : ReadError) × IsRefusedBy pool.now.value rules names.now number json.now e
+        × ReportsRead e a byte.new) }
     ensures done { IfOk result (λ b. byte.new ≡ byte.old) }
     ensures unreported { IfErr result (λ a. (a ≡ NO_TYPE) ⊎ (a ≡ MEMORY) → byte.new ≡ byte.old) }
     ensures no_type { result ≡ Err NO_TYPE ↔ length pool.now.value.messages ≤ number }
     ensures answers { IfErr result (λ a. (a ≡ NO_TYPE) ⊎ (a ≡ MEMORY) ⊎ (101 ≤ a)) }
-    ensures accepted { number < length pool.now.value.messages → (v : Message) → IsReadBy pool.now.value rules names.now number json.now v
+    ensures accepted { number < length pool.now.value.messages → (v : Message)
+        → IsReadBy pool.now.value rules names.now number json.now v
         → MatchResult result (λ b. b.value ≡ message_of pool.now.value number v) (λ a. a ≡ MEMORY) }
-    ensures refused { number < length pool.now.value.messages → (e : ReadError) → IsRefusedBy pool.now.value rules names.now number json.now e
+    ensures refused { number < length pool.now.value.messages → (e : ReadError)
+        → IsRefusedBy pool.now.value rules names.now number json.now e
         → IsErrAnd result (λ a. ReportsRead e a byte.new ⊎ (a ≡ MEMORY)) }
 {
     match read_text(alloc, pool, number, json, rules, names, byte) {
@@ -70,12 +74,16 @@ pub extern "C" fn mb_message_from_json(
     byte: &mut usize,
 ) -> u32
     ensures read { result ≡ DONE → (ts : Types) × HasType (types_held pool.old) message_type ts
-        × ((v : Message) × IsReadHeld (names_held pool.old) ts (rules_of lenient) message_type json.now v
+        × ((v : Message) × IsReadHeld (names_held pool.old) ts
+        (rules_of lenient) message_type json.now v
         × (message.new.seal.message ≡ Some (message_of ts message_type v))) }
-    ensures fault { result ≢ DONE → result ≢ EMPTY → result ≢ NO_TYPE → result ≢ MEMORY → (ts : Types) × HasType (types_held pool.old) message_type ts
-        × ((e : ReadError) × IsRefusedHeld (names_held pool.old) ts (rules_of lenient) message_type json.now e × ReportsRead e result byte.new) }
+    ensures fault { result ≢ DONE → result ≢ EMPTY → result ≢ NO_TYPE → result ≢ MEMORY
+        → (ts : Types) × HasType (types_held pool.old) message_type ts
+        × ((e : ReadError) × IsRefusedHeld (names_held pool.old) ts
+        (rules_of lenient) message_type json.now e × ReportsRead e result byte.new) }
     ensures kept { result ≢ DONE → message.new ≡ message.old }
-    ensures unreported { (result ≡ DONE) ⊎ (result ≡ EMPTY) ⊎ (result ≡ NO_TYPE) ⊎ (result ≡ MEMORY) → byte.new ≡ byte.old }
+    ensures unreported { (result ≡ DONE) ⊎ (result ≡ EMPTY) ⊎ (result ≡ NO_TYPE) ⊎ (result ≡ MEMORY)
+        → byte.new ≡ byte.old }
     ensures empty { result ≡ EMPTY ↔ (types_held pool.old ≡ None) }
     ensures no_type { result ≡ NO_TYPE ↔ LacksType (types_held pool.old) message_type }
     ensures same { pool.new.seal.pool ≡ pool.old.seal.pool }
@@ -83,9 +91,11 @@ pub extern "C" fn mb_message_from_json(
     // Each message is read and each fault is reported, unless memory runs out.
     ensures accepted { (ts : Types) → HasType (types_held pool.old) message_type ts → (v : Message)
         → IsReadHeld (names_held pool.old) ts (rules_of lenient) message_type json.now v
-        → ((result ≡ DONE) × (message.new.seal.message ≡ Some (message_of ts message_type v))) ⊎ (result ≡ MEMORY) }
+        → ((result ≡ DONE) × (message.new.seal.message ≡ Some (message_of ts message_type v)))
+        ⊎ (result ≡ MEMORY) }
     ensures refused { (ts : Types) → HasType (types_held pool.old) message_type ts → (e : ReadError)
-        → IsRefusedHeld (names_held pool.old) ts (rules_of lenient) message_type json.now e → ReportsRead e result byte.new ⊎ (result ≡ MEMORY) }
+        → IsRefusedHeld (names_held pool.old) ts (rules_of lenient) message_type json.now e
+        → ReportsRead e result byte.new ⊎ (result ≡ MEMORY) }
 {
     let Some(shared) = take(alloc, pool) else {
         return EMPTY;

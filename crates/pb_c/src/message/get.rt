@@ -1,16 +1,15 @@
 //! The value at a place of a message.
 
 ghost use Rattle.std.specs.Prelude.{◌≡◌, ◌≢◌, ◌↔◌, ◌⊎◌, List, None, Some, IfSome};
-ghost use Rattle.pb_c_values.specs.Answers.{Answers, plain_in};
-ghost use Rattle.pb_c_values.specs.Places.{Bytes};
+ghost use Rattle.pb_c_message.specs.Answers.{Answers, plain_in};
+ghost use Rattle.pb_c_message.specs.Places.{Bytes};
 ghost use Rattle.pb_c.specs.Message.Places.{IsAnswered};
 
-use super::handle::{MessageHandle, put, take};
 use super::miss::miss_number;
-use super::own::{OwnMessage, may_look};
-use pb_c_held::{Held, plain_held, take_body};
-use pb_c_reports::{ABSENT, BAD_PLACE, DONE, EMPTY, MEMORY};
-use pb_c_values::{PlainValue, value_at};
+use pb_c_answers::{ABSENT, BAD_PLACE, DONE, EMPTY, MEMORY};
+use pb_c_handles::message::own::{OwnMessage, may_look};
+use pb_c_handles::message::{MessageHandle, put, take};
+use pb_c_message::{Held, PlainValue, plain_held, take_body, value_at};
 use pb_value::DynamicMessage;
 use pb_value::bodies::from_well_formed;
 use std::alloc::Global;
@@ -23,9 +22,11 @@ fn report_value(
     keys: &[&[u8]],
     value: &mut PlainValue,
 ) -> u32
-    ensures answered { IsAnswered plain_in keys.now place.now (Some message.now) result (λ x. value.new ≡ x) }
+    ensures answered { IsAnswered plain_in keys.now place.now (Some message.now) result
+        (λ x. value.new ≡ x) }
     ensures unreported { result ≢ DONE → value.new ≡ value.old }
-    ensures answers { (result ≡ DONE) ⊎ (result ≡ ABSENT) ⊎ (result ≡ BAD_PLACE) ⊎ (result ≡ MEMORY) }
+    ensures answers { (result ≡ DONE) ⊎ (result ≡ ABSENT) ⊎ (result ≡ BAD_PLACE)
+        ⊎ (result ≡ MEMORY) }
 {
     match value_at(alloc, message.view(), place, keys) {
         Ok(found) => {
@@ -38,7 +39,8 @@ fn report_value(
 
 /// The value at a place of a message that is owned, where it is found in the bytes that are held.
 fn look(alloc: Global, own: &mut OwnMessage, place: &[PlainValue]) -> Option<PlainValue>
-    ensures found { IfSome result (λ x. (keys : List Bytes) → Answers plain_in keys place.now own.old (Some x)) }
+    ensures found { IfSome result (λ x. (keys : List Bytes)
+        → Answers plain_in keys place.now own.old (Some x)) }
     ensures same { own.new ≡ own.old }
 {
     if !may_look(own) {
@@ -55,9 +57,11 @@ fn get_own(
     keys: &[&[u8]],
     value: &mut PlainValue,
 ) -> u32
-    ensures answered { IsAnswered plain_in keys.now place.now (Some own.old) result (λ x. value.new ≡ x) }
+    ensures answered { IsAnswered plain_in keys.now place.now (Some own.old) result
+        (λ x. value.new ≡ x) }
     ensures unreported { result ≢ DONE → value.new ≡ value.old }
-    ensures answers { (result ≡ DONE) ⊎ (result ≡ ABSENT) ⊎ (result ≡ BAD_PLACE) ⊎ (result ≡ MEMORY) }
+    ensures answers { (result ≡ DONE) ⊎ (result ≡ ABSENT) ⊎ (result ≡ BAD_PLACE)
+        ⊎ (result ≡ MEMORY) }
     ensures same { own.new ≡ own.old }
 {
     if let Some(found) = look(alloc, own, place) {
@@ -89,7 +93,8 @@ pub extern "C" fn mb_message_get(
         (λ x. value.new ≡ x) }
     ensures unreported { result ≢ DONE → value.new ≡ value.old }
     ensures empty { result ≡ EMPTY ↔ (message.old.seal.message ≡ None) }
-    ensures answers { (result ≡ DONE) ⊎ (result ≡ EMPTY) ⊎ (result ≡ ABSENT) ⊎ (result ≡ BAD_PLACE) ⊎ (result ≡ MEMORY) }
+    ensures answers { (result ≡ DONE) ⊎ (result ≡ EMPTY) ⊎ (result ≡ ABSENT) ⊎ (result ≡ BAD_PLACE)
+        ⊎ (result ≡ MEMORY) }
     ensures same { message.new.seal.message ≡ message.old.seal.message }
 {
     let Some(mut own) = take(alloc, message) else {

@@ -4,15 +4,14 @@ ghost use Rattle.std.specs.Prelude.{◌≡◌, ◌≢◌, ◌↔◌, ◌⊎◌, 
 ghost use Rattle.pb_value.specs.Dynamic.{Dynamic};
 ghost use Rattle.pb_json.specs.Refusals.{Refused, refused};
 ghost use Rattle.pb_json.specs.Given.{NamesGiven};
-ghost use Rattle.pb_c.specs.Held.{names_held, types_held};
-ghost use Rattle.pb_c_json.specs.Writing.{IsJsonLaid, IsJsonLaidBy, RefusesAs};
+ghost use Rattle.pb_c_handles.specs.Held.{names_held, types_held};
+ghost use Rattle.pb_c_answers.specs.Json.Writing.{IsJsonLaid, IsJsonLaidBy, RefusesAs};
 
-use super::handle::{MessageHandle, put, take};
-use super::own::OwnMessage;
-use crate::handle::{self as pools, PoolHandle};
-use pb_c_held::{Held, take_body};
-use pb_c_json::{form_of, write_as_json};
-use pb_c_reports::{DONE, EMPTY, MEMORY};
+use pb_c_answers::{DONE, EMPTY, MEMORY, form_of, write_as_json};
+use pb_c_handles::message::own::OwnMessage;
+use pb_c_handles::message::{MessageHandle, put, take};
+use pb_c_handles::pool::{self as pools, PoolHandle};
+use pb_c_message::{Held, take_body};
 use pb_json::JsonForm;
 use pb_value::bodies::from_well_formed;
 use std::alloc::Global;
@@ -30,10 +29,13 @@ fn json_own(
     ensures written { result ≡ DONE → IsJsonLaid form.entry own.old out.old out.new size.new }
     ensures unwritten { result ≢ DONE → (out.new ≡ out.old) × (size.new ≡ size.old) }
     ensures formless { result ≢ DONE → result ≢ MEMORY
-        → (r : Refused) × (refused own.old ≡ Some r) × RefusesAs r result path.old path.new steps.new }
-    ensures unreported { (result ≡ DONE) ⊎ (result ≡ MEMORY) → (path.new ≡ path.old) × (steps.new ≡ steps.old) }
+        → (r : Refused) × (refused own.old ≡ Some r)
+        × RefusesAs r result path.old path.new steps.new }
+    ensures unreported { (result ≡ DONE) ⊎ (result ≡ MEMORY)
+        → (path.new ≡ path.old) × (steps.new ≡ steps.old) }
     ensures accepted { refused own.old ≡ None → (result ≡ DONE) ⊎ (result ≡ MEMORY) }
-    ensures refused { (r : Refused) → refused own.old ≡ Some r → RefusesAs r result path.old path.new steps.new ⊎ (result ≡ MEMORY) }
+    ensures refused { (r : Refused) → refused own.old ≡ Some r
+        → RefusesAs r result path.old path.new steps.new ⊎ (result ≡ MEMORY) }
     ensures same { own.new ≡ own.old }
 {
     let Some(body) = take_body(alloc, &own.pool, own.message_type, &mut own.held) else {
@@ -58,14 +60,17 @@ fn json_held(
     ensures written { result ≡ DONE → (m : Dynamic) × (message.old.seal.message ≡ Some m)
         × IsJsonLaid form.entry m out.old out.new size.new }
     ensures unwritten { result ≢ DONE → (out.new ≡ out.old) × (size.new ≡ size.old) }
-    ensures formless { result ≢ DONE → result ≢ EMPTY → result ≢ MEMORY → (m : Dynamic) × (message.old.seal.message ≡ Some m)
+    ensures formless { result ≢ DONE → result ≢ EMPTY → result ≢ MEMORY
+        → (m : Dynamic) × (message.old.seal.message ≡ Some m)
         × ((r : Refused) × (refused m ≡ Some r) × RefusesAs r result path.old path.new steps.new) }
-    ensures unreported { (result ≡ DONE) ⊎ (result ≡ EMPTY) ⊎ (result ≡ MEMORY) → (path.new ≡ path.old) × (steps.new ≡ steps.old) }
+    ensures unreported { (result ≡ DONE) ⊎ (result ≡ EMPTY) ⊎ (result ≡ MEMORY)
+        → (path.new ≡ path.old) × (steps.new ≡ steps.old) }
     ensures empty { result ≡ EMPTY ↔ (message.old.seal.message ≡ None) }
     ensures same { message.new.seal.message ≡ message.old.seal.message }
-    ensures accepted { (m : Dynamic) → message.old.seal.message ≡ Some m → refused m ≡ None → (result ≡ DONE) ⊎ (result ≡ MEMORY) }
-    ensures refused { (m : Dynamic) (r : Refused) → message.old.seal.message ≡ Some m → refused m ≡ Some r
-        → RefusesAs r result path.old path.new steps.new ⊎ (result ≡ MEMORY) }
+    ensures accepted { (m : Dynamic) → message.old.seal.message ≡ Some m → refused m ≡ None
+        → (result ≡ DONE) ⊎ (result ≡ MEMORY) }
+    ensures refused { (m : Dynamic) (r : Refused) → message.old.seal.message ≡ Some m
+        → refused m ≡ Some r → RefusesAs r result path.old path.new steps.new ⊎ (result ≡ MEMORY) }
 {
     let Some(mut own) = take(alloc, message) else {
         return EMPTY;
@@ -94,20 +99,26 @@ pub extern "C" fn mb_message_json(
     steps: &mut usize,
 ) -> u32
     ensures written { result ≡ DONE → (given : NamesGiven) × (names_held pool.old ≡ Some given)
-        × ((m : Dynamic) × (message.old.seal.message ≡ Some m) × IsJsonLaidBy given declared_names indented m out.old out.new size.new) }
+        × ((m : Dynamic) × (message.old.seal.message ≡ Some m)
+        × IsJsonLaidBy given declared_names indented m out.old out.new size.new) }
     ensures unwritten { result ≢ DONE → (out.new ≡ out.old) × (size.new ≡ size.old) }
-    ensures formless { result ≢ DONE → result ≢ EMPTY → result ≢ MEMORY → (m : Dynamic) × (message.old.seal.message ≡ Some m)
+    ensures formless { result ≢ DONE → result ≢ EMPTY → result ≢ MEMORY
+        → (m : Dynamic) × (message.old.seal.message ≡ Some m)
         × ((r : Refused) × (refused m ≡ Some r) × RefusesAs r result path.old path.new steps.new) }
-    ensures unreported { (result ≡ DONE) ⊎ (result ≡ EMPTY) ⊎ (result ≡ MEMORY) → (path.new ≡ path.old) × (steps.new ≡ steps.old) }
-    ensures empty { result ≡ EMPTY ↔ (types_held pool.old ≡ None) ⊎ (message.old.seal.message ≡ None) }
+    ensures unreported { (result ≡ DONE) ⊎ (result ≡ EMPTY) ⊎ (result ≡ MEMORY)
+        → (path.new ≡ path.old) × (steps.new ≡ steps.old) }
+    ensures empty { result ≡ EMPTY ↔ (types_held pool.old ≡ None)
+        ⊎ (message.old.seal.message ≡ None) }
     ensures same { message.new.seal.message ≡ message.old.seal.message }
     ensures same_pool { pool.new.seal.pool ≡ pool.old.seal.pool }
 
     // By the names that a handle holds, each message that has a JSON form is written and each other one is refused, unless memory runs out.
-    ensures accepted { (given : NamesGiven) (m : Dynamic) → names_held pool.old ≡ Some given → message.old.seal.message ≡ Some m → refused m ≡ None
+    ensures accepted { (given : NamesGiven) (m : Dynamic) → names_held pool.old ≡ Some given
+        → message.old.seal.message ≡ Some m → refused m ≡ None
         → (result ≡ DONE) ⊎ (result ≡ MEMORY) }
-    ensures refused { (given : NamesGiven) (m : Dynamic) (r : Refused) → names_held pool.old ≡ Some given → message.old.seal.message ≡ Some m
-        → refused m ≡ Some r → RefusesAs r result path.old path.new steps.new ⊎ (result ≡ MEMORY) }
+    ensures refused { (given : NamesGiven) (m : Dynamic) (r : Refused)
+        → names_held pool.old ≡ Some given → message.old.seal.message ≡ Some m → refused m ≡ Some r
+        → RefusesAs r result path.old path.new steps.new ⊎ (result ≡ MEMORY) }
 {
     let Some(shared) = pools::take(alloc, pool) else {
         return EMPTY;

@@ -5,12 +5,11 @@ ghost use Rattle.pb_place.specs.Ask.{key_in};
 ghost use Rattle.pb_c.specs.Typed.Found.{Reports};
 ghost use Rattle.pb_c.specs.Message.Places.{IsAnswered};
 
-use super::handle::{MessageHandle, put, take};
 use super::miss::miss_number;
-use super::own::OwnMessage;
-use pb_c_held::{Held, take_body};
-use pb_c_reports::{ABSENT, BAD_PLACE, DONE, EMPTY, MEMORY, lay_over};
-use pb_c_values::{PlainValue, key_at, key_bytes, key_value};
+use pb_c_answers::{ABSENT, BAD_PLACE, DONE, EMPTY, MEMORY, lay_over};
+use pb_c_handles::message::own::OwnMessage;
+use pb_c_handles::message::{MessageHandle, put, take};
+use pb_c_message::{Held, PlainValue, key_at, key_bytes, key_value, take_body};
 use pb_value::DynamicMessage;
 use pb_value::bodies::from_well_formed;
 use std::alloc::Global;
@@ -25,9 +24,11 @@ fn report_key(
     key: &mut PlainValue,
     out: &mut [u8],
 ) -> u32
-    ensures answered { IsAnswered (key_in index) keys.now place.now (Some message.now) result (λ x. Reports x key.new out.old out.new) }
+    ensures answered { IsAnswered (key_in index) keys.now place.now (Some message.now) result
+        (λ x. Reports x key.new out.old out.new) }
     ensures unreported { result ≢ DONE → (key.new ≡ key.old) × (out.new ≡ out.old) }
-    ensures answers { (result ≡ DONE) ⊎ (result ≡ ABSENT) ⊎ (result ≡ BAD_PLACE) ⊎ (result ≡ MEMORY) }
+    ensures answers { (result ≡ DONE) ⊎ (result ≡ ABSENT) ⊎ (result ≡ BAD_PLACE)
+        ⊎ (result ≡ MEMORY) }
 {
     match key_at(alloc, message.view(), place, keys, index) {
         Ok(found) => {
@@ -49,9 +50,11 @@ fn key_own(
     key: &mut PlainValue,
     out: &mut [u8],
 ) -> u32
-    ensures answered { IsAnswered (key_in index) keys.now place.now (Some own.old) result (λ x. Reports x key.new out.old out.new) }
+    ensures answered { IsAnswered (key_in index) keys.now place.now (Some own.old) result
+        (λ x. Reports x key.new out.old out.new) }
     ensures unreported { result ≢ DONE → (key.new ≡ key.old) × (out.new ≡ out.old) }
-    ensures answers { (result ≡ DONE) ⊎ (result ≡ ABSENT) ⊎ (result ≡ BAD_PLACE) ⊎ (result ≡ MEMORY) }
+    ensures answers { (result ≡ DONE) ⊎ (result ≡ ABSENT) ⊎ (result ≡ BAD_PLACE)
+        ⊎ (result ≡ MEMORY) }
     ensures same { own.new ≡ own.old }
 {
     let Some(body) = take_body(alloc, &own.pool, own.message_type, &mut own.held) else {
@@ -82,7 +85,8 @@ pub extern "C" fn mb_message_key(
         (λ x. Reports x key.new out.old out.new) }
     ensures unreported { result ≢ DONE → (key.new ≡ key.old) × (out.new ≡ out.old) }
     ensures empty { result ≡ EMPTY ↔ (message.old.seal.message ≡ None) }
-    ensures answers { (result ≡ DONE) ⊎ (result ≡ EMPTY) ⊎ (result ≡ ABSENT) ⊎ (result ≡ BAD_PLACE) ⊎ (result ≡ MEMORY) }
+    ensures answers { (result ≡ DONE) ⊎ (result ≡ EMPTY) ⊎ (result ≡ ABSENT) ⊎ (result ≡ BAD_PLACE)
+        ⊎ (result ≡ MEMORY) }
     ensures same { message.new.seal.message ≡ message.old.seal.message }
 {
     let Some(mut own) = take(alloc, message) else {

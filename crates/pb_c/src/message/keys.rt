@@ -2,17 +2,15 @@
 
 ghost use Rattle.std.specs.Prelude.{◌≡◌, ◌≢◌, ◌↔◌, ◌⊎◌, List, None, Some, IsErr, MatchResult};
 ghost use Rattle.pb_schema.specs.Scalar.{Scalar};
-ghost use Rattle.pb_c_values.specs.Answers.{Answers, IsMissed};
-ghost use Rattle.pb_c_keys.specs.Keys.{ReportsKeys, keys_in};
+ghost use Rattle.pb_c_message.specs.Answers.{Answers, IsMissed};
+ghost use Rattle.pb_c_message.specs.Keys.{ReportsKeys, keys_in};
 ghost use Rattle.pb_c.specs.Message.Places.{IsAnswered};
 
-use super::handle::{MessageHandle, put, take};
 use super::miss::miss_number;
-use super::own::OwnMessage;
-use pb_c_held::{Held, take_body};
-use pb_c_keys::{KeyCounts, keys_at};
-use pb_c_reports::{ABSENT, BAD_PLACE, DONE, EMPTY, MEMORY};
-use pb_c_values::{Miss, PlainValue};
+use pb_c_answers::{ABSENT, BAD_PLACE, DONE, EMPTY, MEMORY};
+use pb_c_handles::message::own::OwnMessage;
+use pb_c_handles::message::{MessageHandle, put, take};
+use pb_c_message::{Held, KeyCounts, Miss, PlainValue, keys_at, take_body};
 use pb_value::bodies::from_well_formed;
 use std::alloc::Global;
 
@@ -62,9 +60,11 @@ pub extern "C" fn mb_message_keys(
 ) -> u32
     ensures answered { IsAnswered (keys_in first) keys.now place.now message.old.seal.message result
         (λ xs. ReportsKeys xs found.old found.new out.old out.new counts.new) }
-    ensures unreported { result ≢ DONE → (found.new ≡ found.old) × (out.new ≡ out.old) × (counts.new ≡ counts.old) }
+    ensures unreported { result ≢ DONE → (found.new ≡ found.old) × (out.new ≡ out.old)
+        × (counts.new ≡ counts.old) }
     ensures empty { result ≡ EMPTY ↔ (message.old.seal.message ≡ None) }
-    ensures answers { (result ≡ DONE) ⊎ (result ≡ EMPTY) ⊎ (result ≡ ABSENT) ⊎ (result ≡ BAD_PLACE) ⊎ (result ≡ MEMORY) }
+    ensures answers { (result ≡ DONE) ⊎ (result ≡ EMPTY) ⊎ (result ≡ ABSENT) ⊎ (result ≡ BAD_PLACE)
+        ⊎ (result ≡ MEMORY) }
     ensures same { message.new.seal.message ≡ message.old.seal.message }
 {
     let Some(mut own) = take(alloc, message) else {

@@ -3,13 +3,14 @@
 ghost use Rattle.std.specs.Prelude.{◌≡◌, ◌≢◌, ◌≤◌, ◌↔◌, ◌⊎◌, None, Some, length, Err, IfOk, IfErr};
 ghost use Rattle.pb_schema.specs.Types.{Types};
 ghost use Rattle.pb_value.specs.Data.{empty};
-ghost use Rattle.pb_c.specs.Held.{types_held};
-ghost use Rattle.pb_c_reports.specs.Typed.{HasType, LacksType, message_of};
+ghost use Rattle.pb_c_handles.specs.Held.{types_held};
+ghost use Rattle.pb_c_message.specs.Holds.{message_of};
+ghost use Rattle.pb_c_answers.specs.Typed.{HasType, LacksType};
 
-use super::handle::{MessageHandle, hold};
-use super::own::{OwnMessage, boxed};
-use crate::handle::{PoolHandle, put, take};
-use pb_c_reports::{DONE, EMPTY, MEMORY, NO_TYPE, type_numbered};
+use pb_c_answers::{DONE, EMPTY, MEMORY, NO_TYPE, type_numbered};
+use pb_c_handles::message::own::{OwnMessage, boxed};
+use pb_c_handles::message::{MessageHandle, hold};
+use pb_c_handles::pool::{PoolHandle, put, take};
 use pb_schema::Pool;
 use pb_value::DynamicMessage;
 use std::alloc::Global;

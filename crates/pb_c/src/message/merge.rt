@@ -7,15 +7,15 @@ ghost use Rattle.pb_value.specs.Dynamic.{Dynamic};
 ghost use Rattle.pb_decode.specs.Onto.{TextOnto};
 ghost use Rattle.pb_encode.specs.Encoding.{bytes_of};
 ghost use Rattle.pb_c.specs.Message.Pairs.{IsFaultOn, IsOnto, IsTooLargeIn};
-ghost use Rattle.pb_c_reports.specs.Reporting.{AreLimits, Tells, bounds};
+ghost use Rattle.pb_c_answers.specs.Reporting.{AreLimits, Tells, bounds};
 
 use super::copy::copy_of;
-use super::handle::{MessageHandle, put, take};
-use super::own::OwnMessage;
-use pb_c_held::{Held, take_body};
-use pb_c_reports::{
+use pb_c_answers::{
     BAD_LIMITS, DONE, EMPTY, FAULT, FaultReport, MEMORY, Step, TOO_LARGE, tell_error,
 };
+use pb_c_handles::message::own::OwnMessage;
+use pb_c_handles::message::{MessageHandle, put, take};
+use pb_c_message::{Held, take_body};
 use pb_decode::decode_onto;
 use pb_value::DynamicMessage;
 use pb_value::bodies::from_well_formed;
@@ -32,13 +32,16 @@ fn onto_copy<'p>(
     path: &mut [Step],
 ) -> Result<DynamicMessage<'p>, u32>
     ensures onto { IfOk result (λ n. IsOnto limits bytes.now copy.entry n) }
-    ensures fault { IfErr result (λ a. a ≡ FAULT → (f : Fault) × IsFaultOn limits bytes.now copy.entry f × Tells f fault.new path.old path.new) }
+    ensures fault { IfErr result (λ a. a ≡ FAULT
+        → (f : Fault) × IsFaultOn limits bytes.now copy.entry f
+        × Tells f fault.new path.old path.new) }
     ensures untold { result ≢ Err FAULT → (fault.new ≡ fault.old) × (path.new ≡ path.old) }
     ensures answers { IfErr result (λ a. (a ≡ FAULT) ⊎ (a ≡ MEMORY)) }
     ensures accepted { (w : Message) → TextOnto copy.entry limits bytes.now w
         → MatchResult result (λ n. n ≡ record copy.entry { body = w }) (λ a. a ≡ MEMORY) }
     ensures refused { (f : Fault) → IsFaultOn limits bytes.now copy.entry f
-        → IsErrAnd result (λ a. ((a ≡ FAULT) × Tells f fault.new path.old path.new) ⊎ (a ≡ MEMORY)) }
+        → IsErrAnd result (λ a. ((a ≡ FAULT) × Tells f fault.new path.old path.new)
+        ⊎ (a ≡ MEMORY)) }
 {
     match decode_onto(copy, bytes, limits) {
         Ok(merged) => Ok(merged),
@@ -56,14 +59,18 @@ fn merged_with<'p>(
     path: &mut [Step],
 ) -> Result<DynamicMessage<'p>, u32>
     ensures onto { IfOk result (λ n. IsOnto limits bytes.now message.now n) }
-    ensures fault { IfErr result (λ a. a ≡ FAULT → (f : Fault) × IsFaultOn limits bytes.now message.now f × Tells f fault.new path.old path.new) }
+    ensures fault { IfErr result (λ a. a ≡ FAULT
+        → (f : Fault) × IsFaultOn limits bytes.now message.now f
+        × Tells f fault.new path.old path.new) }
     ensures untold { result ≢ Err FAULT → (fault.new ≡ fault.old) × (path.new ≡ path.old) }
     ensures too_large { result ≡ Err TOO_LARGE → 2 ^ 31 ≤ length (bytes_of message.now) }
     ensures answers { IfErr result (λ a. (a ≡ FAULT) ⊎ (a ≡ TOO_LARGE) ⊎ (a ≡ MEMORY)) }
     ensures accepted { (w : Message) → TextOnto message.now limits bytes.now w
-        → MatchResult result (λ n. n ≡ record message.now { body = w }) (λ a. (a ≡ TOO_LARGE) ⊎ (a ≡ MEMORY)) }
+        → MatchResult result (λ n. n ≡ record message.now { body = w })
+        (λ a. (a ≡ TOO_LARGE) ⊎ (a ≡ MEMORY)) }
     ensures refused { (f : Fault) → IsFaultOn limits bytes.now message.now f
-        → IsErrAnd result (λ a. ((a ≡ FAULT) × Tells f fault.new path.old path.new) ⊎ (a ≡ TOO_LARGE) ⊎ (a ≡ MEMORY)) }
+        → IsErrAnd result (λ a. ((a ≡ FAULT) × Tells f fault.new path.old path.new)
+        ⊎ (a ≡ TOO_LARGE) ⊎ (a ≡ MEMORY)) }
 {
     match copy_of(message) {
         Ok(copy) => onto_copy(copy, bytes, limits, fault, path),
@@ -81,15 +88,20 @@ fn merge_message(
 ) -> u32
     ensures onto { result ≡ DONE → IsOnto limits bytes.now message.old message.new }
     ensures kept { result ≢ DONE → message.new ≡ message.old }
-    ensures fault { result ≡ FAULT → (f : Fault) × IsFaultOn limits bytes.now message.old f × Tells f fault.new path.old path.new }
+    ensures fault { result ≡ FAULT → (f : Fault) × IsFaultOn limits bytes.now message.old f
+        × Tells f fault.new path.old path.new }
     ensures untold { result ≢ FAULT → (fault.new ≡ fault.old) × (path.new ≡ path.old) }
     ensures too_large { result ≡ TOO_LARGE → 2 ^ 31 ≤ length (bytes_of message.old) }
-    ensures answers { (result ≡ DONE) ⊎ (result ≡ FAULT) ⊎ (result ≡ TOO_LARGE) ⊎ (result ≡ MEMORY) }
+    ensures answers { (result ≡ DONE) ⊎ (result ≡ FAULT) ⊎ (result ≡ TOO_LARGE)
+        ⊎ (result ≡ MEMORY) }
     ensures accepted { (w : Message) → TextOnto message.old limits bytes.now w
-        → ((result ≡ DONE) × (message.new ≡ record message.old { body = w })) ⊎ (result ≡ TOO_LARGE) ⊎ (result ≡ MEMORY) }
+        → ((result ≡ DONE) × (message.new ≡ record message.old { body = w })) ⊎ (result ≡ TOO_LARGE)
+        ⊎ (result ≡ MEMORY) }
     ensures refused { (f : Fault) → IsFaultOn limits bytes.now message.old f
-        → ((result ≡ FAULT) × Tells f fault.new path.old path.new) ⊎ (result ≡ TOO_LARGE) ⊎ (result ≡ MEMORY) }
-    ensures same_type { (message.new.pool ≡ message.old.pool) × (message.new.kind ≡ message.old.kind) }
+        → ((result ≡ FAULT) × Tells f fault.new path.old path.new) ⊎ (result ≡ TOO_LARGE)
+        ⊎ (result ≡ MEMORY) }
+    ensures same_type { (message.new.pool ≡ message.old.pool)
+        × (message.new.kind ≡ message.old.kind) }
 {
     match merged_with(message, bytes, limits, fault, path) {
         Ok(merged) => {
@@ -111,14 +123,18 @@ fn merge_own(
 ) -> u32
     ensures onto { result ≡ DONE → IsOnto limits bytes.now own.old own.new }
     ensures kept { result ≢ DONE → own.new ≡ own.old }
-    ensures fault { result ≡ FAULT → (f : Fault) × IsFaultOn limits bytes.now own.old f × Tells f fault.new path.old path.new }
+    ensures fault { result ≡ FAULT → (f : Fault) × IsFaultOn limits bytes.now own.old f
+        × Tells f fault.new path.old path.new }
     ensures untold { result ≢ FAULT → (fault.new ≡ fault.old) × (path.new ≡ path.old) }
     ensures too_large { result ≡ TOO_LARGE → 2 ^ 31 ≤ length (bytes_of own.old) }
-    ensures answers { (result ≡ DONE) ⊎ (result ≡ FAULT) ⊎ (result ≡ TOO_LARGE) ⊎ (result ≡ MEMORY) }
+    ensures answers { (result ≡ DONE) ⊎ (result ≡ FAULT) ⊎ (result ≡ TOO_LARGE)
+        ⊎ (result ≡ MEMORY) }
     ensures accepted { (w : Message) → TextOnto own.old limits bytes.now w
-        → ((result ≡ DONE) × (own.new ≡ record own.old { body = w })) ⊎ (result ≡ TOO_LARGE) ⊎ (result ≡ MEMORY) }
+        → ((result ≡ DONE) × (own.new ≡ record own.old { body = w })) ⊎ (result ≡ TOO_LARGE)
+        ⊎ (result ≡ MEMORY) }
     ensures refused { (f : Fault) → IsFaultOn limits bytes.now own.old f
-        → ((result ≡ FAULT) × Tells f fault.new path.old path.new) ⊎ (result ≡ TOO_LARGE) ⊎ (result ≡ MEMORY) }
+        → ((result ≡ FAULT) × Tells f fault.new path.old path.new) ⊎ (result ≡ TOO_LARGE)
+        ⊎ (result ≡ MEMORY) }
 {
     let Some(body) = take_body(alloc, &own.pool, own.message_type, &mut own.held) else {
         return MEMORY;
@@ -146,25 +162,32 @@ pub extern "C" fn mb_message_merge(
     fault: &mut FaultReport,
     path: &mut [Step],
 ) -> u32
-    ensures onto { result ≡ DONE → (m n : Dynamic) × (message.old.seal.message ≡ Some m) × (message.new.seal.message ≡ Some n)
-        × IsOnto (bounds max_bytes max_depth) bytes.now m n }
+    ensures onto { result ≡ DONE → (m n : Dynamic) × (message.old.seal.message ≡ Some m)
+        × (message.new.seal.message ≡ Some n) × IsOnto (bounds max_bytes max_depth) bytes.now m n }
     ensures fault { result ≡ FAULT → (m : Dynamic) × (message.old.seal.message ≡ Some m)
-        × ((f : Fault) × IsFaultOn (bounds max_bytes max_depth) bytes.now m f × Tells f fault.new path.old path.new) }
+        × ((f : Fault) × IsFaultOn (bounds max_bytes max_depth) bytes.now m f
+        × Tells f fault.new path.old path.new) }
     ensures steps { result ≡ FAULT → fault.new.steps ≤ 2 * max_depth + 1 }
     ensures kept { result ≢ DONE → message.new.seal.message ≡ message.old.seal.message }
     ensures untold { result ≢ FAULT → (fault.new ≡ fault.old) × (path.new ≡ path.old) }
     ensures limits { result ≡ BAD_LIMITS ↔ ¬ AreLimits max_bytes max_depth }
-    ensures empty { result ≡ EMPTY ↔ AreLimits max_bytes max_depth × (message.old.seal.message ≡ None) }
+    ensures empty { result ≡ EMPTY ↔ AreLimits max_bytes max_depth
+        × (message.old.seal.message ≡ None) }
     ensures too_large { result ≡ TOO_LARGE → IsTooLargeIn message.old.seal.message }
-    ensures answers { (result ≡ DONE) ⊎ (result ≡ BAD_LIMITS) ⊎ (result ≡ EMPTY) ⊎ (result ≡ FAULT) ⊎ (result ≡ TOO_LARGE) ⊎ (result ≡ MEMORY) }
+    ensures answers { (result ≡ DONE) ⊎ (result ≡ BAD_LIMITS) ⊎ (result ≡ EMPTY) ⊎ (result ≡ FAULT)
+        ⊎ (result ≡ TOO_LARGE) ⊎ (result ≡ MEMORY) }
 
     // Each encoding is decoded onto the message and each fault is reported, unless the message is too large or memory runs out.
-    ensures accepted { AreLimits max_bytes max_depth → (m : Dynamic) → message.old.seal.message ≡ Some m → (w : Message)
+    ensures accepted { AreLimits max_bytes max_depth → (m : Dynamic)
+        → message.old.seal.message ≡ Some m → (w : Message)
         → TextOnto m (bounds max_bytes max_depth) bytes.now w
-        → ((result ≡ DONE) × (message.new.seal.message ≡ Some (record m { body = w }))) ⊎ (result ≡ TOO_LARGE) ⊎ (result ≡ MEMORY) }
-    ensures refused { AreLimits max_bytes max_depth → (m : Dynamic) → message.old.seal.message ≡ Some m → (f : Fault)
+        → ((result ≡ DONE) × (message.new.seal.message ≡ Some (record m { body = w })))
+        ⊎ (result ≡ TOO_LARGE) ⊎ (result ≡ MEMORY) }
+    ensures refused { AreLimits max_bytes max_depth → (m : Dynamic)
+        → message.old.seal.message ≡ Some m → (f : Fault)
         → IsFaultOn (bounds max_bytes max_depth) bytes.now m f
-        → ((result ≡ FAULT) × Tells f fault.new path.old path.new) ⊎ (result ≡ TOO_LARGE) ⊎ (result ≡ MEMORY) }
+        → ((result ≡ FAULT) × Tells f fault.new path.old path.new) ⊎ (result ≡ TOO_LARGE)
+        ⊎ (result ≡ MEMORY) }
 {
     let Some(limits) = Limits::new(max_bytes, max_depth) else {
         return BAD_LIMITS;

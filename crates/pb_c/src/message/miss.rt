@@ -3,8 +3,8 @@
 ghost use Rattle.std.specs.Prelude.{◌≡◌};
 ghost use Rattle.pb_c.specs.Message.Places.{miss_number};
 
-use pb_c_reports::{ABSENT, BAD_PLACE, MEMORY};
-use pb_c_values::Miss;
+use pb_c_answers::{ABSENT, BAD_PLACE, MEMORY};
+use pb_c_message::Miss;
 
 /// The number of a miss.
 pub(super) fn miss_number(miss: Miss) -> u32

@@ -1,15 +1,14 @@
 //! Which member of a oneof is set in a message at a place.
 
 ghost use Rattle.std.specs.Prelude.{◌≡◌, ◌≢◌, ◌↔◌, ◌⊎◌, None, Some};
-ghost use Rattle.pb_c_values.specs.Answers.{member_in};
+ghost use Rattle.pb_c_message.specs.Answers.{member_in};
 ghost use Rattle.pb_c.specs.Message.Places.{IsAnswered};
 
-use super::handle::{MessageHandle, put, take};
 use super::miss::miss_number;
-use super::own::OwnMessage;
-use pb_c_held::{Held, take_body};
-use pb_c_reports::{ABSENT, BAD_PLACE, DONE, EMPTY, MEMORY};
-use pb_c_values::{PlainValue, oneof_at};
+use pb_c_answers::{ABSENT, BAD_PLACE, DONE, EMPTY, MEMORY};
+use pb_c_handles::message::own::OwnMessage;
+use pb_c_handles::message::{MessageHandle, put, take};
+use pb_c_message::{Held, PlainValue, oneof_at, take_body};
 use pb_value::DynamicMessage;
 use pb_value::bodies::from_well_formed;
 use std::alloc::Global;
@@ -23,9 +22,11 @@ fn report_member(
     oneof: u32,
     number: &mut u32,
 ) -> u32
-    ensures answered { IsAnswered (member_in oneof) keys.now place.now (Some message.now) result (λ n. number.new ≡ n) }
+    ensures answered { IsAnswered (member_in oneof) keys.now place.now (Some message.now) result
+        (λ n. number.new ≡ n) }
     ensures unreported { result ≢ DONE → number.new ≡ number.old }
-    ensures answers { (result ≡ DONE) ⊎ (result ≡ ABSENT) ⊎ (result ≡ BAD_PLACE) ⊎ (result ≡ MEMORY) }
+    ensures answers { (result ≡ DONE) ⊎ (result ≡ ABSENT) ⊎ (result ≡ BAD_PLACE)
+        ⊎ (result ≡ MEMORY) }
 {
     match oneof_at(alloc, message.view(), place, keys, oneof) {
         Ok(member) => {
@@ -45,9 +46,11 @@ fn oneof_own(
     oneof: u32,
     number: &mut u32,
 ) -> u32
-    ensures answered { IsAnswered (member_in oneof) keys.now place.now (Some own.old) result (λ n. number.new ≡ n) }
+    ensures answered { IsAnswered (member_in oneof) keys.now place.now (Some own.old) result
+        (λ n. number.new ≡ n) }
     ensures unreported { result ≢ DONE → number.new ≡ number.old }
-    ensures answers { (result ≡ DONE) ⊎ (result ≡ ABSENT) ⊎ (result ≡ BAD_PLACE) ⊎ (result ≡ MEMORY) }
+    ensures answers { (result ≡ DONE) ⊎ (result ≡ ABSENT) ⊎ (result ≡ BAD_PLACE)
+        ⊎ (result ≡ MEMORY) }
     ensures same { own.new ≡ own.old }
 {
     let Some(body) = take_body(alloc, &own.pool, own.message_type, &mut own.held) else {
@@ -72,11 +75,12 @@ pub extern "C" fn mb_message_oneof(
     oneof: u32,
     number: &mut u32,
 ) -> u32
-    ensures answered { IsAnswered (member_in oneof) keys.now place.now message.old.seal.message result
-        (λ n. number.new ≡ n) }
+    ensures answered { IsAnswered
+        (member_in oneof) keys.now place.now message.old.seal.message result (λ n. number.new ≡ n) }
     ensures unreported { result ≢ DONE → number.new ≡ number.old }
     ensures empty { result ≡ EMPTY ↔ (message.old.seal.message ≡ None) }
-    ensures answers { (result ≡ DONE) ⊎ (result ≡ EMPTY) ⊎ (result ≡ ABSENT) ⊎ (result ≡ BAD_PLACE) ⊎ (result ≡ MEMORY) }
+    ensures answers { (result ≡ DONE) ⊎ (result ≡ EMPTY) ⊎ (result ≡ ABSENT) ⊎ (result ≡ BAD_PLACE)
+        ⊎ (result ≡ MEMORY) }
     ensures same { message.new.seal.message ≡ message.old.seal.message }
 {
     let Some(mut own) = take(alloc, message) else {

@@ -1,17 +1,16 @@
 //! The string or the bytes at a place of a message.
 
 ghost use Rattle.std.specs.Prelude.{◌≡◌, ◌≢◌, ◌↔◌, ◌⊎◌, ℕ, List, None, Some, true, false};
-ghost use Rattle.pb_c_values.specs.Answers.{Answers, bytes_in};
-ghost use Rattle.pb_c_values.specs.Places.{Bytes};
-ghost use Rattle.pb_c_reports.specs.Reporting.{IsLaid};
+ghost use Rattle.pb_c_message.specs.Answers.{Answers, bytes_in};
+ghost use Rattle.pb_c_message.specs.Places.{Bytes};
+ghost use Rattle.pb_c_answers.specs.Reporting.{IsLaid};
 ghost use Rattle.pb_c.specs.Message.Places.{IsAnswered};
 
-use super::handle::{MessageHandle, put, take};
 use super::miss::miss_number;
-use super::own::{OwnMessage, may_look};
-use pb_c_held::{Held, bytes_held, take_body};
-use pb_c_reports::{ABSENT, BAD_PLACE, DONE, EMPTY, MEMORY, write_out};
-use pb_c_values::{PlainValue, bytes_at};
+use pb_c_answers::{ABSENT, BAD_PLACE, DONE, EMPTY, MEMORY, write_out};
+use pb_c_handles::message::own::{OwnMessage, may_look};
+use pb_c_handles::message::{MessageHandle, put, take};
+use pb_c_message::{Held, PlainValue, bytes_at, bytes_held, take_body};
 use pb_value::DynamicMessage;
 use pb_value::bodies::from_well_formed;
 use std::alloc::Global;
@@ -25,9 +24,11 @@ fn write_bytes(
     out: &mut [u8],
     size: &mut usize,
 ) -> u32
-    ensures answered { IsAnswered bytes_in keys.now place.now (Some message.now) result (λ b. IsLaid b out.old out.new size.new) }
+    ensures answered { IsAnswered bytes_in keys.now place.now (Some message.now) result
+        (λ b. IsLaid b out.old out.new size.new) }
     ensures unwritten { result ≢ DONE → (out.new ≡ out.old) × (size.new ≡ size.old) }
-    ensures answers { (result ≡ DONE) ⊎ (result ≡ ABSENT) ⊎ (result ≡ BAD_PLACE) ⊎ (result ≡ MEMORY) }
+    ensures answers { (result ≡ DONE) ⊎ (result ≡ ABSENT) ⊎ (result ≡ BAD_PLACE)
+        ⊎ (result ≡ MEMORY) }
 {
     match bytes_at(alloc, message.view(), place, keys) {
         Ok(bytes) => {
@@ -46,7 +47,8 @@ fn write_found(
     out: &mut [u8],
     size: &mut usize,
 ) -> bool
-    ensures found { result ≡ true → (b : List ℕ) × ((keys : List Bytes) → Answers bytes_in keys place.now own.old (Some b))
+    ensures found { result ≡ true → (b : List ℕ)
+        × ((keys : List Bytes) → Answers bytes_in keys place.now own.old (Some b))
         × IsLaid b out.old out.new size.new }
     ensures unwritten { result ≡ false → (out.new ≡ out.old) × (size.new ≡ size.old) }
     ensures same { own.new ≡ own.old }
@@ -70,9 +72,11 @@ fn read_own(
     out: &mut [u8],
     size: &mut usize,
 ) -> u32
-    ensures answered { IsAnswered bytes_in keys.now place.now (Some own.old) result (λ b. IsLaid b out.old out.new size.new) }
+    ensures answered { IsAnswered bytes_in keys.now place.now (Some own.old) result
+        (λ b. IsLaid b out.old out.new size.new) }
     ensures unwritten { result ≢ DONE → (out.new ≡ out.old) × (size.new ≡ size.old) }
-    ensures answers { (result ≡ DONE) ⊎ (result ≡ ABSENT) ⊎ (result ≡ BAD_PLACE) ⊎ (result ≡ MEMORY) }
+    ensures answers { (result ≡ DONE) ⊎ (result ≡ ABSENT) ⊎ (result ≡ BAD_PLACE)
+        ⊎ (result ≡ MEMORY) }
     ensures same { own.new ≡ own.old }
 {
     if write_found(alloc, own, place, out, size) {
@@ -104,7 +108,8 @@ pub extern "C" fn mb_message_read(
         (λ b. IsLaid b out.old out.new size.new) }
     ensures unwritten { result ≢ DONE → (out.new ≡ out.old) × (size.new ≡ size.old) }
     ensures empty { result ≡ EMPTY ↔ (message.old.seal.message ≡ None) }
-    ensures answers { (result ≡ DONE) ⊎ (result ≡ EMPTY) ⊎ (result ≡ ABSENT) ⊎ (result ≡ BAD_PLACE) ⊎ (result ≡ MEMORY) }
+    ensures answers { (result ≡ DONE) ⊎ (result ≡ EMPTY) ⊎ (result ≡ ABSENT) ⊎ (result ≡ BAD_PLACE)
+        ⊎ (result ≡ MEMORY) }
     ensures same { message.new.seal.message ≡ message.old.seal.message }
 {
     let Some(mut own) = take(alloc, message) else {

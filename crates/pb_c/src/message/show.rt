@@ -3,31 +3,13 @@
 ghost use Rattle.std.specs.Prelude.{◌≡◌, ◌≢◌, ◌↔◌, ◌⊎◌, None, Some};
 ghost use Rattle.pb_value.specs.Dynamic.{Dynamic};
 ghost use Rattle.pb_listing.specs.Listing.{listing};
-ghost use Rattle.pb_c_reports.specs.Reporting.{IsLaid};
+ghost use Rattle.pb_c_answers.specs.Reporting.{IsLaid};
 
-use super::handle::{MessageHandle, put, take};
-use super::own::OwnMessage;
-use crate::typed::show::write_listing;
-use pb_c_held::{Held, take_body};
-use pb_c_reports::{DONE, EMPTY, MEMORY};
-use pb_value::bodies::from_well_formed;
+use crate::listed::show_own;
+use pb_c_answers::{DONE, EMPTY, MEMORY};
+use pb_c_handles::message::{MessageHandle, put, take};
+use pb_listing::FloatForm;
 use std::alloc::Global;
-
-/// Writes the listing of the message.
-fn show_own(alloc: Global, own: &mut OwnMessage, out: &mut [u8], size: &mut usize) -> u32
-    ensures written { result ≡ DONE → IsLaid (listing own.old) out.old out.new size.new }
-    ensures unwritten { result ≢ DONE → (out.new ≡ out.old) × (size.new ≡ size.old) }
-    ensures answers { (result ≡ DONE) ⊎ (result ≡ MEMORY) }
-    ensures same { own.new ≡ own.old }
-{
-    let Some(body) = take_body(alloc, &own.pool, own.message_type, &mut own.held) else {
-        return MEMORY;
-    };
-    let message = from_well_formed(alloc, &own.pool, own.message_type, body);
-    let answer = write_listing(alloc, &message, out, size);
-    own.held = Held::Fields(message.into_body());
-    answer
-}
 
 /// Writes the listing of the message, as `pbtool show` prints it, as much of it as the buffer holds, and reports its whole length.
 ///
@@ -39,7 +21,8 @@ pub extern "C" fn mb_message_show(
     out: &mut [u8],
     size: &mut usize,
 ) -> u32
-    ensures written { result ≡ DONE → (m : Dynamic) × (message.old.seal.message ≡ Some m) × IsLaid (listing m) out.old out.new size.new }
+    ensures written { result ≡ DONE → (m : Dynamic) × (message.old.seal.message ≡ Some m)
+        × IsLaid (listing m) out.old out.new size.new }
     ensures unwritten { result ≢ DONE → (out.new ≡ out.old) × (size.new ≡ size.old) }
     ensures empty { result ≡ EMPTY ↔ (message.old.seal.message ≡ None) }
     ensures answers { (result ≡ DONE) ⊎ (result ≡ EMPTY) ⊎ (result ≡ MEMORY) }
@@ -48,7 +31,7 @@ pub extern "C" fn mb_message_show(
     let Some(mut own) = take(alloc, message) else {
         return EMPTY;
     };
-    let answer = show_own(alloc, &mut own, out, size);
+    let answer = show_own(alloc, &mut own, FloatForm::Bits, out, size);
     put(message, own);
     answer
 }

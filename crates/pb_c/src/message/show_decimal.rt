@@ -1,54 +1,13 @@
 //! The listing of a message that a handle holds, with floats in decimal.
 
 ghost use Rattle.std.specs.Prelude.{◌≡◌, ◌≢◌, ◌↔◌, ◌⊎◌, None};
-ghost use Rattle.pb_c.specs.Message.Listed.{IsListed, IsListedDecimal};
+ghost use Rattle.pb_c.specs.Message.Listed.{IsListed};
 
-use super::handle::{MessageHandle, put, take};
-use super::own::OwnMessage;
-use pb_c_held::{Held, take_body};
-use pb_c_reports::{DONE, EMPTY, MEMORY, write_out};
-use pb_listing::{FloatForm, write_message_as};
-use pb_value::DynamicMessage;
-use pb_value::bodies::from_well_formed;
-use pb_wire::{FailurePlan, MemOutput};
+use crate::listed::show_own;
+use pb_c_answers::{DONE, EMPTY, MEMORY};
+use pb_c_handles::message::{MessageHandle, put, take};
+use pb_listing::FloatForm;
 use std::alloc::Global;
-
-/// Writes the listing of a message with floats in decimal. It is made in memory first, so nothing is written where that runs out.
-pub(crate) fn write_decimal(
-    alloc: Global,
-    message: &DynamicMessage<'_>,
-    out: &mut [u8],
-    size: &mut usize,
-) -> u32
-    ensures written { result ≡ DONE → IsListedDecimal message.now out.old out.new size.new }
-    ensures unwritten { result ≢ DONE → (out.new ≡ out.old) × (size.new ≡ size.old) }
-    ensures answers { (result ≡ DONE) ⊎ (result ≡ MEMORY) }
-{
-    let mut listing = MemOutput::new(alloc, usize::MAX, FailurePlan::NEVER);
-    match write_message_as(&mut listing, message, FloatForm::Decimal) {
-        Ok(()) => {
-            write_out(listing.bytes(), out, size);
-            DONE
-        }
-        Err(_) => MEMORY,
-    }
-}
-
-/// Writes the listing of a message that is owned.
-fn decimal_own(alloc: Global, own: &mut OwnMessage, out: &mut [u8], size: &mut usize) -> u32
-    ensures written { result ≡ DONE → IsListedDecimal own.old out.old out.new size.new }
-    ensures unwritten { result ≢ DONE → (out.new ≡ out.old) × (size.new ≡ size.old) }
-    ensures answers { (result ≡ DONE) ⊎ (result ≡ MEMORY) }
-    ensures same { own.new ≡ own.old }
-{
-    let Some(body) = take_body(alloc, &own.pool, own.message_type, &mut own.held) else {
-        return MEMORY;
-    };
-    let message = from_well_formed(alloc, &own.pool, own.message_type, body);
-    let answer = write_decimal(alloc, &message, out, size);
-    own.held = Held::Fields(message.into_body());
-    answer
-}
 
 /// Writes the listing of the message as `mb_message_show` does, but with each float as the shortest decimal that reads back to the same bits,
 /// or `nan`, `inf` or `-inf`, as `pbtool show --decimal` prints it.
@@ -70,7 +29,7 @@ pub extern "C" fn mb_message_show_decimal(
     let Some(mut own) = take(alloc, message) else {
         return EMPTY;
     };
-    let answer = decimal_own(alloc, &mut own, out, size);
+    let answer = show_own(alloc, &mut own, FloatForm::Decimal, out, size);
     put(message, own);
     answer
 }

@@ -1,16 +1,15 @@
 //! The unknown records of the message at a place.
 
 ghost use Rattle.std.specs.Prelude.{◌≡◌, ◌≢◌, ◌↔◌, ◌⊎◌, None, Some, MatchResult};
-ghost use Rattle.pb_c_values.specs.Answers.{Answers, IsMissed, unknown_in};
-ghost use Rattle.pb_c_reports.specs.Reporting.{IsLaid};
+ghost use Rattle.pb_c_message.specs.Answers.{Answers, IsMissed, unknown_in};
+ghost use Rattle.pb_c_answers.specs.Reporting.{IsLaid};
 ghost use Rattle.pb_c.specs.Message.Places.{IsAnswered};
 
-use super::handle::{MessageHandle, put, take};
 use super::miss::miss_number;
-use super::own::OwnMessage;
-use pb_c_held::{Held, take_body};
-use pb_c_reports::{ABSENT, BAD_PLACE, DONE, EMPTY, MEMORY, write_out};
-use pb_c_values::{Miss, PlainValue, unknown_at};
+use pb_c_answers::{ABSENT, BAD_PLACE, DONE, EMPTY, MEMORY, write_out};
+use pb_c_handles::message::own::OwnMessage;
+use pb_c_handles::message::{MessageHandle, put, take};
+use pb_c_message::{Held, Miss, PlainValue, take_body, unknown_at};
 use pb_value::bodies::from_well_formed;
 use std::alloc::Global;
 
@@ -52,7 +51,8 @@ pub extern "C" fn mb_message_unknown(
         (λ b. IsLaid b out.old out.new size.new) }
     ensures unwritten { result ≢ DONE → (out.new ≡ out.old) × (size.new ≡ size.old) }
     ensures empty { result ≡ EMPTY ↔ (message.old.seal.message ≡ None) }
-    ensures answers { (result ≡ DONE) ⊎ (result ≡ EMPTY) ⊎ (result ≡ ABSENT) ⊎ (result ≡ BAD_PLACE) ⊎ (result ≡ MEMORY) }
+    ensures answers { (result ≡ DONE) ⊎ (result ≡ EMPTY) ⊎ (result ≡ ABSENT) ⊎ (result ≡ BAD_PLACE)
+        ⊎ (result ≡ MEMORY) }
     ensures same { message.new.seal.message ≡ message.old.seal.message }
 {
     let Some(mut own) = take(alloc, message) else {

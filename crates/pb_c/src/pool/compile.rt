@@ -7,15 +7,15 @@ ghost use Rattle.pb_schema.specs.Types.{Types};
 ghost use Rattle.pb_source_tokens.specs.Fault.{out_of_memory};
 ghost use Rattle.pb_source.specs.Source.{HasFaultIn, IsSourceIn};
 ghost use Rattle.pb_source.specs.declared.reading.Reading.TheVariants.{Lenient, Strict};
-ghost use Rattle.pb_c.specs.Held.{HoldsNames, types_held};
+ghost use Rattle.pb_c_handles.specs.Held.{HoldsNames, types_held};
 ghost use Rattle.pb_json.specs.Given.{none_given};
 ghost use Rattle.pb_c.specs.PoolFault.{PoolFault, TellsRefusal};
 ghost use Rattle.pb_c.specs.SourcePool.{AreNames, AreNamed, AreRead, AreSources, IsLinkedAs, IsUnparsed, SourceFails, SourcesFail, SourcesMake};
 
 use super::linking::link_files;
 use super::refusal::Refusal;
-use crate::handle::{PoolHandle, take};
-use pb_c_reports::{BAD_NAME, DONE, MEMORY};
+use pb_c_answers::{BAD_NAME, DONE, MEMORY};
+use pb_c_handles::pool::{PoolHandle, take};
 use pb_declarations::FileDecl;
 use pb_link::without_enum_maps;
 use pb_source::reading::Reading;
@@ -63,7 +63,8 @@ fn parse_by(
     text: &[u8],
 ) -> Result<FileDecl, SourceFault>
     ensures declared { IfOk result (λ f. IsSourceIn grammar name.now text.now (file_view f)) }
-    ensures refused { IfErr result (λ e. (e ≡ out_of_memory) ⊎ HasFaultIn grammar text.now e.byte e.cause) }
+    ensures refused { IfErr result (λ e. (e ≡ out_of_memory)
+        ⊎ HasFaultIn grammar text.now e.byte e.cause) }
 {
     match grammar {
         Reading::Strict => parse(alloc, name, text),
@@ -81,7 +82,8 @@ fn parse_at(
 ) -> Result<FileDecl, Unparsed>
     requires { IsUtf8 name.now }
     ensures declared { IfOk result (λ f. IsSourceIn grammar name.now text.now (file_view f)) }
-    ensures refused { IfErr result (IsUnparsed (λ i byte c. (i ≡ index) × HasFaultIn grammar text.now byte c)) }
+    ensures refused { IfErr result
+        (IsUnparsed (λ i byte c. (i ≡ index) × HasFaultIn grammar text.now byte c)) }
 {
     let Ok(name) = std::str::from_utf8(name) else {
         unreachable!()
@@ -106,7 +108,8 @@ fn parse_all(
     texts: &[&[u8]],
 ) -> Result<Vec<FileDecl>, Unparsed>
     requires { AreNamed names.now texts.now }
-    ensures declared { IfOk result (λ v. AreSources grammar names.now texts.now (map file_view v.items)) }
+    ensures declared { IfOk result
+        (λ v. AreSources grammar names.now texts.now (map file_view v.items)) }
     ensures refused { IfErr result (IsUnparsed (SourceFails grammar names.now texts.now)) }
 {
     let mut files = Vec::new(alloc);
@@ -123,7 +126,8 @@ fn files_to_link(
     grammar: Reading,
     parsed: Vec<FileDecl>,
 ) -> Result<Vec<FileDecl>, AllocError>
-    ensures { IfOk result (λ v. IsLinkedAs grammar (map file_view parsed.items) (map file_view v.items)) }
+    ensures { IfOk result (λ v. IsLinkedAs grammar (map file_view parsed.items)
+        (map file_view v.items)) }
 {
     match grammar {
         Reading::Strict => Ok(parsed),
@@ -151,7 +155,9 @@ fn read_all(
 
 /// Reports why sources are not parsed, and answers by its number.
 fn tell_source(error: &Unparsed, refusal: &mut Refusal) -> u32
-    ensures told { IsUnparsed (λ i byte c. (text : List ℕ) → TellsRefusal (PoolFault.in_source i byte c) result refusal.old refusal.new text text) error.now }
+    ensures told { IsUnparsed (λ i byte c. (text : List ℕ)
+        → TellsRefusal (PoolFault.in_source i byte c) result refusal.old refusal.new text text)
+        error.now }
     ensures memory { error.now ≡ Unparsed.Memory → (result ≡ MEMORY) × (refusal.new ≡ refusal.old) }
 {
     match error {
@@ -178,13 +184,16 @@ fn compile_sources(
     refusal: &mut Refusal,
     text: &mut [u8],
 ) -> u32
-    ensures made { result ≡ DONE → (ts : Types) × SourcesMake grammar names.now texts.now ts × (types_held pool.new ≡ Some ts) }
+    ensures made { result ≡ DONE → (ts : Types) × SourcesMake grammar names.now texts.now ts
+        × (types_held pool.new ≡ Some ts) }
     ensures no_names { result ≡ DONE → HoldsNames (λ ts names. names ≡ none_given) pool.new }
     ensures left { result ≢ DONE → types_held pool.new ≡ None }
     ensures bad_name { result ≡ BAD_NAME ↔ ¬ AreNamed names.now texts.now }
-    ensures refused { AreNamed names.now texts.now → result ≢ DONE → result ≢ MEMORY → (w : PoolFault) × SourcesFail grammar names.now texts.now w
+    ensures refused { AreNamed names.now texts.now → result ≢ DONE → result ≢ MEMORY
+        → (w : PoolFault) × SourcesFail grammar names.now texts.now w
         × TellsRefusal w result refusal.old refusal.new text.old text.new }
-    ensures untold { (result ≡ DONE) ⊎ (result ≡ BAD_NAME) ⊎ (result ≡ MEMORY) → (refusal.new ≡ refusal.old) × (text.new ≡ text.old) }
+    ensures untold { (result ≡ DONE) ⊎ (result ≡ BAD_NAME) ⊎ (result ≡ MEMORY)
+        → (refusal.new ≡ refusal.old) × (text.new ≡ text.old) }
 {
     let _ = take(alloc, pool);
     if names.len() != texts.len() || !are_names(names) {
@@ -212,18 +221,23 @@ pub extern "C" fn mb_pool_compile(
     refusal: &mut Refusal,
     text: &mut [u8],
 ) -> u32
-    ensures made { result ≡ DONE → (ts : Types) × SourcesMake Strict names.now texts.now ts × (types_held pool.new ≡ Some ts) }
+    ensures made { result ≡ DONE → (ts : Types) × SourcesMake Strict names.now texts.now ts
+        × (types_held pool.new ≡ Some ts) }
     ensures no_names { result ≡ DONE → HoldsNames (λ ts names. names ≡ none_given) pool.new }
     ensures left { result ≢ DONE → types_held pool.new ≡ None }
     ensures bad_name { result ≡ BAD_NAME ↔ ¬ AreNamed names.now texts.now }
-    ensures refused { AreNamed names.now texts.now → result ≢ DONE → result ≢ MEMORY → (w : PoolFault) × SourcesFail Strict names.now texts.now w
+    ensures refused { AreNamed names.now texts.now → result ≢ DONE → result ≢ MEMORY
+        → (w : PoolFault) × SourcesFail Strict names.now texts.now w
         × TellsRefusal w result refusal.old refusal.new text.old text.new }
-    ensures untold { (result ≡ DONE) ⊎ (result ≡ BAD_NAME) ⊎ (result ≡ MEMORY) → (refusal.new ≡ refusal.old) × (text.new ≡ text.old) }
+    ensures untold { (result ≡ DONE) ⊎ (result ≡ BAD_NAME) ⊎ (result ≡ MEMORY)
+        → (refusal.new ≡ refusal.old) × (text.new ≡ text.old) }
 
     // What makes a pool is linked, and the fault of what makes none is reported, unless memory runs out.
-    ensures accepted { AreNamed names.now texts.now → (ts : Types) → SourcesMake Strict names.now texts.now ts
+    ensures accepted { AreNamed names.now texts.now → (ts : Types)
+        → SourcesMake Strict names.now texts.now ts
         → ((result ≡ DONE) × (types_held pool.new ≡ Some ts)) ⊎ (result ≡ MEMORY) }
-    ensures told { AreNamed names.now texts.now → (w : PoolFault) → SourcesFail Strict names.now texts.now w
+    ensures told { AreNamed names.now texts.now → (w : PoolFault)
+        → SourcesFail Strict names.now texts.now w
         → TellsRefusal w result refusal.old refusal.new text.old text.new ⊎ (result ≡ MEMORY) }
 {
     compile_sources(alloc, Reading::Strict, names, texts, pool, refusal, text)
@@ -244,18 +258,23 @@ pub extern "C" fn mb_pool_compile_lenient(
     refusal: &mut Refusal,
     text: &mut [u8],
 ) -> u32
-    ensures made { result ≡ DONE → (ts : Types) × SourcesMake Lenient names.now texts.now ts × (types_held pool.new ≡ Some ts) }
+    ensures made { result ≡ DONE → (ts : Types) × SourcesMake Lenient names.now texts.now ts
+        × (types_held pool.new ≡ Some ts) }
     ensures no_names { result ≡ DONE → HoldsNames (λ ts names. names ≡ none_given) pool.new }
     ensures left { result ≢ DONE → types_held pool.new ≡ None }
     ensures bad_name { result ≡ BAD_NAME ↔ ¬ AreNamed names.now texts.now }
-    ensures refused { AreNamed names.now texts.now → result ≢ DONE → result ≢ MEMORY → (w : PoolFault) × SourcesFail Lenient names.now texts.now w
+    ensures refused { AreNamed names.now texts.now → result ≢ DONE → result ≢ MEMORY
+        → (w : PoolFault) × SourcesFail Lenient names.now texts.now w
         × TellsRefusal w result refusal.old refusal.new text.old text.new }
-    ensures untold { (result ≡ DONE) ⊎ (result ≡ BAD_NAME) ⊎ (result ≡ MEMORY) → (refusal.new ≡ refusal.old) × (text.new ≡ text.old) }
+    ensures untold { (result ≡ DONE) ⊎ (result ≡ BAD_NAME) ⊎ (result ≡ MEMORY)
+        → (refusal.new ≡ refusal.old) × (text.new ≡ text.old) }
 
     // What makes a pool is linked, and the fault of what makes none is reported, unless memory runs out.
-    ensures accepted { AreNamed names.now texts.now → (ts : Types) → SourcesMake Lenient names.now texts.now ts
+    ensures accepted { AreNamed names.now texts.now → (ts : Types)
+        → SourcesMake Lenient names.now texts.now ts
         → ((result ≡ DONE) × (types_held pool.new ≡ Some ts)) ⊎ (result ≡ MEMORY) }
-    ensures told { AreNamed names.now texts.now → (w : PoolFault) → SourcesFail Lenient names.now texts.now w
+    ensures told { AreNamed names.now texts.now → (w : PoolFault)
+        → SourcesFail Lenient names.now texts.now w
         → TellsRefusal w result refusal.old refusal.new text.old text.new ⊎ (result ≡ MEMORY) }
 {
     compile_sources(alloc, Reading::Lenient, names, texts, pool, refusal, text)

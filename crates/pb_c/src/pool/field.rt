@@ -5,11 +5,11 @@ ghost use Rattle.pb_schema.specs.Tables.{field_named};
 ghost use Rattle.pb_schema.specs.Types.{FieldView, Types, message_fields};
 ghost use Rattle.pb_schema.specs.View.{field_view};
 ghost use Rattle.pb_c.specs.Field.{field_report, key_number, kind_number, shape_number, type_number};
-ghost use Rattle.pb_c.specs.Held.{types_held};
-ghost use Rattle.pb_c_reports.specs.Typed.{HasType, LacksType};
+ghost use Rattle.pb_c_handles.specs.Held.{types_held};
+ghost use Rattle.pb_c_answers.specs.Typed.{HasType, LacksType};
 
-use crate::handle::{PoolHandle, put, take};
-use pb_c_reports::{ABSENT, DONE, EMPTY, NO_TYPE, type_numbered};
+use pb_c_answers::{ABSENT, DONE, EMPTY, NO_TYPE, type_numbered};
+use pb_c_handles::pool::{PoolHandle, put, take};
 use pb_schema::{Field, Kind, Pool, Shape};
 use std::alloc::Global;
 
@@ -99,8 +99,9 @@ pub(crate) fn report_field(field: &Field) -> FieldReport
 /// What the field of a simple name is in the message type of a number, or what a call answers.
 fn find_field(pool: &Pool, number: u32, name: &[u8]) -> Result<FieldReport, u32>
     ensures no_type { result ≡ Err NO_TYPE ↔ length pool.now.messages ≤ number }
-    ensures found { number < length pool.now.messages → MatchResult result
-        (λ r. option_map field_report (field_named name.now (message_fields pool.now number)) ≡ Some r)
+    ensures found { number < length pool.now.messages
+        → MatchResult result (λ r. option_map field_report
+        (field_named name.now (message_fields pool.now number)) ≡ Some r)
         (λ a. (a ≡ ABSENT) × (field_named name.now (message_fields pool.now number) ≡ None)) }
 {
     let Some(message_type) = type_numbered(pool, number) else {
@@ -130,7 +131,8 @@ pub extern "C" fn mb_pool_field(
     field: &mut FieldReport,
 ) -> u32
     ensures found { result ≡ DONE → (ts : Types) × HasType (types_held pool.old) message_type ts
-        × ((f : FieldView) × (field_named name.now (message_fields ts message_type) ≡ Some f) × (field.new ≡ field_report f)) }
+        × ((f : FieldView) × (field_named name.now (message_fields ts message_type) ≡ Some f)
+        × (field.new ≡ field_report f)) }
     ensures absent { result ≡ ABSENT ↔ (ts : Types) × HasType (types_held pool.old) message_type ts
         × (field_named name.now (message_fields ts message_type) ≡ None) }
     ensures untold { result ≢ DONE → field.new ≡ field.old }

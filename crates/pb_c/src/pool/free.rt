@@ -2,7 +2,7 @@
 
 ghost use Rattle.std.specs.Prelude.{◌≡◌};
 
-use crate::handle::{PoolHandle, take};
+use pb_c_handles::pool::{PoolHandle, take};
 use std::alloc::Global;
 
 /// Frees what a handle holds, which holds nothing then. The pool itself is freed with the last handle that shares it.

@@ -2,15 +2,15 @@
 
 ghost use Rattle.std.specs.Prelude.{◌≡◌, ◌≢◌, ◌≤◌, ◌⊎◌};
 ghost use Rattle.pb_schema.specs.Types.{Types};
-ghost use Rattle.pb_c.specs.Held.{HoldsNames, types_held};
+ghost use Rattle.pb_c_handles.specs.Held.{HoldsNames, types_held};
 ghost use Rattle.pb_json_names.specs.Names.{AreNamesOf};
 ghost use Rattle.pb_c.specs.PoolFault.{PoolFault, TellsFault};
 ghost use Rattle.pb_c.specs.SetPool.{SetFails, SetMakes};
 
 use super::linking::link_files;
 use super::refusal::{Refusal, tell_set};
-use crate::handle::{PoolHandle, take};
-use pb_c_reports::{DONE, FAULT, FaultReport, MEMORY, Step};
+use pb_c_answers::{DONE, FAULT, FaultReport, MEMORY, Step};
+use pb_c_handles::pool::{PoolHandle, take};
 use pb_descr::read_set;
 use std::alloc::Global;
 
@@ -24,13 +24,17 @@ fn link_set(
     refusal: &mut Refusal,
     text: &mut [u8],
 ) -> u32
-    ensures made { result ≡ DONE → (ts : Types) × SetMakes set.now ts × (types_held pool.new ≡ Some ts) }
+    ensures made { result ≡ DONE → (ts : Types) × SetMakes set.now ts
+        × (types_held pool.new ≡ Some ts) }
     ensures names { result ≡ DONE → HoldsNames (λ ts names. AreNamesOf ts set.now names) pool.new }
     ensures left { result ≢ DONE → types_held pool.new ≡ None }
-    ensures refused { result ≢ DONE → result ≢ MEMORY → (w : PoolFault) × SetFails set.now w
-        × TellsFault w result fault.old fault.new path.old path.new refusal.old refusal.new text.old text.new }
-    ensures untold { (result ≡ DONE) ⊎ (result ≡ MEMORY) → (fault.new ≡ fault.old) × (path.new ≡ path.old)
-        × (refusal.new ≡ refusal.old) × (text.new ≡ text.old) }
+    ensures refused { result ≢ DONE → result ≢ MEMORY
+        → (w : PoolFault) × SetFails set.now w
+        × TellsFault w result fault.old fault.new path.old path.new refusal.old refusal.new text.old
+        text.new }
+    ensures untold { (result ≡ DONE) ⊎ (result ≡ MEMORY)
+        → (fault.new ≡ fault.old) × (path.new ≡ path.old) × (refusal.new ≡ refusal.old)
+        × (text.new ≡ text.old) }
 {
     let _ = take(alloc, pool);
     match read_set(alloc, set) {
@@ -56,19 +60,25 @@ pub extern "C" fn mb_pool_link(
     refusal: &mut Refusal,
     text: &mut [u8],
 ) -> u32
-    ensures made { result ≡ DONE → (ts : Types) × SetMakes set.now ts × (types_held pool.new ≡ Some ts) }
+    ensures made { result ≡ DONE → (ts : Types) × SetMakes set.now ts
+        × (types_held pool.new ≡ Some ts) }
     ensures names { result ≡ DONE → HoldsNames (λ ts names. AreNamesOf ts set.now names) pool.new }
     ensures left { result ≢ DONE → types_held pool.new ≡ None }
-    ensures refused { result ≢ DONE → result ≢ MEMORY → (w : PoolFault) × SetFails set.now w
-        × TellsFault w result fault.old fault.new path.old path.new refusal.old refusal.new text.old text.new }
+    ensures refused { result ≢ DONE → result ≢ MEMORY
+        → (w : PoolFault) × SetFails set.now w
+        × TellsFault w result fault.old fault.new path.old path.new refusal.old refusal.new text.old
+        text.new }
     ensures steps { result ≡ FAULT → fault.new.steps ≤ 201 }
-    ensures untold { (result ≡ DONE) ⊎ (result ≡ MEMORY) → (fault.new ≡ fault.old) × (path.new ≡ path.old)
-        × (refusal.new ≡ refusal.old) × (text.new ≡ text.old) }
+    ensures untold { (result ≡ DONE) ⊎ (result ≡ MEMORY)
+        → (fault.new ≡ fault.old) × (path.new ≡ path.old) × (refusal.new ≡ refusal.old)
+        × (text.new ≡ text.old) }
 
     // What makes a pool is linked, and the fault of what makes none is reported, unless memory runs out.
-    ensures accepted { (ts : Types) → SetMakes set.now ts → ((result ≡ DONE) × (types_held pool.new ≡ Some ts)) ⊎ (result ≡ MEMORY) }
+    ensures accepted { (ts : Types) → SetMakes set.now ts
+        → ((result ≡ DONE) × (types_held pool.new ≡ Some ts)) ⊎ (result ≡ MEMORY) }
     ensures told { (w : PoolFault) → SetFails set.now w
-        → TellsFault w result fault.old fault.new path.old path.new refusal.old refusal.new text.old text.new ⊎ (result ≡ MEMORY) }
+        → TellsFault w result fault.old fault.new path.old path.new refusal.old refusal.new text.old
+        text.new ⊎ (result ≡ MEMORY) }
 {
     link_set(alloc, set, pool, fault, path, refusal, text)
 }

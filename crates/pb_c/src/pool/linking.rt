@@ -6,13 +6,14 @@ ghost use Rattle.pb_link.specs.Linking.{Links};
 ghost use Rattle.pb_link_rules.specs.Faults.{LinkFault};
 ghost use Rattle.pb_link_rules.specs.declared.cause.LinkCause.{LinkCause as CauseValue};
 ghost use Rattle.pb_schema.specs.Types.{Types};
-ghost use Rattle.pb_c.specs.Held.{AreNamesBy, HoldsNames, types_held};
+ghost use Rattle.pb_c_handles.specs.Held.{HoldsNames, types_held};
+ghost use Rattle.pb_c.specs.PoolNames.{AreNamesBy};
 ghost use Rattle.pb_c.specs.PoolFault.{PoolFault, TellsRefusal};
 
 use super::refusal::{Refusal, tell_link};
-use crate::handle::shared::Shared;
-use crate::handle::{PoolHandle, put};
-use pb_c_reports::{DONE, MEMORY};
+use pb_c_answers::{DONE, MEMORY};
+use pb_c_handles::pool::shared::Shared;
+use pb_c_handles::pool::{PoolHandle, put};
 use pb_declarations::FileDecl;
 use pb_json::JsonNames;
 use pb_json_names::names_of_set;
@@ -69,12 +70,16 @@ pub(super) fn link_files(
     text: &mut [u8],
 ) -> u32
     requires { pool.old.seal.pool ≡ None }
-    ensures made { result ≡ DONE → (ts : Types) × Links (map file_view files.now) ts × (types_held pool.new ≡ Some ts) }
+    ensures made { result ≡ DONE → (ts : Types) × Links (map file_view files.now) ts
+        × (types_held pool.new ≡ Some ts) }
     ensures names { result ≡ DONE → HoldsNames (AreNamesBy set.entry) pool.new }
     ensures left { result ≢ DONE → types_held pool.new ≡ None }
-    ensures refused { result ≢ DONE → result ≢ MEMORY → (file name : List ℕ) × (c : CauseValue) × LinkFault (map file_view files.now) file name c
-        × TellsRefusal (PoolFault.in_link file name c) result refusal.old refusal.new text.old text.new }
-    ensures untold { (result ≡ DONE) ⊎ (result ≡ MEMORY) → (refusal.new ≡ refusal.old) × (text.new ≡ text.old) }
+    ensures refused { result ≢ DONE → result ≢ MEMORY
+        → (file name : List ℕ) × (c : CauseValue) × LinkFault (map file_view files.now) file name c
+        × TellsRefusal (PoolFault.in_link file name c) result refusal.old refusal.new text.old
+        text.new }
+    ensures untold { (result ≡ DONE) ⊎ (result ≡ MEMORY)
+        → (refusal.new ≡ refusal.old) × (text.new ≡ text.old) }
 {
     match link(alloc, files) {
         Ok(made) => hold(alloc, made, set, pool),

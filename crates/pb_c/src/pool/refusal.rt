@@ -2,9 +2,9 @@
 
 ghost use Rattle.std.specs.Prelude.{◌≡◌, ◌++◌, ℕ, List, IfSome};
 ghost use Rattle.pb_c.specs.PoolFault.{TellsBytes, TellsRefusal, link_fault, set_fault};
-ghost use Rattle.pb_c_reports.specs.Reporting.{laid_over};
+ghost use Rattle.pb_c_answers.specs.Reporting.{laid_over};
 
-use pb_c_reports::{FaultReport, MEMORY, Step, lay_over, tell_fault};
+use pb_c_answers::{FaultReport, MEMORY, Step, lay_over, tell_fault};
 use pb_descr::DescrError;
 use pb_link::LinkError;
 
@@ -38,9 +38,13 @@ pub(super) fn tell_set(
     path: &mut [Step],
     refusal: &mut Refusal,
 ) -> u32
-    ensures bytes { IfSome (set_fault error.now) (λ w. TellsBytes w fault.old fault.new path.old path.new) }
-    ensures refusal { IfSome (set_fault error.now) (λ w. (text : List ℕ) → TellsRefusal w result refusal.old refusal.new text text) }
-    ensures memory { error.now ≡ DescrError.Memory → (result ≡ MEMORY) × (fault.new ≡ fault.old) × (path.new ≡ path.old) × (refusal.new ≡ refusal.old) }
+    ensures bytes { IfSome (set_fault error.now)
+        (λ w. TellsBytes w fault.old fault.new path.old path.new) }
+    ensures refusal { IfSome (set_fault error.now)
+        (λ w. (text : List ℕ) → TellsRefusal w result refusal.old refusal.new text text) }
+    ensures memory { error.now ≡ DescrError.Memory
+        → (result ≡ MEMORY) × (fault.new ≡ fault.old) × (path.new ≡ path.old)
+        × (refusal.new ≡ refusal.old) }
 {
     match error {
         DescrError::Fault {
@@ -63,8 +67,10 @@ pub(super) fn tell_set(
 
 /// Reports why files do not link, and answers by its number.
 pub(super) fn tell_link(error: &LinkError, refusal: &mut Refusal, text: &mut [u8]) -> u32
-    ensures fault { IfSome (link_fault error.now) (λ w. TellsRefusal w result refusal.old refusal.new text.old text.new) }
-    ensures memory { error.now ≡ LinkError.Memory → (result ≡ MEMORY) × (refusal.new ≡ refusal.old) × (text.new ≡ text.old) }
+    ensures fault { IfSome (link_fault error.now)
+        (λ w. TellsRefusal w result refusal.old refusal.new text.old text.new) }
+    ensures memory { error.now ≡ LinkError.Memory
+        → (result ≡ MEMORY) × (refusal.new ≡ refusal.old) × (text.new ≡ text.old) }
 {
     match error {
         LinkError::Fault {

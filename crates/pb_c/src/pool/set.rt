@@ -3,15 +3,15 @@
 ghost use Rattle.std.specs.Prelude.{◌≡◌, ◌≢◌, ◌<◌, ◌≤◌, ◌^◌, ◌↔◌, ◌⊎◌, List, ℕ, None, Some, length, Err, IfOk, IfErr};
 ghost use Rattle.pb_schema.specs.Types.{Types};
 ghost use Rattle.pb_value.specs.Data.{message_depth};
-ghost use Rattle.pb_descr.specs.Sets.{set_bytes};
-ghost use Rattle.pb_descr.specs.Writing.{set_body};
+ghost use Rattle.pb_descr_message.specs.Sets.{set_bytes};
+ghost use Rattle.pb_descr_message.specs.Writing.{set_body};
 ghost use Rattle.pb_link.specs.ToDecls.{decls_of};
-ghost use Rattle.pb_c.specs.Held.{types_held};
+ghost use Rattle.pb_c_handles.specs.Held.{types_held};
 ghost use Rattle.pb_c.specs.SetPool.{IsSetOfPool};
-ghost use Rattle.pb_c_reports.specs.Reporting.{IsLaid};
+ghost use Rattle.pb_c_answers.specs.Reporting.{IsLaid};
 
-use crate::handle::{PoolHandle, put, take};
-use pb_c_reports::{DONE, EMPTY, MEMORY, TOO_DEEP, TOO_LARGE, write_out};
+use pb_c_answers::{DONE, EMPTY, MEMORY, TOO_DEEP, TOO_LARGE, write_out};
+use pb_c_handles::pool::{PoolHandle, put, take};
 use pb_descr::{WriteSetError, write_set};
 use pb_link::to_decls;
 use pb_schema::Pool;
@@ -37,11 +37,13 @@ fn set_of(alloc: Global, pool: &Pool) -> Result<Vec<u8>, u32>
 
 /// Writes the bytes of a set of a pool's types.
 fn write_pool(alloc: Global, pool: &Pool, out: &mut [u8], size: &mut usize) -> u32
-    ensures written { result ≡ DONE → (b : List ℕ) × IsSetOfPool pool.now b × IsLaid b out.old out.new size.new }
+    ensures written { result ≡ DONE → (b : List ℕ) × IsSetOfPool pool.now b
+        × IsLaid b out.old out.new size.new }
     ensures too_large { result ≡ TOO_LARGE → 2 ^ 31 ≤ length (set_bytes (decls_of pool.now)) }
     ensures too_deep { result ≡ TOO_DEEP → 100 < message_depth (set_body (decls_of pool.now)) }
     ensures unwritten { result ≢ DONE → (out.new ≡ out.old) × (size.new ≡ size.old) }
-    ensures answers { (result ≡ DONE) ⊎ (result ≡ TOO_LARGE) ⊎ (result ≡ TOO_DEEP) ⊎ (result ≡ MEMORY) }
+    ensures answers { (result ≡ DONE) ⊎ (result ≡ TOO_LARGE) ⊎ (result ≡ TOO_DEEP)
+        ⊎ (result ≡ MEMORY) }
 {
     match set_of(alloc, pool) {
         Ok(set) => {
@@ -66,11 +68,14 @@ pub extern "C" fn mb_pool_set(
 ) -> u32
     ensures written { result ≡ DONE → (ts : Types) × (types_held pool.old ≡ Some ts)
         × ((b : List ℕ) × IsSetOfPool ts b × IsLaid b out.old out.new size.new) }
-    ensures too_large { result ≡ TOO_LARGE → (ts : Types) × (types_held pool.old ≡ Some ts) × (2 ^ 31 ≤ length (set_bytes (decls_of ts))) }
-    ensures too_deep { result ≡ TOO_DEEP → (ts : Types) × (types_held pool.old ≡ Some ts) × (100 < message_depth (set_body (decls_of ts))) }
+    ensures too_large { result ≡ TOO_LARGE → (ts : Types) × (types_held pool.old ≡ Some ts)
+        × (2 ^ 31 ≤ length (set_bytes (decls_of ts))) }
+    ensures too_deep { result ≡ TOO_DEEP → (ts : Types) × (types_held pool.old ≡ Some ts)
+        × (100 < message_depth (set_body (decls_of ts))) }
     ensures unwritten { result ≢ DONE → (out.new ≡ out.old) × (size.new ≡ size.old) }
     ensures empty { result ≡ EMPTY ↔ (types_held pool.old ≡ None) }
-    ensures answers { (result ≡ DONE) ⊎ (result ≡ EMPTY) ⊎ (result ≡ TOO_LARGE) ⊎ (result ≡ TOO_DEEP) ⊎ (result ≡ MEMORY) }
+    ensures answers { (result ≡ DONE) ⊎ (result ≡ EMPTY) ⊎ (result ≡ TOO_LARGE)
+        ⊎ (result ≡ TOO_DEEP) ⊎ (result ≡ MEMORY) }
     ensures same { pool.new.seal.pool ≡ pool.old.seal.pool }
 {
     let Some(shared) = take(alloc, pool) else {

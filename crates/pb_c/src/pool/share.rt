@@ -1,11 +1,11 @@
 //! One pool for several handles.
 
 ghost use Rattle.std.specs.Prelude.{◌≡◌, ◌≢◌, ◌↔◌, ◌⊎◌, IfOk};
-ghost use Rattle.pb_c.specs.Held.{names_held, types_held};
+ghost use Rattle.pb_c_handles.specs.Held.{names_held, types_held};
 
-use crate::handle::shared::Shared;
-use crate::handle::{PoolHandle, put, take};
-use pb_c_reports::{DONE, EMPTY, MEMORY};
+use pb_c_answers::{DONE, EMPTY, MEMORY};
+use pb_c_handles::pool::shared::Shared;
+use pb_c_handles::pool::{PoolHandle, put, take};
 use std::alloc::{AllocError, Global};
 use std::sync::Arc;
 

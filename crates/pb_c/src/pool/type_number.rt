@@ -2,10 +2,11 @@
 
 ghost use Rattle.std.specs.Prelude.{◌≡◌, ◌≢◌, ◌↔◌, ◌⊎◌, ℕ, IfSome};
 ghost use Rattle.pb_schema.specs.Types.{Types};
-ghost use Rattle.pb_c.specs.Held.{HasNumber, types_held};
+ghost use Rattle.pb_c_handles.specs.Held.{types_held};
+ghost use Rattle.pb_c.specs.PoolNames.{HasNumber};
 
-use crate::handle::{PoolHandle, put, take};
-use pb_c_reports::{DONE, EMPTY, NO_TYPE};
+use pb_c_answers::{DONE, EMPTY, NO_TYPE};
+use pb_c_handles::pool::{PoolHandle, put, take};
 use pb_schema::Pool;
 use std::alloc::Global;
 
@@ -34,11 +35,14 @@ pub extern "C" fn mb_pool_type(
     number: &mut u32,
 ) -> u32
     ensures same { pool.new.seal.pool ≡ pool.old.seal.pool }
-    ensures found { result ≡ DONE → (ts : Types) × (types_held pool.old ≡ Some ts) × HasNumber ts name.now number.new }
+    ensures found { result ≡ DONE → (ts : Types) × (types_held pool.old ≡ Some ts)
+        × HasNumber ts name.now number.new }
     ensures untold { result ≢ DONE → number.new ≡ number.old }
     ensures empty { result ≡ EMPTY ↔ (types_held pool.old ≡ None) }
-    ensures named { (ts : Types) → types_held pool.old ≡ Some ts → (m : ℕ) → HasNumber ts name.now m → (result ≡ DONE) × (number.new ≡ m) }
-    ensures unnamed { (ts : Types) → types_held pool.old ≡ Some ts → (result ≡ NO_TYPE ↔ ((m : ℕ) → ¬ HasNumber ts name.now m)) }
+    ensures named { (ts : Types) → types_held pool.old ≡ Some ts → (m : ℕ) → HasNumber ts name.now m
+        → (result ≡ DONE) × (number.new ≡ m) }
+    ensures unnamed { (ts : Types) → types_held pool.old ≡ Some ts
+        → (result ≡ NO_TYPE ↔ ((m : ℕ) → ¬ HasNumber ts name.now m)) }
     ensures answers { (result ≡ DONE) ⊎ (result ≡ EMPTY) ⊎ (result ≡ NO_TYPE) }
 {
     let Some(shared) = take(alloc, pool) else {

@@ -5,10 +5,10 @@ ghost use Rattle.pb_wire.specs.Exact.{IsSomeText};
 ghost use Rattle.pb_wire.specs.Fault.{Fault};
 ghost use Rattle.pb_wire.specs.Grammar.{HasFault};
 ghost use Rattle.pb_wire.specs.Schema.{blank};
-ghost use Rattle.pb_c_reports.specs.Reporting.{AreLimits, Tells, bounds};
+ghost use Rattle.pb_c_answers.specs.Reporting.{AreLimits, Tells, bounds};
 
 use super::tell_raw;
-use pb_c_reports::{BAD_LIMITS, DONE, FAULT, FaultReport, MEMORY, Step};
+use pb_c_answers::{BAD_LIMITS, DONE, FAULT, FaultReport, MEMORY, Step};
 use pb_wire::{Limits, judge_raw};
 use std::alloc::Global;
 
@@ -26,16 +26,19 @@ pub extern "C" fn mb_raw_check(
     path: &mut [Step],
 ) -> u32
     ensures text { result ≡ DONE → IsSomeText blank tt (bounds max_bytes max_depth) bytes.now }
-    ensures fault { result ≡ FAULT → (f : Fault) × HasFault blank tt (bounds max_bytes max_depth) bytes.now f
+    ensures fault { result ≡ FAULT → (f : Fault)
+        × HasFault blank tt (bounds max_bytes max_depth) bytes.now f
         × Tells f fault.new path.old path.new }
     ensures steps { result ≡ FAULT → fault.new.steps ≤ max_depth + 1 }
     ensures untold { result ≢ FAULT → (fault.new ≡ fault.old) × (path.new ≡ path.old) }
     ensures limits { result ≡ BAD_LIMITS ↔ ¬ AreLimits max_bytes max_depth }
 
     // Each valid input is accepted and each fault is reported, unless memory runs out.
-    ensures accepted { AreLimits max_bytes max_depth → IsSomeText blank tt (bounds max_bytes max_depth) bytes.now
+    ensures accepted { AreLimits max_bytes max_depth
+        → IsSomeText blank tt (bounds max_bytes max_depth) bytes.now
         → (result ≡ DONE) ⊎ (result ≡ MEMORY) }
-    ensures refused { AreLimits max_bytes max_depth → (f : Fault) → HasFault blank tt (bounds max_bytes max_depth) bytes.now f
+    ensures refused { AreLimits max_bytes max_depth → (f : Fault)
+        → HasFault blank tt (bounds max_bytes max_depth) bytes.now f
         → ((result ≡ FAULT) × Tells f fault.new path.old path.new) ⊎ (result ≡ MEMORY) }
 {
     let Some(limits) = Limits::new(max_bytes, max_depth) else {

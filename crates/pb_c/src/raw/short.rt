@@ -6,10 +6,10 @@ ghost use Rattle.pb_wire.specs.Grammar.{IsText, HasFault};
 ghost use Rattle.pb_wire.specs.Record.{Record};
 ghost use Rattle.pb_wire.specs.Schema.{blank};
 ghost use Rattle.pb_wire.specs.Spell.{shortest_records};
-ghost use Rattle.pb_c_reports.specs.Reporting.{AreLimits, IsLaid, Tells, bounds};
+ghost use Rattle.pb_c_answers.specs.Reporting.{AreLimits, IsLaid, Tells, bounds};
 
 use super::tell_raw;
-use pb_c_reports::{BAD_LIMITS, DONE, FAULT, FaultReport, MEMORY, Step, lay_over};
+use pb_c_answers::{BAD_LIMITS, DONE, FAULT, FaultReport, MEMORY, Step, lay_over};
 use pb_wire::{Limits, read_raw, write_raw};
 use std::alloc::Global;
 
@@ -27,9 +27,11 @@ pub extern "C" fn mb_raw_short(
     fault: &mut FaultReport,
     path: &mut [Step],
 ) -> u32
-    ensures text { result ≡ DONE → (rs : List Record) × IsText blank tt (bounds max_bytes max_depth) bytes.now rs
+    ensures text { result ≡ DONE → (rs : List Record)
+        × IsText blank tt (bounds max_bytes max_depth) bytes.now rs
         × IsLaid (shortest_records rs) out.old out.new size.new }
-    ensures fault { result ≡ FAULT → (f : Fault) × HasFault blank tt (bounds max_bytes max_depth) bytes.now f
+    ensures fault { result ≡ FAULT → (f : Fault)
+        × HasFault blank tt (bounds max_bytes max_depth) bytes.now f
         × Tells f fault.new path.old path.new }
     ensures steps { result ≡ FAULT → fault.new.steps ≤ max_depth + 1 }
     ensures unwritten { result ≢ DONE → (out.new ≡ out.old) × (size.new ≡ size.old) }
@@ -37,9 +39,12 @@ pub extern "C" fn mb_raw_short(
     ensures limits { result ≡ BAD_LIMITS ↔ ¬ AreLimits max_bytes max_depth }
 
     // Each valid input is accepted and each fault is reported, unless memory runs out.
-    ensures accepted { AreLimits max_bytes max_depth → (rs : List Record) → IsText blank tt (bounds max_bytes max_depth) bytes.now rs
-        → ((result ≡ DONE) × IsLaid (shortest_records rs) out.old out.new size.new) ⊎ (result ≡ MEMORY) }
-    ensures refused { AreLimits max_bytes max_depth → (f : Fault) → HasFault blank tt (bounds max_bytes max_depth) bytes.now f
+    ensures accepted { AreLimits max_bytes max_depth → (rs : List Record)
+        → IsText blank tt (bounds max_bytes max_depth) bytes.now rs
+        → ((result ≡ DONE) × IsLaid (shortest_records rs) out.old out.new size.new)
+        ⊎ (result ≡ MEMORY) }
+    ensures refused { AreLimits max_bytes max_depth → (f : Fault)
+        → HasFault blank tt (bounds max_bytes max_depth) bytes.now f
         → ((result ≡ FAULT) × Tells f fault.new path.old path.new) ⊎ (result ≡ MEMORY) }
 {
     let Some(limits) = Limits::new(max_bytes, max_depth) else {

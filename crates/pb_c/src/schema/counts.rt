@@ -2,11 +2,11 @@
 
 ghost use Rattle.std.specs.Prelude.{◌≡◌, ◌≢◌, ◌↔◌, ◌⊎◌, None, Some};
 ghost use Rattle.pb_schema.specs.Types.{Types};
-ghost use Rattle.pb_c.specs.Held.{types_held};
+ghost use Rattle.pb_c_handles.specs.Held.{types_held};
 ghost use Rattle.pb_c.specs.PoolParts.{pool_counts};
 
-use crate::handle::{PoolHandle, put, take};
-use pb_c_reports::{DONE, EMPTY};
+use pb_c_answers::{DONE, EMPTY};
+use pb_c_handles::pool::{PoolHandle, put, take};
 use pb_schema::Pool;
 use std::alloc::Global;
 
@@ -38,7 +38,8 @@ pub extern "C" fn mb_pool_counts(
     pool: &mut PoolHandle,
     counts: &mut PoolCounts,
 ) -> u32
-    ensures counted { result ≡ DONE → (ts : Types) × (types_held pool.old ≡ Some ts) × (counts.new ≡ pool_counts ts) }
+    ensures counted { result ≡ DONE → (ts : Types) × (types_held pool.old ≡ Some ts)
+        × (counts.new ≡ pool_counts ts) }
     ensures uncounted { result ≢ DONE → counts.new ≡ counts.old }
     ensures empty { result ≡ EMPTY ↔ (types_held pool.old ≡ None) }
     ensures answers { (result ≡ DONE) ⊎ (result ≡ EMPTY) }

@@ -3,11 +3,11 @@
 ghost use Rattle.std.specs.Prelude.{◌≡◌, ◌≢◌, ◌<◌, ◌≤◌, ◌↔◌, ◌⊎◌, None, Some, length, option_map, slice_get, string_bytes};
 ghost use Rattle.pb_schema.specs.Types.{Types};
 ghost use Rattle.pb_schema.specs.View.{enum_view};
-ghost use Rattle.pb_c.specs.Held.{types_held};
+ghost use Rattle.pb_c_handles.specs.Held.{types_held};
 ghost use Rattle.pb_c.specs.PoolParts.{IsEnumAt, IsValueAt, enum_report, value_at};
 
-use crate::handle::{PoolHandle, put, take};
-use pb_c_reports::{ABSENT, DONE, EMPTY, NO_TYPE, write_out};
+use pb_c_answers::{ABSENT, DONE, EMPTY, NO_TYPE, write_out};
+use pb_c_handles::pool::{PoolHandle, put, take};
 use pb_schema::{EnumId, EnumType, Pool};
 use std::alloc::Global;
 
@@ -49,14 +49,16 @@ fn enum_at(pool: &Pool, number: usize) -> Option<&EnumType>
 
 /// The name and the number of the value at an index of an enum.
 fn value_of(entry: &EnumType, index: usize) -> Option<&(String, i32)>
-    ensures { option_map (λ v. (string_bytes v.now.0, v.now.1)) result ≡ slice_get (enum_view entry.now).values index }
+    ensures { option_map (λ v. (string_bytes v.now.0, v.now.1)) result
+        ≡ slice_get (enum_view entry.now).values index }
 {
     entry.values.get(index)
 }
 
 /// The name and the number of the value at an index of the enum of a number.
 fn value_at(pool: &Pool, number: usize, index: usize) -> Option<&(String, i32)>
-    ensures { option_map (λ v. (string_bytes v.now.0, v.now.1)) result ≡ value_at pool.now number index }
+    ensures { option_map (λ v. (string_bytes v.now.0, v.now.1)) result
+        ≡ value_at pool.now number index }
 {
     let entry = enum_at(pool, number)?;
     value_of(entry, index)
@@ -70,8 +72,10 @@ fn describe_enum(
     name: &mut [u8],
     size: &mut usize,
 ) -> u32
-    ensures described { result ≡ DONE → IsEnumAt pool.now number report.new name.old name.new size.new }
-    ensures unwritten { result ≢ DONE → (report.new ≡ report.old) × (name.new ≡ name.old) × (size.new ≡ size.old) }
+    ensures described { result ≡ DONE
+        → IsEnumAt pool.now number report.new name.old name.new size.new }
+    ensures unwritten { result ≢ DONE → (report.new ≡ report.old) × (name.new ≡ name.old)
+        × (size.new ≡ size.old) }
     ensures no_type { result ≡ NO_TYPE ↔ length pool.now.enums ≤ number }
     ensures answers { (result ≡ DONE) ⊎ (result ≡ NO_TYPE) }
 {
@@ -95,10 +99,13 @@ fn describe_value(
     name: &mut [u8],
     size: &mut usize,
 ) -> u32
-    ensures described { result ≡ DONE → IsValueAt pool.now entry index number.new name.old name.new size.new }
-    ensures unwritten { result ≢ DONE → (number.new ≡ number.old) × (name.new ≡ name.old) × (size.new ≡ size.old) }
+    ensures described { result ≡ DONE
+        → IsValueAt pool.now entry index number.new name.old name.new size.new }
+    ensures unwritten { result ≢ DONE → (number.new ≡ number.old) × (name.new ≡ name.old)
+        × (size.new ≡ size.old) }
     ensures no_type { result ≡ NO_TYPE ↔ length pool.now.enums ≤ entry }
-    ensures absent { result ≡ ABSENT ↔ (entry < length pool.now.enums) × (value_at pool.now entry index ≡ None) }
+    ensures absent { result ≡ ABSENT ↔ (entry < length pool.now.enums)
+        × (value_at pool.now entry index ≡ None) }
     ensures answers { (result ≡ DONE) ⊎ (result ≡ NO_TYPE) ⊎ (result ≡ ABSENT) }
 {
     if entry >= pool.enums().len() {
@@ -124,10 +131,13 @@ pub extern "C" fn mb_pool_enum(
     name: &mut [u8],
     size: &mut usize,
 ) -> u32
-    ensures described { result ≡ DONE → (ts : Types) × (types_held pool.old ≡ Some ts) × IsEnumAt ts entry report.new name.old name.new size.new }
-    ensures unwritten { result ≢ DONE → (report.new ≡ report.old) × (name.new ≡ name.old) × (size.new ≡ size.old) }
+    ensures described { result ≡ DONE → (ts : Types) × (types_held pool.old ≡ Some ts)
+        × IsEnumAt ts entry report.new name.old name.new size.new }
+    ensures unwritten { result ≢ DONE → (report.new ≡ report.old) × (name.new ≡ name.old)
+        × (size.new ≡ size.old) }
     ensures empty { result ≡ EMPTY ↔ (types_held pool.old ≡ None) }
-    ensures no_type { result ≡ NO_TYPE ↔ (ts : Types) × (types_held pool.old ≡ Some ts) × (length ts.enums ≤ entry) }
+    ensures no_type { result ≡ NO_TYPE ↔ (ts : Types) × (types_held pool.old ≡ Some ts)
+        × (length ts.enums ≤ entry) }
     ensures answers { (result ≡ DONE) ⊎ (result ≡ EMPTY) ⊎ (result ≡ NO_TYPE) }
     ensures same { pool.new.seal.pool ≡ pool.old.seal.pool }
 {
@@ -154,11 +164,15 @@ pub extern "C" fn mb_pool_enum_value(
     name: &mut [u8],
     size: &mut usize,
 ) -> u32
-    ensures described { result ≡ DONE → (ts : Types) × (types_held pool.old ≡ Some ts) × IsValueAt ts entry index number.new name.old name.new size.new }
-    ensures unwritten { result ≢ DONE → (number.new ≡ number.old) × (name.new ≡ name.old) × (size.new ≡ size.old) }
+    ensures described { result ≡ DONE → (ts : Types) × (types_held pool.old ≡ Some ts)
+        × IsValueAt ts entry index number.new name.old name.new size.new }
+    ensures unwritten { result ≢ DONE → (number.new ≡ number.old) × (name.new ≡ name.old)
+        × (size.new ≡ size.old) }
     ensures empty { result ≡ EMPTY ↔ (types_held pool.old ≡ None) }
-    ensures no_type { result ≡ NO_TYPE ↔ (ts : Types) × (types_held pool.old ≡ Some ts) × (length ts.enums ≤ entry) }
-    ensures absent { result ≡ ABSENT ↔ (ts : Types) × (types_held pool.old ≡ Some ts) × (entry < length ts.enums) × (value_at ts entry index ≡ None) }
+    ensures no_type { result ≡ NO_TYPE ↔ (ts : Types) × (types_held pool.old ≡ Some ts)
+        × (length ts.enums ≤ entry) }
+    ensures absent { result ≡ ABSENT ↔ (ts : Types) × (types_held pool.old ≡ Some ts)
+        × (entry < length ts.enums) × (value_at ts entry index ≡ None) }
     ensures answers { (result ≡ DONE) ⊎ (result ≡ EMPTY) ⊎ (result ≡ NO_TYPE) ⊎ (result ≡ ABSENT) }
     ensures same { pool.new.seal.pool ≡ pool.old.seal.pool }
 {

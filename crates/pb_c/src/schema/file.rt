@@ -3,12 +3,12 @@
 ghost use Rattle.std.specs.Prelude.{◌≡◌, ◌≢◌, ◌↔◌, ◌⊎◌, None, Some, option_map, slice_get};
 ghost use Rattle.pb_schema.specs.Types.{Types};
 ghost use Rattle.pb_schema.specs.View.{file_view};
-ghost use Rattle.pb_c.specs.Held.{types_held};
+ghost use Rattle.pb_c_handles.specs.Held.{types_held};
 ghost use Rattle.pb_c.specs.PoolParts.{IsFileAt, file_report};
 
-use crate::handle::{PoolHandle, put, take};
 use crate::pool::refusal::lay_both;
-use pb_c_reports::{ABSENT, DONE, EMPTY};
+use pb_c_answers::{ABSENT, DONE, EMPTY};
+use pb_c_handles::pool::{PoolHandle, put, take};
 use pb_schema::{FileInfo, Pool};
 use std::alloc::Global;
 
@@ -70,10 +70,12 @@ pub extern "C" fn mb_pool_file(
     report: &mut FileReport,
     names: &mut [u8],
 ) -> u32
-    ensures described { result ≡ DONE → (ts : Types) × (types_held pool.old ≡ Some ts) × IsFileAt ts index report.new names.old names.new }
+    ensures described { result ≡ DONE → (ts : Types) × (types_held pool.old ≡ Some ts)
+        × IsFileAt ts index report.new names.old names.new }
     ensures unwritten { result ≢ DONE → (report.new ≡ report.old) × (names.new ≡ names.old) }
     ensures empty { result ≡ EMPTY ↔ (types_held pool.old ≡ None) }
-    ensures absent { result ≡ ABSENT ↔ (ts : Types) × (types_held pool.old ≡ Some ts) × (slice_get ts.files index ≡ None) }
+    ensures absent { result ≡ ABSENT ↔ (ts : Types) × (types_held pool.old ≡ Some ts)
+        × (slice_get ts.files index ≡ None) }
     ensures answers { (result ≡ DONE) ⊎ (result ≡ EMPTY) ⊎ (result ≡ ABSENT) }
     ensures same { pool.new.seal.pool ≡ pool.old.seal.pool }
 {

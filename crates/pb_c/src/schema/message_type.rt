@@ -3,13 +3,13 @@
 ghost use Rattle.std.specs.Prelude.{◌≡◌, ◌≢◌, ◌<◌, ◌≤◌, ◌↔◌, ◌⊎◌, None, Some, length, option_map, slice_get, string_bytes};
 ghost use Rattle.pb_schema.specs.Types.{Types};
 ghost use Rattle.pb_schema.specs.View.{field_view, message_view};
-ghost use Rattle.pb_c.specs.Held.{types_held};
+ghost use Rattle.pb_c_handles.specs.Held.{types_held};
 ghost use Rattle.pb_c.specs.PoolParts.{IsFieldAt, IsOneofAt, IsTypeAt, field_at, oneof_at, shape_detail, type_report};
-ghost use Rattle.pb_c_reports.specs.Typed.{HasType, LacksType};
+ghost use Rattle.pb_c_answers.specs.Typed.{HasType, LacksType};
 
-use crate::handle::{PoolHandle, put, take};
 use crate::pool::field::{FieldReport, report_field};
-use pb_c_reports::{ABSENT, DONE, EMPTY, NO_TYPE, type_numbered, write_out};
+use pb_c_answers::{ABSENT, DONE, EMPTY, NO_TYPE, type_numbered, write_out};
+use pb_c_handles::pool::{PoolHandle, put, take};
 use pb_schema::{Field, MessageType, Pool, Shape};
 use std::alloc::Global;
 
@@ -64,7 +64,8 @@ fn message_at(pool: &Pool, number: u32) -> Option<&MessageType>
 
 /// The field at an index of a message type.
 fn field_of(message_type: &MessageType, index: usize) -> Option<&Field>
-    ensures { option_map (λ f. field_view f.now) result ≡ slice_get (message_view message_type.now).fields index }
+    ensures { option_map (λ f. field_view f.now) result
+        ≡ slice_get (message_view message_type.now).fields index }
 {
     message_type.fields.get(index)
 }
@@ -79,7 +80,8 @@ fn field_at(pool: &Pool, number: u32, index: usize) -> Option<&Field>
 
 /// The name of the oneof at an index of a message type.
 fn oneof_of(message_type: &MessageType, index: usize) -> Option<&String>
-    ensures { option_map (λ s. string_bytes s.now) result ≡ slice_get (message_view message_type.now).oneofs index }
+    ensures { option_map (λ s. string_bytes s.now) result
+        ≡ slice_get (message_view message_type.now).oneofs index }
 {
     message_type.oneofs.get(index)
 }
@@ -100,8 +102,10 @@ fn describe_type(
     name: &mut [u8],
     size: &mut usize,
 ) -> u32
-    ensures described { result ≡ DONE → IsTypeAt pool.now number report.new name.old name.new size.new }
-    ensures unwritten { result ≢ DONE → (report.new ≡ report.old) × (name.new ≡ name.old) × (size.new ≡ size.old) }
+    ensures described { result ≡ DONE
+        → IsTypeAt pool.now number report.new name.old name.new size.new }
+    ensures unwritten { result ≢ DONE → (report.new ≡ report.old) × (name.new ≡ name.old)
+        × (size.new ≡ size.old) }
     ensures no_type { result ≡ NO_TYPE ↔ length pool.now.messages ≤ number }
     ensures answers { (result ≡ DONE) ⊎ (result ≡ NO_TYPE) }
 {
@@ -126,10 +130,13 @@ fn describe_field(
     name: &mut [u8],
     size: &mut usize,
 ) -> u32
-    ensures described { result ≡ DONE → IsFieldAt pool.now number index report.new detail.new name.old name.new size.new }
-    ensures unwritten { result ≢ DONE → (report.new ≡ report.old) × (detail.new ≡ detail.old) × (name.new ≡ name.old) × (size.new ≡ size.old) }
+    ensures described { result ≡ DONE
+        → IsFieldAt pool.now number index report.new detail.new name.old name.new size.new }
+    ensures unwritten { result ≢ DONE → (report.new ≡ report.old) × (detail.new ≡ detail.old)
+        × (name.new ≡ name.old) × (size.new ≡ size.old) }
     ensures no_type { result ≡ NO_TYPE ↔ length pool.now.messages ≤ number }
-    ensures absent { result ≡ ABSENT ↔ (number < length pool.now.messages) × (field_at pool.now number index ≡ None) }
+    ensures absent { result ≡ ABSENT ↔ (number < length pool.now.messages)
+        × (field_at pool.now number index ≡ None) }
     ensures answers { (result ≡ DONE) ⊎ (result ≡ NO_TYPE) ⊎ (result ≡ ABSENT) }
 {
     if type_numbered(pool, number).is_none() {
@@ -149,7 +156,8 @@ fn describe_oneof(pool: &Pool, number: u32, index: usize, name: &mut [u8], size:
     ensures described { result ≡ DONE → IsOneofAt pool.now number index name.old name.new size.new }
     ensures unwritten { result ≢ DONE → (name.new ≡ name.old) × (size.new ≡ size.old) }
     ensures no_type { result ≡ NO_TYPE ↔ length pool.now.messages ≤ number }
-    ensures absent { result ≡ ABSENT ↔ (number < length pool.now.messages) × (oneof_at pool.now number index ≡ None) }
+    ensures absent { result ≡ ABSENT ↔ (number < length pool.now.messages)
+        × (oneof_at pool.now number index ≡ None) }
     ensures answers { (result ≡ DONE) ⊎ (result ≡ NO_TYPE) ⊎ (result ≡ ABSENT) }
 {
     if type_numbered(pool, number).is_none() {
@@ -174,8 +182,10 @@ pub extern "C" fn mb_pool_message(
     name: &mut [u8],
     size: &mut usize,
 ) -> u32
-    ensures described { result ≡ DONE → (ts : Types) × (types_held pool.old ≡ Some ts) × IsTypeAt ts message_type report.new name.old name.new size.new }
-    ensures unwritten { result ≢ DONE → (report.new ≡ report.old) × (name.new ≡ name.old) × (size.new ≡ size.old) }
+    ensures described { result ≡ DONE → (ts : Types) × (types_held pool.old ≡ Some ts)
+        × IsTypeAt ts message_type report.new name.old name.new size.new }
+    ensures unwritten { result ≢ DONE → (report.new ≡ report.old) × (name.new ≡ name.old)
+        × (size.new ≡ size.old) }
     ensures empty { result ≡ EMPTY ↔ (types_held pool.old ≡ None) }
     ensures no_type { result ≡ NO_TYPE ↔ LacksType (types_held pool.old) message_type }
     ensures answers { (result ≡ DONE) ⊎ (result ≡ EMPTY) ⊎ (result ≡ NO_TYPE) }
@@ -206,10 +216,12 @@ pub extern "C" fn mb_pool_field_at(
 ) -> u32
     ensures described { result ≡ DONE → (ts : Types) × (types_held pool.old ≡ Some ts)
         × IsFieldAt ts message_type index report.new detail.new name.old name.new size.new }
-    ensures unwritten { result ≢ DONE → (report.new ≡ report.old) × (detail.new ≡ detail.old) × (name.new ≡ name.old) × (size.new ≡ size.old) }
+    ensures unwritten { result ≢ DONE → (report.new ≡ report.old) × (detail.new ≡ detail.old)
+        × (name.new ≡ name.old) × (size.new ≡ size.old) }
     ensures empty { result ≡ EMPTY ↔ (types_held pool.old ≡ None) }
     ensures no_type { result ≡ NO_TYPE ↔ LacksType (types_held pool.old) message_type }
-    ensures absent { result ≡ ABSENT ↔ (ts : Types) × HasType (types_held pool.old) message_type ts × (field_at ts message_type index ≡ None) }
+    ensures absent { result ≡ ABSENT ↔ (ts : Types) × HasType (types_held pool.old) message_type ts
+        × (field_at ts message_type index ≡ None) }
     ensures answers { (result ≡ DONE) ⊎ (result ≡ EMPTY) ⊎ (result ≡ NO_TYPE) ⊎ (result ≡ ABSENT) }
     ensures same { pool.new.seal.pool ≡ pool.old.seal.pool }
 {
@@ -241,11 +253,13 @@ pub extern "C" fn mb_pool_oneof(
     name: &mut [u8],
     size: &mut usize,
 ) -> u32
-    ensures described { result ≡ DONE → (ts : Types) × (types_held pool.old ≡ Some ts) × IsOneofAt ts message_type index name.old name.new size.new }
+    ensures described { result ≡ DONE → (ts : Types) × (types_held pool.old ≡ Some ts)
+        × IsOneofAt ts message_type index name.old name.new size.new }
     ensures unwritten { result ≢ DONE → (name.new ≡ name.old) × (size.new ≡ size.old) }
     ensures empty { result ≡ EMPTY ↔ (types_held pool.old ≡ None) }
     ensures no_type { result ≡ NO_TYPE ↔ LacksType (types_held pool.old) message_type }
-    ensures absent { result ≡ ABSENT ↔ (ts : Types) × HasType (types_held pool.old) message_type ts × (oneof_at ts message_type index ≡ None) }
+    ensures absent { result ≡ ABSENT ↔ (ts : Types) × HasType (types_held pool.old) message_type ts
+        × (oneof_at ts message_type index ≡ None) }
     ensures answers { (result ≡ DONE) ⊎ (result ≡ EMPTY) ⊎ (result ≡ NO_TYPE) ⊎ (result ≡ ABSENT) }
     ensures same { pool.new.seal.pool ≡ pool.old.seal.pool }
 {

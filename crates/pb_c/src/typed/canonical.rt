@@ -9,7 +9,7 @@ ghost use Rattle.pb_value.specs.Derives.{Text};
 ghost use Rattle.pb_canonical.specs.Canonical.{IsCanonical};
 ghost use Rattle.pb_decode.specs.Push.{IsFaultOf};
 
-use pb_c_reports::type_numbered;
+use pb_c_answers::type_numbered;
 use pb_canonical::is_canonical;
 use pb_decode::validate;
 use pb_schema::{MessageId, Pool};
@@ -28,8 +28,10 @@ pub(crate) fn is_known_canonical(
     ensures canonical { result ≡ true → IsCanonical pool.now number bytes.now }
     ensures value { result ≡ true → (v : Message) × Text pool.now number limits bytes.now v }
     ensures only { result ≡ true → (v : Message) → Text pool.now number limits bytes.now v
-        → (bytes.now ≡ canon_bytes pool.now number v) × (length (canon_bytes pool.now number v) < 2 ^ 31) }
-    ensures faultless { result ≡ true → (f : Fault) → ¬ IsFaultOf pool.now number limits bytes.now f }
+        → (bytes.now ≡ canon_bytes pool.now number v)
+        × (length (canon_bytes pool.now number v) < 2 ^ 31) }
+    ensures faultless { result ≡ true → (f : Fault)
+        → ¬ IsFaultOf pool.now number limits bytes.now f }
     ensures complete { number < length pool.now.messages → IsCanonical pool.now number bytes.now
         → (v : Message) → Text pool.now number limits bytes.now v → result ≡ true }
 {
@@ -55,7 +57,8 @@ fn is_within(
     requires rules { IsPool pool.now }
     requires canonical { IsCanonical pool.now message_type.0 bytes.now }
     ensures text { result ≡ true → (v : Message) × Text pool.now message_type.0 limits bytes.now v }
-    ensures complete { (v : Message) → Text pool.now message_type.0 limits bytes.now v → result ≡ true }
+    ensures complete { (v : Message) → Text pool.now message_type.0 limits bytes.now v
+        → result ≡ true }
 {
     if are_greatest(limits) {
         return true;

@@ -6,14 +6,14 @@ ghost use Rattle.pb_schema.specs.Types.{Types};
 ghost use Rattle.pb_value.specs.Data.{Message};
 ghost use Rattle.pb_value.specs.Derives.{Text};
 ghost use Rattle.pb_decode.specs.Push.{IsFaultOf};
-ghost use Rattle.pb_c.specs.Held.{types_held};
-ghost use Rattle.pb_c_reports.specs.Reporting.{AreLimits, Tells, bounds};
-ghost use Rattle.pb_c_reports.specs.Typed.{HasType, LacksType};
+ghost use Rattle.pb_c_handles.specs.Held.{types_held};
+ghost use Rattle.pb_c_answers.specs.Reporting.{AreLimits, Tells, bounds};
+ghost use Rattle.pb_c_answers.specs.Typed.{HasType, LacksType};
 
-use crate::handle::{PoolHandle, put, take};
-use pb_c_reports::{
+use pb_c_answers::{
     BAD_LIMITS, DONE, EMPTY, FAULT, FaultReport, MEMORY, NO_TYPE, Step, tell_error, type_numbered,
 };
+use pb_c_handles::pool::{PoolHandle, put, take};
 use pb_decode::validate;
 use pb_schema::Pool;
 use pb_wire::Limits;
@@ -40,20 +40,26 @@ pub extern "C" fn mb_check(
     ensures text { result ≡ DONE → (ts : Types) × HasType (types_held pool.old) message_type ts
         × ((v : Message) × Text ts message_type (bounds max_bytes max_depth) bytes.now v) }
     ensures fault { result ≡ FAULT → (ts : Types) × HasType (types_held pool.old) message_type ts
-        × ((f : Fault) × IsFaultOf ts message_type (bounds max_bytes max_depth) bytes.now f × Tells f fault.new path.old path.new) }
+        × ((f : Fault) × IsFaultOf ts message_type (bounds max_bytes max_depth) bytes.now f
+        × Tells f fault.new path.old path.new) }
     ensures steps { result ≡ FAULT → fault.new.steps ≤ 2 * max_depth + 1 }
     ensures untold { result ≢ FAULT → (fault.new ≡ fault.old) × (path.new ≡ path.old) }
     ensures limits { result ≡ BAD_LIMITS ↔ ¬ AreLimits max_bytes max_depth }
     ensures empty { result ≡ EMPTY ↔ AreLimits max_bytes max_depth × (types_held pool.old ≡ None) }
-    ensures no_type { result ≡ NO_TYPE ↔ AreLimits max_bytes max_depth × LacksType (types_held pool.old) message_type }
-    ensures answers { (result ≡ DONE) ⊎ (result ≡ BAD_LIMITS) ⊎ (result ≡ EMPTY) ⊎ (result ≡ NO_TYPE) ⊎ (result ≡ FAULT) ⊎ (result ≡ MEMORY) }
+    ensures no_type { result ≡ NO_TYPE ↔ AreLimits max_bytes max_depth
+        × LacksType (types_held pool.old) message_type }
+    ensures answers { (result ≡ DONE) ⊎ (result ≡ BAD_LIMITS) ⊎ (result ≡ EMPTY)
+        ⊎ (result ≡ NO_TYPE) ⊎ (result ≡ FAULT) ⊎ (result ≡ MEMORY) }
     ensures same { pool.new.seal.pool ≡ pool.old.seal.pool }
 
     // Each message is accepted, also where no memory is left, and each fault is reported, unless memory for its path runs out.
-    ensures accepted { AreLimits max_bytes max_depth → (ts : Types) → HasType (types_held pool.old) message_type ts → (v : Message)
+    ensures accepted { AreLimits max_bytes max_depth → (ts : Types)
+        → HasType (types_held pool.old) message_type ts → (v : Message)
         → Text ts message_type (bounds max_bytes max_depth) bytes.now v → result ≡ DONE }
-    ensures refused { AreLimits max_bytes max_depth → (ts : Types) → HasType (types_held pool.old) message_type ts → (f : Fault)
-        → IsFaultOf ts message_type (bounds max_bytes max_depth) bytes.now f → ((result ≡ FAULT) × Tells f fault.new path.old path.new) ⊎ (result ≡ MEMORY) }
+    ensures refused { AreLimits max_bytes max_depth → (ts : Types)
+        → HasType (types_held pool.old) message_type ts → (f : Fault)
+        → IsFaultOf ts message_type (bounds max_bytes max_depth) bytes.now f
+        → ((result ≡ FAULT) × Tells f fault.new path.old path.new) ⊎ (result ≡ MEMORY) }
 {
     let Some(limits) = Limits::new(max_bytes, max_depth) else {
         return BAD_LIMITS;
@@ -85,12 +91,15 @@ fn check_message(
     path: &mut [Step],
 ) -> u32
     ensures text { result ≡ DONE → (v : Message) × Text pool.now number limits bytes.now v }
-    ensures fault { result ≡ FAULT → (f : Fault) × IsFaultOf pool.now number limits bytes.now f × Tells f fault.new path.old path.new }
+    ensures fault { result ≡ FAULT → (f : Fault) × IsFaultOf pool.now number limits bytes.now f
+        × Tells f fault.new path.old path.new }
     ensures untold { result ≢ FAULT → (fault.new ≡ fault.old) × (path.new ≡ path.old) }
     ensures no_type { result ≡ NO_TYPE ↔ length pool.now.messages ≤ number }
     ensures answers { (result ≡ DONE) ⊎ (result ≡ NO_TYPE) ⊎ (result ≡ FAULT) ⊎ (result ≡ MEMORY) }
-    ensures accepted { number < length pool.now.messages → (v : Message) → Text pool.now number limits bytes.now v → result ≡ DONE }
-    ensures refused { number < length pool.now.messages → (f : Fault) → IsFaultOf pool.now number limits bytes.now f
+    ensures accepted { number < length pool.now.messages → (v : Message)
+        → Text pool.now number limits bytes.now v → result ≡ DONE }
+    ensures refused { number < length pool.now.messages → (f : Fault)
+        → IsFaultOf pool.now number limits bytes.now f
         → ((result ≡ FAULT) × Tells f fault.new path.old path.new) ⊎ (result ≡ MEMORY) }
 {
     let Some(message_type) = type_numbered(pool, number) else {

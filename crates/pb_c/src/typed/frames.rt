@@ -3,18 +3,18 @@
 ghost use Rattle.std.specs.Prelude.{◌≡◌, ◌≢◌, ◌+◌, ◌*◌, ◌<◌, ◌≤◌, ◌↔◌, ◌⊎◌, None, Some, length, IfSome};
 ghost use Rattle.pb_wire.specs.Fault.{Fault};
 ghost use Rattle.pb_schema.specs.Types.{Types};
-ghost use Rattle.pb_c.specs.Held.{types_held};
+ghost use Rattle.pb_c_handles.specs.Held.{types_held};
 ghost use Rattle.pb_c.specs.Typed.Input.{BeginsWithFrame, BeginsWithNoFrame, IsPartOfFrame, IsTyped, IsUntyped};
-ghost use Rattle.pb_c_reports.specs.Reporting.{AreLimits, Tells, bounds};
-ghost use Rattle.pb_c_reports.specs.Typed.{ByFault, HasType, LacksType};
+ghost use Rattle.pb_c_answers.specs.Reporting.{AreLimits, Tells, bounds};
+ghost use Rattle.pb_c_answers.specs.Typed.{ByFault, HasType, LacksType};
 ghost use Rattle.pb_c.specs.Typed.Frames.{AnswersFault, IsFramed, IsNoFrame, IsPart, IsSpan};
 
-use crate::handle::{PoolHandle, put, take};
 use crate::typed::input::TypedInput;
-use pb_c_reports::{
+use pb_c_answers::{
     BAD_LIMITS, DONE, EMPTY, FAULT, FaultReport, MEMORY, NO_TYPE, PART, Step, tell_error,
     type_numbered,
 };
+use pb_c_handles::pool::{PoolHandle, put, take};
 use pb_decode::{DecodeError, validate};
 use pb_schema::{MessageId, Pool};
 use pb_stream::read_delimited;
@@ -55,25 +55,33 @@ pub extern "C" fn mb_frames(
     ensures part { result ≡ PART → (ts : Types) × HasType (types_held pool.old) message_type ts
         × IsPart ts message_type (bounds max_bytes max_depth) bytes.now }
     ensures fault { result ≡ FAULT → (ts : Types) × HasType (types_held pool.old) message_type ts
-        × ((f : Fault) × IsNoFrame ts message_type (bounds max_bytes max_depth) bytes.now f × Tells f fault.new path.old path.new) }
+        × ((f : Fault) × IsNoFrame ts message_type (bounds max_bytes max_depth) bytes.now f
+        × Tells f fault.new path.old path.new) }
     ensures steps { result ≡ FAULT → fault.new.steps ≤ 2 * max_depth + 1 }
     ensures span { (result ≡ PART) ⊎ (result ≡ FAULT) → IsSpan bytes.now frame.new }
     ensures unframed { result ≢ DONE → result ≢ PART → result ≢ FAULT → frame.new ≡ frame.old }
     ensures untold { result ≢ FAULT → (fault.new ≡ fault.old) × (path.new ≡ path.old) }
     ensures limits { result ≡ BAD_LIMITS ↔ ¬ AreLimits max_bytes max_depth }
     ensures empty { result ≡ EMPTY ↔ AreLimits max_bytes max_depth × (types_held pool.old ≡ None) }
-    ensures no_type { result ≡ NO_TYPE ↔ AreLimits max_bytes max_depth × LacksType (types_held pool.old) message_type }
-    ensures answers { (result ≡ DONE) ⊎ (result ≡ BAD_LIMITS) ⊎ (result ≡ EMPTY) ⊎ (result ≡ NO_TYPE) ⊎ (result ≡ PART)
-        ⊎ (result ≡ FAULT) ⊎ (result ≡ MEMORY) }
+    ensures no_type { result ≡ NO_TYPE ↔ AreLimits max_bytes max_depth
+        × LacksType (types_held pool.old) message_type }
+    ensures answers { (result ≡ DONE) ⊎ (result ≡ BAD_LIMITS) ⊎ (result ≡ EMPTY)
+        ⊎ (result ≡ NO_TYPE) ⊎ (result ≡ PART) ⊎ (result ≡ FAULT) ⊎ (result ≡ MEMORY) }
     ensures same { pool.new.seal.pool ≡ pool.old.seal.pool }
 
     // Each frame is accepted, also where no memory is left, and of all other bytes it is reported what they are, unless memory runs out.
-    ensures accepted { AreLimits max_bytes max_depth → (ts : Types) → HasType (types_held pool.old) message_type ts → (r : FrameReport)
-        → IsFramed ts message_type (bounds max_bytes max_depth) bytes.now r → (result ≡ DONE) × (frame.new ≡ r) }
-    ensures parted { AreLimits max_bytes max_depth → (ts : Types) → HasType (types_held pool.old) message_type ts
-        → IsPart ts message_type (bounds max_bytes max_depth) bytes.now → (result ≡ PART) ⊎ (result ≡ MEMORY) }
-    ensures refused { AreLimits max_bytes max_depth → (ts : Types) → HasType (types_held pool.old) message_type ts → (f : Fault)
-        → IsNoFrame ts message_type (bounds max_bytes max_depth) bytes.now f → ((result ≡ FAULT) × Tells f fault.new path.old path.new) ⊎ (result ≡ MEMORY) }
+    ensures accepted { AreLimits max_bytes max_depth → (ts : Types)
+        → HasType (types_held pool.old) message_type ts → (r : FrameReport)
+        → IsFramed ts message_type (bounds max_bytes max_depth) bytes.now r
+        → (result ≡ DONE) × (frame.new ≡ r) }
+    ensures parted { AreLimits max_bytes max_depth → (ts : Types)
+        → HasType (types_held pool.old) message_type ts
+        → IsPart ts message_type (bounds max_bytes max_depth) bytes.now
+        → (result ≡ PART) ⊎ (result ≡ MEMORY) }
+    ensures refused { AreLimits max_bytes max_depth → (ts : Types)
+        → HasType (types_held pool.old) message_type ts → (f : Fault)
+        → IsNoFrame ts message_type (bounds max_bytes max_depth) bytes.now f
+        → ((result ≡ FAULT) × Tells f fault.new path.old path.new) ⊎ (result ≡ MEMORY) }
 {
     let Some(limits) = Limits::new(max_bytes, max_depth) else {
         return BAD_LIMITS;
@@ -102,15 +110,18 @@ fn check_frame(
 ) -> u32
     ensures framed { result ≡ DONE → BeginsWithFrame input.entry frame.new }
     ensures part { result ≡ PART → IsPartOfFrame input.entry }
-    ensures fault { result ≡ FAULT → (f : Fault) × BeginsWithNoFrame input.entry f × Tells f fault.new path.old path.new }
+    ensures fault { result ≡ FAULT → (f : Fault) × BeginsWithNoFrame input.entry f
+        × Tells f fault.new path.old path.new }
     ensures span { (result ≡ PART) ⊎ (result ≡ FAULT) → IsSpan input.entry.bytes.now frame.new }
     ensures unframed { result ≢ DONE → result ≢ PART → result ≢ FAULT → frame.new ≡ frame.old }
     ensures untold { result ≢ FAULT → (fault.new ≡ fault.old) × (path.new ≡ path.old) }
     ensures no_type { result ≡ NO_TYPE ↔ IsUntyped input.entry }
-    ensures answers { (result ≡ DONE) ⊎ (result ≡ PART) ⊎ (result ≡ NO_TYPE) ⊎ (result ≡ FAULT) ⊎ (result ≡ MEMORY) }
+    ensures answers { (result ≡ DONE) ⊎ (result ≡ PART) ⊎ (result ≡ NO_TYPE) ⊎ (result ≡ FAULT)
+        ⊎ (result ≡ MEMORY) }
     ensures accepted { IsTyped input.entry → (r : FrameReport) → BeginsWithFrame input.entry r
         → (result ≡ DONE) × (frame.new ≡ r) }
-    ensures parted { IsTyped input.entry → IsPartOfFrame input.entry → (result ≡ PART) ⊎ (result ≡ MEMORY) }
+    ensures parted { IsTyped input.entry → IsPartOfFrame input.entry
+        → (result ≡ PART) ⊎ (result ≡ MEMORY) }
     ensures refused { IsTyped input.entry → (f : Fault) → BeginsWithNoFrame input.entry f
         → ((result ≡ FAULT) × Tells f fault.new path.old path.new) ⊎ (result ≡ MEMORY) }
 {
@@ -167,7 +178,8 @@ fn find_frame(
 ) -> Option<FrameReport>
     requires { message_type.0 < length pool.now.messages }
     ensures framed { IfSome result (IsFramed pool.now message_type.0 limits bytes.now) }
-    ensures found { (r : FrameReport) → IsFramed pool.now message_type.0 limits bytes.now r → result ≡ Some r }
+    ensures found { (r : FrameReport) → IsFramed pool.now message_type.0 limits bytes.now r
+        → result ≡ Some r }
 {
     let Ok((size, begin)) = read_varint(bytes) else {
         return None;
@@ -195,10 +207,13 @@ fn tell_no_frame(
     requires within { message_type.0 < length pool.now.messages }
     requires no_frame { (r : FrameReport) → ¬ IsFramed pool.now message_type.0 limits bytes.now r }
     ensures part { result ≡ PART → IsPart pool.now message_type.0 limits bytes.now }
-    ensures fault { result ≡ FAULT → (f : Fault) × IsNoFrame pool.now message_type.0 limits bytes.now f × Tells f fault.new path.old path.new }
+    ensures fault { result ≡ FAULT → (f : Fault)
+        × IsNoFrame pool.now message_type.0 limits bytes.now f
+        × Tells f fault.new path.old path.new }
     ensures untold { result ≢ FAULT → (fault.new ≡ fault.old) × (path.new ≡ path.old) }
     ensures answers { (result ≡ PART) ⊎ (result ≡ FAULT) ⊎ (result ≡ MEMORY) }
-    ensures parted { IsPart pool.now message_type.0 limits bytes.now → (result ≡ PART) ⊎ (result ≡ MEMORY) }
+    ensures parted { IsPart pool.now message_type.0 limits bytes.now
+        → (result ≡ PART) ⊎ (result ≡ MEMORY) }
     ensures refused { (f : Fault) → IsNoFrame pool.now message_type.0 limits bytes.now f
         → ((result ≡ FAULT) × Tells f fault.new path.old path.new) ⊎ (result ≡ MEMORY) }
 {
@@ -212,7 +227,8 @@ fn tell_no_frame(
 
 /// Reports the fault of an error, if it has one that more bytes do not mend, and answers the error's number.
 fn tell_frame_error(error: &DecodeError, fault: &mut FaultReport, path: &mut [Step]) -> u32
-    ensures told { ByFault error.now (AnswersFault result (λ f. Tells f fault.new path.old path.new)) (result ≡ MEMORY) }
+    ensures told { ByFault error.now
+        (AnswersFault result (λ f. Tells f fault.new path.old path.new)) (result ≡ MEMORY) }
     ensures untold { result ≢ FAULT → (fault.new ≡ fault.old) × (path.new ≡ path.old) }
     ensures answers { (result ≡ PART) ⊎ (result ≡ FAULT) ⊎ (result ≡ MEMORY) }
 {

@@ -5,14 +5,13 @@ ghost use Rattle.pb_schema.specs.Types.{Types};
 ghost use Rattle.pb_value.specs.Canon.{canon_bytes};
 ghost use Rattle.pb_value.specs.Data.{Message};
 ghost use Rattle.pb_json_read.specs.declared.error.JsonReadError.{JsonReadError as ReadError};
-ghost use Rattle.pb_c_json.specs.Reading.{IsReadHeld, IsRefusedHeld, ReportsRead, rules_of};
-ghost use Rattle.pb_c_reports.specs.Reporting.{IsLaid};
-ghost use Rattle.pb_c_reports.specs.Typed.{HasType, LacksType};
-ghost use Rattle.pb_c.specs.Held.{names_held, types_held};
+ghost use Rattle.pb_c_answers.specs.Json.Reading.{IsReadHeld, IsRefusedHeld, ReportsRead, rules_of};
+ghost use Rattle.pb_c_answers.specs.Reporting.{IsLaid};
+ghost use Rattle.pb_c_answers.specs.Typed.{HasType, LacksType};
+ghost use Rattle.pb_c_handles.specs.Held.{names_held, types_held};
 
-use crate::handle::{PoolHandle, put, take};
-use pb_c_json::{canonical_text, rules_of};
-use pb_c_reports::{DONE, EMPTY, MEMORY, NO_TYPE, TOO_LARGE, write_out};
+use pb_c_answers::{DONE, EMPTY, MEMORY, NO_TYPE, TOO_LARGE, canonical_text, rules_of, write_out};
+use pb_c_handles::pool::{PoolHandle, put, take};
 use std::alloc::Global;
 
 /// Writes the canonical bytes of the message of the type of this number in the pool that a JSON text is (ProtoJSON format), as many as the buffer holds,
@@ -33,29 +32,39 @@ pub extern "C" fn mb_from_json(
     byte: &mut usize,
 ) -> u32
     ensures written { result ≡ DONE → (ts : Types) × HasType (types_held pool.old) message_type ts
-        × ((v : Message) × IsReadHeld (names_held pool.old) ts (rules_of lenient) message_type json.now v × (length (canon_bytes ts message_type v) < 2 ^ 31)
+        × ((v : Message) × IsReadHeld (names_held pool.old) ts
+        (rules_of lenient) message_type json.now v
+        × (length (canon_bytes ts message_type v) < 2 ^ 31)
         × IsLaid (canon_bytes ts message_type v) out.old out.new size.new) }
-    ensures too_large { result ≡ TOO_LARGE → (ts : Types) × HasType (types_held pool.old) message_type ts
-        × ((v : Message) × IsReadHeld (names_held pool.old) ts (rules_of lenient) message_type json.now v × (2 ^ 31 ≤ length (canon_bytes ts message_type v))) }
-    ensures fault { result ≢ DONE → result ≢ EMPTY → result ≢ NO_TYPE → result ≢ TOO_LARGE → result ≢ MEMORY
-        → (ts : Types) × HasType (types_held pool.old) message_type ts
-        × ((e : ReadError) × IsRefusedHeld (names_held pool.old) ts (rules_of lenient) message_type json.now e × ReportsRead e result byte.new) }
+    ensures too_large { result ≡ TOO_LARGE → (ts : Types)
+        × HasType (types_held pool.old) message_type ts
+        × ((v : Message) × IsReadHeld (names_held pool.old) ts
+        (rules_of lenient) message_type json.now v
+        × (2 ^ 31 ≤ length (canon_bytes ts message_type v))) }
+    ensures fault { result ≢ DONE → result ≢ EMPTY → result ≢ NO_TYPE → result ≢ TOO_LARGE
+        → result ≢ MEMORY → (ts : Types) × HasType (types_held pool.old) message_type ts
+        × ((e : ReadError) × IsRefusedHeld (names_held pool.old) ts
+        (rules_of lenient) message_type json.now e × ReportsRead e result byte.new) }
     ensures unwritten { result ≢ DONE → (out.new ≡ out.old) × (size.new ≡ size.old) }
-    ensures unreported { (result ≡ DONE) ⊎ (result ≡ EMPTY) ⊎ (result ≡ NO_TYPE) ⊎ (result ≡ TOO_LARGE) ⊎ (result ≡ MEMORY)
-        → byte.new ≡ byte.old }
+    ensures unreported { (result ≡ DONE) ⊎ (result ≡ EMPTY) ⊎ (result ≡ NO_TYPE)
+        ⊎ (result ≡ TOO_LARGE) ⊎ (result ≡ MEMORY) → byte.new ≡ byte.old }
     ensures empty { result ≡ EMPTY ↔ (types_held pool.old ≡ None) }
     ensures no_type { result ≡ NO_TYPE ↔ LacksType (types_held pool.old) message_type }
     ensures same { pool.new.seal.pool ≡ pool.old.seal.pool }
 
     // The canonical bytes of each message that is read are written and each fault is reported, unless memory runs out.
     ensures accepted { (ts : Types) → HasType (types_held pool.old) message_type ts → (v : Message)
-        → IsReadHeld (names_held pool.old) ts (rules_of lenient) message_type json.now v → length (canon_bytes ts message_type v) < 2 ^ 31
-        → ((result ≡ DONE) × IsLaid (canon_bytes ts message_type v) out.old out.new size.new) ⊎ (result ≡ MEMORY) }
+        → IsReadHeld (names_held pool.old) ts (rules_of lenient) message_type json.now v
+        → length (canon_bytes ts message_type v) < 2 ^ 31
+        → ((result ≡ DONE) × IsLaid (canon_bytes ts message_type v) out.old out.new size.new)
+        ⊎ (result ≡ MEMORY) }
     ensures oversized { (ts : Types) → HasType (types_held pool.old) message_type ts → (v : Message)
-        → IsReadHeld (names_held pool.old) ts (rules_of lenient) message_type json.now v → 2 ^ 31 ≤ length (canon_bytes ts message_type v)
+        → IsReadHeld (names_held pool.old) ts (rules_of lenient) message_type json.now v
+        → 2 ^ 31 ≤ length (canon_bytes ts message_type v)
         → (result ≡ TOO_LARGE) ⊎ (result ≡ MEMORY) }
     ensures refused { (ts : Types) → HasType (types_held pool.old) message_type ts → (e : ReadError)
-        → IsRefusedHeld (names_held pool.old) ts (rules_of lenient) message_type json.now e → ReportsRead e result byte.new ⊎ (result ≡ MEMORY) }
+        → IsRefusedHeld (names_held pool.old) ts (rules_of lenient) message_type json.now e
+        → ReportsRead e result byte.new ⊎ (result ≡ MEMORY) }
 {
     let Some(shared) = take(alloc, pool) else {
         return EMPTY;

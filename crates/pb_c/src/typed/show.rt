@@ -7,19 +7,17 @@ ghost use Rattle.pb_value.specs.Data.{Message};
 ghost use Rattle.pb_value.specs.Derives.{Text};
 ghost use Rattle.pb_decode.specs.Push.{IsFaultOf};
 ghost use Rattle.pb_listing.specs.Listing.{listing};
-ghost use Rattle.pb_c.specs.Held.{types_held};
-ghost use Rattle.pb_c.specs.Typed.Input.{Encodes, HasFault, IsTyped, IsUntyped, typed_message};
-ghost use Rattle.pb_c_reports.specs.Reporting.{AreLimits, IsLaid, Tells, bounds};
-ghost use Rattle.pb_c_reports.specs.Typed.{HasType, LacksType, message_of};
+ghost use Rattle.pb_c_handles.specs.Held.{types_held};
+ghost use Rattle.pb_c_answers.specs.Reporting.{AreLimits, IsLaid, Tells, bounds};
+ghost use Rattle.pb_c_message.specs.Holds.{message_of};
+ghost use Rattle.pb_c_answers.specs.Typed.{HasType, LacksType};
 
-use crate::handle::{PoolHandle, put, take};
+use crate::listed::show_message;
 use crate::typed::input::TypedInput;
-use pb_c_reports::{
-    BAD_LIMITS, DONE, EMPTY, FAULT, FaultReport, MEMORY, NO_TYPE, Step, read_message, write_out,
-};
-use pb_listing::write_message;
-use pb_value::DynamicMessage;
-use pb_wire::{FailurePlan, Limits, MemOutput};
+use pb_c_answers::{BAD_LIMITS, DONE, EMPTY, FAULT, FaultReport, MEMORY, NO_TYPE, Step};
+use pb_c_handles::pool::{PoolHandle, put, take};
+use pb_listing::FloatForm;
+use pb_wire::Limits;
 use std::alloc::Global;
 
 /// Writes the listing of the message that the bytes are, as `pbtool show` prints it, as much of it as the buffer holds, and reports its
@@ -43,22 +41,29 @@ pub extern "C" fn mb_show(
         × ((v : Message) × Text ts message_type (bounds max_bytes max_depth) bytes.now v
         × IsLaid (listing (message_of ts message_type v)) out.old out.new size.new) }
     ensures fault { result ≡ FAULT → (ts : Types) × HasType (types_held pool.old) message_type ts
-        × ((f : Fault) × IsFaultOf ts message_type (bounds max_bytes max_depth) bytes.now f × Tells f fault.new path.old path.new) }
+        × ((f : Fault) × IsFaultOf ts message_type (bounds max_bytes max_depth) bytes.now f
+        × Tells f fault.new path.old path.new) }
     ensures steps { result ≡ FAULT → fault.new.steps ≤ 2 * max_depth + 1 }
     ensures unwritten { result ≢ DONE → (out.new ≡ out.old) × (size.new ≡ size.old) }
     ensures untold { result ≢ FAULT → (fault.new ≡ fault.old) × (path.new ≡ path.old) }
     ensures limits { result ≡ BAD_LIMITS ↔ ¬ AreLimits max_bytes max_depth }
     ensures empty { result ≡ EMPTY ↔ AreLimits max_bytes max_depth × (types_held pool.old ≡ None) }
-    ensures no_type { result ≡ NO_TYPE ↔ AreLimits max_bytes max_depth × LacksType (types_held pool.old) message_type }
-    ensures answers { (result ≡ DONE) ⊎ (result ≡ BAD_LIMITS) ⊎ (result ≡ EMPTY) ⊎ (result ≡ NO_TYPE) ⊎ (result ≡ FAULT) ⊎ (result ≡ MEMORY) }
+    ensures no_type { result ≡ NO_TYPE ↔ AreLimits max_bytes max_depth
+        × LacksType (types_held pool.old) message_type }
+    ensures answers { (result ≡ DONE) ⊎ (result ≡ BAD_LIMITS) ⊎ (result ≡ EMPTY)
+        ⊎ (result ≡ NO_TYPE) ⊎ (result ≡ FAULT) ⊎ (result ≡ MEMORY) }
     ensures same { pool.new.seal.pool ≡ pool.old.seal.pool }
 
     // Each valid input is accepted and each fault is reported, unless memory runs out.
-    ensures accepted { AreLimits max_bytes max_depth → (ts : Types) → HasType (types_held pool.old) message_type ts → (v : Message)
+    ensures accepted { AreLimits max_bytes max_depth → (ts : Types)
+        → HasType (types_held pool.old) message_type ts → (v : Message)
         → Text ts message_type (bounds max_bytes max_depth) bytes.now v
-        → ((result ≡ DONE) × IsLaid (listing (message_of ts message_type v)) out.old out.new size.new) ⊎ (result ≡ MEMORY) }
-    ensures refused { AreLimits max_bytes max_depth → (ts : Types) → HasType (types_held pool.old) message_type ts → (f : Fault)
-        → IsFaultOf ts message_type (bounds max_bytes max_depth) bytes.now f → ((result ≡ FAULT) × Tells f fault.new path.old path.new) ⊎ (result ≡ MEMORY) }
+        → ((result ≡ DONE) × IsLaid
+        (listing (message_of ts message_type v)) out.old out.new size.new) ⊎ (result ≡ MEMORY) }
+    ensures refused { AreLimits max_bytes max_depth → (ts : Types)
+        → HasType (types_held pool.old) message_type ts → (f : Fault)
+        → IsFaultOf ts message_type (bounds max_bytes max_depth) bytes.now f
+        → ((result ≡ FAULT) × Tells f fault.new path.old path.new) ⊎ (result ≡ MEMORY) }
 {
     let Some(limits) = Limits::new(max_bytes, max_depth) else {
         return BAD_LIMITS;
@@ -72,63 +77,7 @@ pub extern "C" fn mb_show(
         bytes,
         limits,
     };
-    let answer = show_message(alloc, input, out, size, fault, path);
+    let answer = show_message(alloc, input, FloatForm::Bits, out, size, fault, path);
     put(pool, shared);
     answer
-}
-
-/// Writes the listing of the message that the bytes are, by its type's number.
-fn show_message(
-    alloc: Global,
-    input: TypedInput<'_>,
-    out: &mut [u8],
-    size: &mut usize,
-    fault: &mut FaultReport,
-    path: &mut [Step],
-) -> u32
-    ensures text { result ≡ DONE → (v : Message) × Encodes input.entry v
-        × IsLaid (listing (typed_message input.entry v)) out.old out.new size.new }
-    ensures fault { result ≡ FAULT → (f : Fault) × HasFault input.entry f × Tells f fault.new path.old path.new }
-    ensures unwritten { result ≢ DONE → (out.new ≡ out.old) × (size.new ≡ size.old) }
-    ensures untold { result ≢ FAULT → (fault.new ≡ fault.old) × (path.new ≡ path.old) }
-    ensures no_type { result ≡ NO_TYPE ↔ IsUntyped input.entry }
-    ensures answers { (result ≡ DONE) ⊎ (result ≡ NO_TYPE) ⊎ (result ≡ FAULT) ⊎ (result ≡ MEMORY) }
-    ensures accepted { IsTyped input.entry → (v : Message) → Encodes input.entry v
-        → ((result ≡ DONE) × IsLaid (listing (typed_message input.entry v)) out.old out.new size.new) ⊎ (result ≡ MEMORY) }
-    ensures refused { IsTyped input.entry → (f : Fault) → HasFault input.entry f
-        → ((result ≡ FAULT) × Tells f fault.new path.old path.new) ⊎ (result ≡ MEMORY) }
-{
-    match read_message(
-        alloc,
-        input.pool,
-        input.type_number,
-        input.bytes,
-        input.limits,
-        fault,
-        path,
-    ) {
-        Ok(message) => write_listing(alloc, &message, out, size),
-        Err(answer) => answer,
-    }
-}
-
-/// Writes the listing of a message. It is made in memory first, so nothing is written where that runs out.
-pub(crate) fn write_listing(
-    alloc: Global,
-    message: &DynamicMessage<'_>,
-    out: &mut [u8],
-    size: &mut usize,
-) -> u32
-    ensures written { result ≡ DONE → IsLaid (listing message.now) out.old out.new size.new }
-    ensures unwritten { result ≢ DONE → (out.new ≡ out.old) × (size.new ≡ size.old) }
-    ensures answers { (result ≡ DONE) ⊎ (result ≡ MEMORY) }
-{
-    let mut listing = MemOutput::new(alloc, usize::MAX, FailurePlan::NEVER);
-    match write_message(&mut listing, message) {
-        Ok(()) => {
-            write_out(listing.bytes(), out, size);
-            DONE
-        }
-        Err(_) => MEMORY,
-    }
 }

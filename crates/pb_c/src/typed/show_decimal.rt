@@ -6,18 +6,17 @@ ghost use Rattle.pb_schema.specs.Types.{Types};
 ghost use Rattle.pb_value.specs.Data.{Message};
 ghost use Rattle.pb_value.specs.Derives.{Text};
 ghost use Rattle.pb_decode.specs.Push.{IsFaultOf};
-ghost use Rattle.pb_c.specs.Held.{types_held};
+ghost use Rattle.pb_c_handles.specs.Held.{types_held};
 ghost use Rattle.pb_c.specs.Message.Listed.{IsListedDecimal};
-ghost use Rattle.pb_c.specs.Typed.Input.{Encodes, HasFault, IsTyped, IsUntyped, typed_message};
-ghost use Rattle.pb_c_reports.specs.Reporting.{AreLimits, Tells, bounds};
-ghost use Rattle.pb_c_reports.specs.Typed.{HasType, LacksType, message_of};
+ghost use Rattle.pb_c_answers.specs.Reporting.{AreLimits, Tells, bounds};
+ghost use Rattle.pb_c_message.specs.Holds.{message_of};
+ghost use Rattle.pb_c_answers.specs.Typed.{HasType, LacksType};
 
-use crate::handle::{PoolHandle, put, take};
-use crate::message::show_decimal::write_decimal;
+use crate::listed::show_message;
 use crate::typed::input::TypedInput;
-use pb_c_reports::{
-    BAD_LIMITS, DONE, EMPTY, FAULT, FaultReport, MEMORY, NO_TYPE, Step, read_message,
-};
+use pb_c_answers::{BAD_LIMITS, DONE, EMPTY, FAULT, FaultReport, MEMORY, NO_TYPE, Step};
+use pb_c_handles::pool::{PoolHandle, put, take};
+use pb_listing::FloatForm;
 use pb_wire::Limits;
 use std::alloc::Global;
 
@@ -42,22 +41,29 @@ pub extern "C" fn mb_show_decimal(
         × ((v : Message) × Text ts message_type (bounds max_bytes max_depth) bytes.now v
         × IsListedDecimal (message_of ts message_type v) out.old out.new size.new) }
     ensures fault { result ≡ FAULT → (ts : Types) × HasType (types_held pool.old) message_type ts
-        × ((f : Fault) × IsFaultOf ts message_type (bounds max_bytes max_depth) bytes.now f × Tells f fault.new path.old path.new) }
+        × ((f : Fault) × IsFaultOf ts message_type (bounds max_bytes max_depth) bytes.now f
+        × Tells f fault.new path.old path.new) }
     ensures steps { result ≡ FAULT → fault.new.steps ≤ 2 * max_depth + 1 }
     ensures unwritten { result ≢ DONE → (out.new ≡ out.old) × (size.new ≡ size.old) }
     ensures untold { result ≢ FAULT → (fault.new ≡ fault.old) × (path.new ≡ path.old) }
     ensures limits { result ≡ BAD_LIMITS ↔ ¬ AreLimits max_bytes max_depth }
     ensures empty { result ≡ EMPTY ↔ AreLimits max_bytes max_depth × (types_held pool.old ≡ None) }
-    ensures no_type { result ≡ NO_TYPE ↔ AreLimits max_bytes max_depth × LacksType (types_held pool.old) message_type }
-    ensures answers { (result ≡ DONE) ⊎ (result ≡ BAD_LIMITS) ⊎ (result ≡ EMPTY) ⊎ (result ≡ NO_TYPE) ⊎ (result ≡ FAULT) ⊎ (result ≡ MEMORY) }
+    ensures no_type { result ≡ NO_TYPE ↔ AreLimits max_bytes max_depth
+        × LacksType (types_held pool.old) message_type }
+    ensures answers { (result ≡ DONE) ⊎ (result ≡ BAD_LIMITS) ⊎ (result ≡ EMPTY)
+        ⊎ (result ≡ NO_TYPE) ⊎ (result ≡ FAULT) ⊎ (result ≡ MEMORY) }
     ensures same { pool.new.seal.pool ≡ pool.old.seal.pool }
 
     // Each valid input is accepted and each fault is reported, unless memory runs out.
-    ensures accepted { AreLimits max_bytes max_depth → (ts : Types) → HasType (types_held pool.old) message_type ts → (v : Message)
+    ensures accepted { AreLimits max_bytes max_depth → (ts : Types)
+        → HasType (types_held pool.old) message_type ts → (v : Message)
         → Text ts message_type (bounds max_bytes max_depth) bytes.now v
-        → ((result ≡ DONE) × IsListedDecimal (message_of ts message_type v) out.old out.new size.new) ⊎ (result ≡ MEMORY) }
-    ensures refused { AreLimits max_bytes max_depth → (ts : Types) → HasType (types_held pool.old) message_type ts → (f : Fault)
-        → IsFaultOf ts message_type (bounds max_bytes max_depth) bytes.now f → ((result ≡ FAULT) × Tells f fault.new path.old path.new) ⊎ (result ≡ MEMORY) }
+        → ((result ≡ DONE) × IsListedDecimal
+        (message_of ts message_type v) out.old out.new size.new) ⊎ (result ≡ MEMORY) }
+    ensures refused { AreLimits max_bytes max_depth → (ts : Types)
+        → HasType (types_held pool.old) message_type ts → (f : Fault)
+        → IsFaultOf ts message_type (bounds max_bytes max_depth) bytes.now f
+        → ((result ≡ FAULT) × Tells f fault.new path.old path.new) ⊎ (result ≡ MEMORY) }
 {
     let Some(limits) = Limits::new(max_bytes, max_depth) else {
         return BAD_LIMITS;
@@ -71,42 +77,7 @@ pub extern "C" fn mb_show_decimal(
         bytes,
         limits,
     };
-    let answer = decimal_message(alloc, input, out, size, fault, path);
+    let answer = show_message(alloc, input, FloatForm::Decimal, out, size, fault, path);
     put(pool, shared);
     answer
-}
-
-/// Writes the listing of the message that the bytes are, with floats in decimal, by its type's number.
-fn decimal_message(
-    alloc: Global,
-    input: TypedInput<'_>,
-    out: &mut [u8],
-    size: &mut usize,
-    fault: &mut FaultReport,
-    path: &mut [Step],
-) -> u32
-    ensures text { result ≡ DONE → (v : Message) × Encodes input.entry v
-        × IsListedDecimal (typed_message input.entry v) out.old out.new size.new }
-    ensures fault { result ≡ FAULT → (f : Fault) × HasFault input.entry f × Tells f fault.new path.old path.new }
-    ensures unwritten { result ≢ DONE → (out.new ≡ out.old) × (size.new ≡ size.old) }
-    ensures untold { result ≢ FAULT → (fault.new ≡ fault.old) × (path.new ≡ path.old) }
-    ensures no_type { result ≡ NO_TYPE ↔ IsUntyped input.entry }
-    ensures answers { (result ≡ DONE) ⊎ (result ≡ NO_TYPE) ⊎ (result ≡ FAULT) ⊎ (result ≡ MEMORY) }
-    ensures accepted { IsTyped input.entry → (v : Message) → Encodes input.entry v
-        → ((result ≡ DONE) × IsListedDecimal (typed_message input.entry v) out.old out.new size.new) ⊎ (result ≡ MEMORY) }
-    ensures refused { IsTyped input.entry → (f : Fault) → HasFault input.entry f
-        → ((result ≡ FAULT) × Tells f fault.new path.old path.new) ⊎ (result ≡ MEMORY) }
-{
-    match read_message(
-        alloc,
-        input.pool,
-        input.type_number,
-        input.bytes,
-        input.limits,
-        fault,
-        path,
-    ) {
-        Ok(message) => write_decimal(alloc, &message, out, size),
-        Err(answer) => answer,
-    }
 }

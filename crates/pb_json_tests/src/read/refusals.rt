@@ -81,7 +81,9 @@ const ROWS: &str = "
 {\"any\":{\"@type\":\"/google.protobuf.Duration\",\"value\":1}} | 52 BadValue
 {\"any\":{\"@type\":\"/google.protobuf.Duration\",\"seconds\":1}} | 44 UnknownName
 {\"any\":{\"value\":\"1s\",\"@type\":\"/google.protobuf.Duration\",\"value\":\"1s\"}} | 57 RepeatedName
-{\"any\":{\"@type\":\"/google.protobuf.Empty\",\"value\":{}}} | 41 UnknownName
+{\"any\":{\"@type\":\"/google.protobuf.Empty\",\"value\":1}} | 49 BadValue
+{\"any\":{\"@type\":\"/google.protobuf.Empty\",\"value\":{\"a\":1}}} | 50 UnknownName
+{\"any\":{\"@type\":\"/google.protobuf.Empty\",\"a\":1}} | 41 UnknownName
 ";
 
 /// What a text is refused with.
@@ -105,5 +107,29 @@ fn refusals(rt: HostRuntime) -> Result<(), Fail> {
             assert!(rt; given.as_str() == wanted, "{row}: {given}");
         }
     }
+    Ok(())
+}
+
+/// The JSON of a number of Anys, each with a message that has the next.
+fn nested(alloc: Global, anys: usize) -> Result<String, AllocError> {
+    let mut text = String::from_str(alloc, "{\"any\":{\"@type\":\"/t.M\"")?;
+    for _ in 1..anys {
+        text.push_str(",\"any\":{\"@type\":\"/t.M\"")?;
+    }
+    for _ in 0..anys {
+        text.push_str("}")?;
+    }
+    text.push_str("}")?;
+    Ok(text)
+}
+
+#[test]
+fn anys_in_anys(rt: HostRuntime) -> Result<(), Fail> {
+    let pool = pool(rt.alloc())?;
+    let id = pool.message_by_name("t.M").ok_or("no type t.M")?;
+    let deepest = refusal(rt.alloc(), &pool, id, nested(rt.alloc(), 50)?.as_str())?;
+    assert!(rt; deepest.as_str() == "read", "{deepest}");
+    let deeper = refusal(rt.alloc(), &pool, id, nested(rt.alloc(), 51)?.as_str())?;
+    assert!(rt; deeper.as_str() == "0 TooDeep", "{deeper}");
     Ok(())
 }

@@ -78,6 +78,8 @@ const ROWS: &str = "
 {\"any\":{\"@type\":\"type.googleapis.com/google.protobuf.Value\",\"value\":{\"a\":1}}} | 9a023f0a29747970652e676f6f676c65617069732e636f6d2f676f6f676c652e70726f746f6275662e56616c756512122a100a0e0a0161120911000000000000f03f
 {\"any\":{\"@type\":\"type.googleapis.com/google.protobuf.Value\",\"value\":null}} | 9a022f0a29747970652e676f6f676c65617069732e636f6d2f676f6f676c652e70726f746f6275662e56616c756512020800
 {\"any\":{\"@type\":\"type.googleapis.com/google.protobuf.Empty\"}} | 9a022b0a29747970652e676f6f676c65617069732e636f6d2f676f6f676c652e70726f746f6275662e456d707479
+{\"any\":{\"@type\":\"type.googleapis.com/google.protobuf.Empty\",\"value\":{}}} | 9a022b0a29747970652e676f6f676c65617069732e636f6d2f676f6f676c652e70726f746f6275662e456d707479
+{\"any\":{\"value\":null,\"@type\":\"type.googleapis.com/google.protobuf.Empty\"}} | 9a022b0a29747970652e676f6f676c65617069732e636f6d2f676f6f676c652e70726f746f6275662e456d707479
 {\"any\":{\"@type\":\"a.b/c/t.M\",\"intA\":5}} | 9a020f0a09612e622f632f742e4d12020805
 ";
 

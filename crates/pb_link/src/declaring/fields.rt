@@ -152,7 +152,9 @@ fn name_of_type(
     requires pool { IsPool pool.now }
     requires scope { IsAscii scope.now }
     requires field { IsDeclarable pool.now (view_of_field field.now) }
-    ensures { IfOk result (λ n. option_map string_bytes n ≡ name_of_type pool.now scope.now (view_of_field field.now).name field.now.shape field.now.kind) }
+    ensures { IfOk result (λ n. option_map string_bytes n
+        ≡ name_of_type pool.now scope.now
+        (view_of_field field.now).name field.now.shape field.now.kind) }
 {
     match field.shape {
         Shape::Map { .. } => {
@@ -221,7 +223,8 @@ fn field_decl(
     requires scope { IsAscii scope.now }
     requires few { synthetic < 2 ^ 31 }
     requires field { IsDeclarable pool.now (view_of_field field.now) }
-    ensures { IfOk result (λ d. field_view d ≡ declared_field proto2 pool.now scope.now synthetic (view_of_field field.now)) }
+    ensures { IfOk result (λ d. field_view d ≡ declared_field proto2 pool.now scope.now synthetic
+        (view_of_field field.now)) }
 {
     let name = field.name.clone()?;
     let type_name = name_of_type(alloc, pool, scope, field)?;
@@ -240,7 +243,8 @@ fn field_decl(
 /// The index of the next synthetic oneof after a field.
 fn behind(proto2: bool, synthetic: usize, field: &Field) -> usize
     requires { synthetic < 2 ^ 31 }
-    ensures { result ≡ (if is_optional_field proto2 field.now.shape field.now.kind then synthetic + 1 else synthetic) }
+    ensures { result ≡ (if is_optional_field proto2 field.now.shape field.now.kind then
+        synthetic + 1 else synthetic) }
 {
     if is_optional(proto2, field.shape, field.kind) {
         synthetic + 1
@@ -262,7 +266,8 @@ pub(crate) fn field_decls(
     requires scope { IsAscii scope.now }
     requires few { oneofs + length fields.now < 2 ^ 31 }
     requires fields { AreDeclarable pool.now (map view_of_field fields.now) }
-    ensures { IfOk result (λ v. map field_view v.items ≡ declared_fields proto2 pool.now scope.now oneofs (map view_of_field fields.now)) }
+    ensures { IfOk result (λ v. map field_view v.items
+        ≡ declared_fields proto2 pool.now scope.now oneofs (map view_of_field fields.now)) }
 {
     let mut decls = Vec::with_capacity(alloc, fields.len())?;
     let mut synthetic = oneofs;
@@ -281,7 +286,9 @@ pub(crate) fn add_synthetic(
     fields: &[Field],
     oneofs: &mut Vec<String>,
 ) -> Result<(), AllocError>
-    ensures { OnOk result (map string_bytes oneofs.new.items ≡ map string_bytes oneofs.old.items ++ synthetic_names proto2 (map view_of_field fields.now)) }
+    ensures { OnOk result (map string_bytes oneofs.new.items
+        ≡ map string_bytes oneofs.old.items ++ synthetic_names proto2
+        (map view_of_field fields.now)) }
 {
     for field in fields {
         if is_optional(proto2, field.shape, field.kind) {
@@ -328,7 +335,8 @@ fn entry_parts(
     requires pool { IsPool pool.now }
     requires key { NamesType (length pool.now.messages) (length pool.now.enums) key }
     requires value { NamesType (length pool.now.messages) (length pool.now.enums) value }
-    ensures { IfOk result (λ v. map field_view v.items ≡ entry_part pool.now key_name 1 key ∷ entry_part pool.now value_name 2 value ∷ []) }
+    ensures { IfOk result (λ v. map field_view v.items
+        ≡ entry_part pool.now key_name 1 key ∷ entry_part pool.now value_name 2 value ∷ []) }
 {
     let first = entry_part(alloc, pool, "key", 1, key)?;
     let second = entry_part(alloc, pool, "value", 2, value)?;
@@ -376,7 +384,8 @@ fn add_entry(
 ) -> Result<(), AllocError>
     requires pool { IsPool pool.now }
     requires field { IsDeclarable pool.now (view_of_field field.now) }
-    ensures { OnOk result (map message_view messages.new.items ≡ map message_view messages.old.items ++ filter_map (entry_of_field pool.now)
+    ensures { OnOk result (map message_view messages.new.items
+        ≡ map message_view messages.old.items ++ filter_map (entry_of_field pool.now)
         (view_of_field field.now ∷ [])) }
 {
     match field.shape {
@@ -401,7 +410,8 @@ pub(crate) fn add_entries(
 ) -> Result<(), AllocError>
     requires pool { IsPool pool.now }
     requires fields { AreDeclarable pool.now (map view_of_field fields.now) }
-    ensures { OnOk result (map message_view messages.new.items ≡ map message_view messages.old.items ++ filter_map (entry_of_field pool.now)
+    ensures { OnOk result (map message_view messages.new.items
+        ≡ map message_view messages.old.items ++ filter_map (entry_of_field pool.now)
         (map view_of_field fields.now)) }
 {
     for field in fields {

@@ -27,7 +27,8 @@ pub(crate) struct Inside {
 
 /// `count` places that hold nothing.
 fn empty(alloc: Global, count: usize) -> Result<Vec<Inside>, AllocError>
-    ensures { IfOk result (λ v. AreInside count (λ i. record { messages = []; enums = [] }) v.items) }
+    ensures { IfOk result (λ v. AreInside count
+        (λ i. record { messages = []; enums = [] }) v.items) }
 {
     let mut places = Vec::with_capacity(alloc, count)?;
     for _ in 0..count {
@@ -44,7 +45,8 @@ fn add_message(
     index: usize,
     message: MessageDecl,
 ) -> Result<(), AllocError>
-    ensures { OnOk result (ChangesAt index (with_message (message_view message)) places.old.items places.new.items) }
+    ensures { OnOk result (ChangesAt index
+        (with_message (message_view message)) places.old.items places.new.items) }
 {
     if let Some(inside) = places.get_mut(index) {
         inside.messages.push(message)?;
@@ -53,7 +55,8 @@ fn add_message(
 }
 
 fn add_enum(places: &mut Vec<Inside>, index: usize, entry: EnumDecl) -> Result<(), AllocError>
-    ensures { OnOk result (ChangesAt index (with_enum (enum_view entry)) places.old.items places.new.items) }
+    ensures { OnOk result (ChangesAt index
+        (with_enum (enum_view entry)) places.old.items places.new.items) }
 {
     if let Some(inside) = places.get_mut(index) {
         inside.enums.push(entry)?;
@@ -69,8 +72,9 @@ fn place_message(
     files: &mut Vec<Inside>,
     messages: &mut Vec<Inside>,
 ) -> Result<(), AllocError>
-    ensures { OnOk result
-        (PlacesAt file (parent_view parent) (with_message (message_view message)) files.old.items messages.old.items files.new.items messages.new.items) }
+    ensures { OnOk result (PlacesAt file (parent_view parent)
+        (with_message (message_view message)) files.old.items messages.old.items files.new.items
+        messages.new.items) }
 {
     match parent {
         None => add_message(files, file, message)?,
@@ -86,8 +90,9 @@ fn place_enum(
     files: &mut Vec<Inside>,
     messages: &mut Vec<Inside>,
 ) -> Result<(), AllocError>
-    ensures { OnOk result
-        (PlacesAt file (parent_view parent) (with_enum (enum_view entry)) files.old.items messages.old.items files.new.items messages.new.items) }
+    ensures { OnOk result (PlacesAt file (parent_view parent)
+        (with_enum (enum_view entry)) files.old.items messages.old.items files.new.items
+        messages.new.items) }
 {
     match parent {
         None => add_enum(files, file, entry)?,
@@ -104,7 +109,8 @@ fn nest_enums(
     messages: &mut Vec<Inside>,
 ) -> Result<(), AllocError>
     requires { AreNested pool.now (length pool.now.messages) 0 files.old.items messages.old.items }
-    ensures { OnOk result (AreNested pool.now (length pool.now.messages) (length pool.now.enums) files.new.items messages.new.items) }
+    ensures { OnOk result (AreNested pool.now (length pool.now.messages)
+        (length pool.now.enums) files.new.items messages.new.items) }
 {
     for entry in pool.enums() {
         let decl = enum_decl(alloc, entry)?;
@@ -122,7 +128,8 @@ fn inner_messages(
 ) -> Result<Vec<MessageDecl>, AllocError>
     requires pool { IsPool pool.now }
     requires fields { AreDeclarable pool.now (map view_of_field fields.now) }
-    ensures { IfOk result (λ v. map message_view v.items ≡ reverse (map message_view reversed.items) ++ filter_map (entry_of_field pool.now)
+    ensures { IfOk result (λ v. map message_view v.items
+        ≡ reverse (map message_view reversed.items) ++ filter_map (entry_of_field pool.now)
         (map view_of_field fields.now)) }
 {
     let mut messages = reversed;
@@ -138,7 +145,8 @@ fn oneof_names(
     message: &MessageType,
 ) -> Result<Vec<String>, AllocError>
     ensures { IfOk result (λ v. map string_bytes v.items
-        ≡ (view_of_message message.now).oneofs ++ synthetic_names proto2 (view_of_message message.now).fields) }
+        ≡ (view_of_message message.now).oneofs ++ synthetic_names proto2
+        (view_of_message message.now).fields) }
 {
     let mut names = copied(alloc, &message.oneofs)?;
     add_synthetic(alloc, proto2, &message.fields, &mut names)?;
@@ -163,8 +171,10 @@ fn message_decl(
     inside: Inside,
 ) -> Result<MessageDecl, AllocError>
     requires within { index < length pool.now.messages }
-    requires inside { inside_view inside ≡ inside_message pool.now (drop (index + 1) (numbered pool.now)) pool.now.enums index }
-    ensures { IfOk result (λ m. (t : MessageView) → slice_get pool.now.messages index ≡ Some t → message_view m ≡ whole_message pool.now (index, t)) }
+    requires inside { inside_view inside ≡ inside_message pool.now
+        (drop (index + 1) (numbered pool.now)) pool.now.enums index }
+    ensures { IfOk result (λ m. (t : MessageView) → slice_get pool.now.messages index ≡ Some t
+        → message_view m ≡ whole_message pool.now (index, t)) }
 {
     let message = &pool.messages()[index];
     let scope = pool.message_name(MessageId(index));
@@ -202,12 +212,16 @@ fn nest_message(
     messages: &mut Vec<Inside>,
 ) -> Result<(), AllocError>
     requires within { index < length pool.now.messages }
-    requires inside { inside_view inside ≡ inside_message pool.now (drop (index + 1) (numbered pool.now)) (take (length pool.now.enums) pool.now.enums) index }
+    requires inside { inside_view inside ≡ inside_message pool.now
+        (drop (index + 1) (numbered pool.now)) (take (length pool.now.enums) pool.now.enums) index }
     requires files { AreInside (length pool.now.files)
-        (inside_file pool.now (drop (index + 1) (numbered pool.now)) (take (length pool.now.enums) pool.now.enums)) files.old.items }
-    requires messages { AreInside index (inside_message pool.now (drop (index + 1) (numbered pool.now))
+        (inside_file pool.now (drop (index + 1) (numbered pool.now))
+        (take (length pool.now.enums) pool.now.enums)) files.old.items }
+    requires messages { AreInside index
+        (inside_message pool.now (drop (index + 1) (numbered pool.now))
         (take (length pool.now.enums) pool.now.enums)) messages.old.items }
-    ensures { OnOk result (AreNested pool.now index (length pool.now.enums) files.new.items messages.new.items) }
+    ensures { OnOk result (AreNested pool.now index
+        (length pool.now.enums) files.new.items messages.new.items) }
 {
     let decl = message_decl(alloc, pool, index, inside)?;
     let message = &pool.messages()[index];
@@ -222,8 +236,10 @@ fn nest_messages(
     files: &mut Vec<Inside>,
     messages: &mut Vec<Inside>,
 ) -> Result<(), AllocError>
-    requires { AreNested pool.now (length pool.now.messages) (length pool.now.enums) files.old.items messages.old.items }
-    ensures { OnOk result (AreNested pool.now 0 (length pool.now.enums) files.new.items messages.new.items) }
+    requires { AreNested pool.now (length pool.now.messages)
+        (length pool.now.enums) files.old.items messages.old.items }
+    ensures { OnOk result (AreNested pool.now 0
+        (length pool.now.enums) files.new.items messages.new.items) }
 {
     while let Some(inside) = messages.pop() {
         let index = messages.len();
@@ -234,7 +250,8 @@ fn nest_messages(
 
 /// The messages and enums directly in each file, the last message first.
 pub(crate) fn nested(alloc: Global, pool: &Pool) -> Result<Vec<Inside>, AllocError>
-    ensures { IfOk result (λ v. AreInside (length pool.now.files) (inside_file pool.now (numbered pool.now) pool.now.enums) v.items) }
+    ensures { IfOk result (λ v. AreInside (length pool.now.files)
+        (inside_file pool.now (numbered pool.now) pool.now.enums) v.items) }
 {
     let mut files = empty(alloc, pool.files().len())?;
     let mut messages = empty(alloc, pool.messages().len())?;

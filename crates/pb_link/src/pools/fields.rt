@@ -63,8 +63,8 @@ fn singular_shape(proto2: bool, kind: Kind, field: &FieldDecl) -> Shape
 
 /// The shape of a field that is no map.
 fn shape_of(proto2: bool, kind: Kind, field: &FieldDecl) -> Shape
-    ensures { result ≡ (if (declared_view field.now).is_repeated then list_shape proto2 kind (declared_view field.now) else singular_shape proto2 kind
-        (declared_view field.now)) }
+    ensures { result ≡ (if (declared_view field.now).is_repeated then list_shape proto2 kind
+        (declared_view field.now) else singular_shape proto2 kind (declared_view field.now)) }
 {
     if field.repeated {
         list_shape(proto2, kind, field)
@@ -81,7 +81,8 @@ fn number_of(number: i32) -> u32
 
 /// The entry message that is declared, if it is one.
 fn entry_of<'a>(declaration: &Declaration<'a>) -> Option<&'a MessageDecl>
-    ensures { option_map (λ m. (head_of (message_view m.now)).fields) result ≡ fields_of_entry (declaration_view declaration.now).item }
+    ensures { option_map (λ m. (head_of (message_view m.now)).fields) result
+        ≡ fields_of_entry (declaration_view declaration.now).item }
 {
     if let Item::Message(message) = declaration.item {
         if message.map_entry {
@@ -93,7 +94,8 @@ fn entry_of<'a>(declaration: &Declaration<'a>) -> Option<&'a MessageDecl>
 
 /// The entry at a place, if there is one.
 fn entry_at<'a>(tables: &Tables<'a>, place: usize) -> Option<&'a MessageDecl>
-    ensures { option_map (λ m. (head_of (message_view m.now)).fields) result ≡ entry_read tables.now place }
+    ensures { option_map (λ m. (head_of (message_view m.now)).fields) result
+        ≡ entry_read tables.now place }
 {
     match tables.row.get(place) {
         Some(declaration) => entry_of(declaration),
@@ -137,8 +139,10 @@ fn kind_and_shape(
     field: &FieldDecl,
 ) -> (Kind, Shape)
     requires sizes { length tables.now.found.now ≡ length tables.now.row.now }
-    ensures kind { result.0 ≡ (field_by_place proto2 tables.now (declared_view field.now) place).kind }
-    ensures shape { result.1 ≡ (field_by_place proto2 tables.now (declared_view field.now) place).shape }
+    ensures kind { result.0 ≡ (field_by_place proto2 tables.now
+        (declared_view field.now) place).kind }
+    ensures shape { result.1 ≡ (field_by_place proto2 tables.now
+        (declared_view field.now) place).shape }
 {
     if let Some(at) = place {
         if let Some(entry) = entry_at(tables, at) {
@@ -158,7 +162,8 @@ fn field_of(
     field: &FieldDecl,
 ) -> Result<Field, AllocError>
     requires sizes { length tables.now.found.now ≡ length tables.now.row.now }
-    ensures { IfOk result (λ f. field_view f ≡ field_by_place proto2 tables.now (declared_view field.now) place) }
+    ensures { IfOk result (λ f. field_view f ≡ field_by_place proto2 tables.now
+        (declared_view field.now) place) }
 {
     let (kind, shape) = kind_and_shape(tables, proto2, place, field);
     Ok(Field {
@@ -178,7 +183,8 @@ pub(crate) fn fields_of(
     fields: &[FieldDecl],
 ) -> Result<Vec<Field>, AllocError>
     requires sizes { length tables.now.found.now ≡ length tables.now.row.now }
-    ensures { IfOk result (λ v. map field_view v.items ≡ fields_read proto2 tables.now names.now 0 (map declared_view fields.now)) }
+    ensures { IfOk result (λ v. map field_view v.items
+        ≡ fields_read proto2 tables.now names.now 0 (map declared_view fields.now)) }
 {
     let mut types: Vec<Field> = Vec::new(alloc);
     for (index, field) in fields.iter().enumerate() {

@@ -37,7 +37,8 @@ pub(crate) fn files_of(
     files: &[FileDecl],
     imports: &FlatGraph,
 ) -> Result<Vec<FileInfo>, AllocError>
-    requires { lists_of imports.now ≡ map (λ f. f.imports) (files_of (map declared_view files.now)) }
+    requires { lists_of imports.now ≡ map (λ f. f.imports)
+        (files_of (map declared_view files.now)) }
     ensures { IfOk result (λ v. map file_view v.items ≡ files_of (map declared_view files.now)) }
 {
     let mut infos: Vec<FileInfo> = Vec::with_capacity(alloc, files.len())?;

@@ -79,7 +79,8 @@ fn kind_here(
     messages: usize,
     enums: usize,
 ) -> Kind
-    ensures { result ≡ kind_here (is_two (map file_view files.now) (declaration_view declaration.now).file) messages enums
+    ensures { result ≡ kind_here
+        (is_two (map file_view files.now) (declaration_view declaration.now).file) messages enums
         (declaration_view declaration.now).item }
 {
     match declaration.item {
@@ -123,7 +124,8 @@ pub(crate) fn kinds(
     files: &[FileDecl],
     row: &[Declaration<'_>],
 ) -> Result<Vec<Kind>, AllocError>
-    ensures { IfOk result (λ v. v.items ≡ kinds_from (map file_view files.now) 0 0 (map declaration_view row.now)) }
+    ensures { IfOk result (λ v. v.items ≡ kinds_from (map file_view files.now) 0 0
+        (map declaration_view row.now)) }
 {
     let mut kinds: Vec<Kind> = Vec::with_capacity(alloc, row.len())?;
     let mut messages: usize = 0;

@@ -22,7 +22,8 @@ use std::alloc::{AllocError, Global};
 /// Appends the name of a oneof, unless it is synthetic.
 fn add_oneof(is_synthetic: bool, name: &String, names: &mut Vec<String>) -> Result<(), AllocError>
     ensures { OnOk result (map string_bytes names.new.items
-        ≡ map string_bytes names.old.items ++ (if not is_synthetic then string_bytes name.now ∷ [] else [])) }
+        ≡ map string_bytes names.old.items
+        ++ (if not is_synthetic then string_bytes name.now ∷ [] else [])) }
 {
     if !is_synthetic {
         names.push(name.clone()?)?;
@@ -37,8 +38,11 @@ fn real_names(
     all: &[String],
 ) -> Result<Vec<String>, AllocError>
     requires sizes { length are_synthetic.now ≡ length all.now }
-    ensures { (head : MessageHead) → ((o : ℕ) → o < length all.now → slice_index_or are_synthetic.now o false ≡ is_synthetic head o)
-        → IfOk result (λ v. map string_bytes v.items ≡ real_from head 0 (map string_bytes all.now)) }
+    ensures { (head : MessageHead)
+        → ((o : ℕ) → o < length all.now → slice_index_or are_synthetic.now o false
+        ≡ is_synthetic head o)
+        → IfOk result (λ v. map string_bytes v.items
+        ≡ real_from head 0 (map string_bytes all.now)) }
 {
     let mut names: Vec<String> = Vec::new(alloc);
     for (index, name) in all.iter().enumerate() {
@@ -49,7 +53,8 @@ fn real_names(
 
 /// The names of the oneofs that are not synthetic.
 fn real_oneofs(alloc: Global, message: &MessageDecl) -> Result<Vec<String>, AllocError>
-    ensures { IfOk result (λ v. map string_bytes v.items ≡ real_oneofs (head_of (declared_view message.now))) }
+    ensures { IfOk result (λ v. map string_bytes v.items
+        ≡ real_oneofs (head_of (declared_view message.now))) }
 {
     let oneofs = counted(alloc, &message.fields, message.oneofs.len())?;
     real_names(alloc, &oneofs.are_synthetic, &message.oneofs)
@@ -65,7 +70,9 @@ fn message_of(
 ) -> Result<MessageType, AllocError>
     requires sizes { length tables.now.found.now ≡ length tables.now.row.now }
     requires within { place < length tables.now.row.now }
-    ensures { IfOk result (λ t. message_view t ≡ message_read tables.now place (declaration_view declaration.now) (head_of (declared_view message.now))) }
+    ensures { IfOk result (λ t. message_view t
+        ≡ message_read tables.now place (declaration_view declaration.now)
+        (head_of (declared_view message.now))) }
 {
     Ok(MessageType {
         name: message.name.clone()?,
@@ -100,7 +107,8 @@ fn enum_of(
     declaration: &Declaration<'_>,
     entry: &EnumDecl,
 ) -> Result<EnumType, AllocError>
-    ensures { IfOk result (λ t. enum_view t ≡ enum_read tables.now (declaration_view declaration.now) (declared_enum entry.now)) }
+    ensures { IfOk result (λ t. enum_view t ≡ enum_read tables.now
+        (declaration_view declaration.now) (declared_enum entry.now)) }
 {
     Ok(EnumType {
         name: entry.name.clone()?,
@@ -121,8 +129,9 @@ fn add_message(
     requires sizes { length tables.now.found.now ≡ length tables.now.row.now }
     requires within { place < length tables.now.row.now }
     ensures { OnOk result (map message_view types.new.items
-        ≡ map message_view types.old.items
-        ++ cons_option (message_part tables.now place (declaration_view declaration.now) (declaration_view declaration.now).item) []) }
+        ≡ map message_view types.old.items ++ cons_option
+        (message_part tables.now place (declaration_view declaration.now)
+        (declaration_view declaration.now).item) []) }
 {
     if let Item::Message(message) = declaration.item {
         if !message.map_entry {
@@ -138,7 +147,8 @@ pub(crate) fn messages_of(
     tables: &Tables<'_>,
 ) -> Result<Vec<MessageType>, AllocError>
     requires sizes { length tables.now.found.now ≡ length tables.now.row.now }
-    ensures { IfOk result (λ v. map message_view v.items ≡ messages_read tables.now 0 (map declaration_view tables.now.row.now)) }
+    ensures { IfOk result (λ v. map message_view v.items
+        ≡ messages_read tables.now 0 (map declaration_view tables.now.row.now)) }
 {
     let mut types: Vec<MessageType> = Vec::new(alloc);
     let row = tables.row;
@@ -156,7 +166,9 @@ fn add_enum(
     types: &mut Vec<EnumType>,
 ) -> Result<(), AllocError>
     ensures { OnOk result (map enum_view types.new.items
-        ≡ map enum_view types.old.items ++ cons_option (enum_part tables.now (declaration_view declaration.now) (declaration_view declaration.now).item) []) }
+        ≡ map enum_view types.old.items ++ cons_option
+        (enum_part tables.now (declaration_view declaration.now)
+        (declaration_view declaration.now).item) []) }
 {
     if let Item::Enum(entry) = declaration.item {
         types.push(enum_of(alloc, tables, declaration, entry)?)?;
@@ -166,7 +178,8 @@ fn add_enum(
 
 /// The enums, in declaration order.
 pub(crate) fn enums_of(alloc: Global, tables: &Tables<'_>) -> Result<Vec<EnumType>, AllocError>
-    ensures { IfOk result (λ v. map enum_view v.items ≡ enums_read tables.now (map declaration_view tables.now.row.now)) }
+    ensures { IfOk result (λ v. map enum_view v.items
+        ≡ enums_read tables.now (map declaration_view tables.now.row.now)) }
 {
     let mut types: Vec<EnumType> = Vec::new(alloc);
     let row = tables.row;

@@ -49,7 +49,8 @@ fn list_maps_in(message: &mut MessageDecl)
 
 #[cycle(list_maps)]
 fn list_maps(messages: &mut [MessageDecl])
-    ensures { map message_view messages.new ≡ map message_without_maps (map message_view messages.old) }
+    ensures { map message_view messages.new ≡ map message_without_maps
+        (map message_view messages.old) }
 {
     for message in messages.iter_mut() {
         list_maps_in(message);
@@ -86,7 +87,8 @@ fn resolve_types(alloc: Global, files: &[FileDecl]) -> Result<Vec<FileDecl>, All
 /// that means a type is written in full after a leading dot, with its type number, and a map in a file of proto2 whose values are of an
 /// enum is the list of its entries. No rule of linking is asked: see [`link`](crate::link) and [`resolve`](crate::resolve).
 pub fn without_enum_maps(alloc: Global, files: &[FileDecl]) -> Result<Vec<FileDecl>, AllocError>
-    ensures made { IfOk result (λ v. ListsEnumMaps (map file_view files.now) (map file_view v.items)) }
+    ensures made { IfOk result
+        (λ v. ListsEnumMaps (map file_view files.now) (map file_view v.items)) }
     ensures exact { (answer : List DeclaredFile) → ListsEnumMaps (map file_view files.now) answer
         → IfOk result (λ v. map file_view v.items ≡ answer) }
 {

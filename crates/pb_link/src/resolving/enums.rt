@@ -47,7 +47,8 @@ fn skip_enum(names: &mut Upcoming, entry: &EnumDecl)
 
 /// Goes past enums and their values.
 pub(crate) fn skip_enums(names: &mut Upcoming, enums: &[EnumDecl])
-    ensures { coming names.new ≡ each_behind behind_enum (map enum_view enums.now) (coming names.old) }
+    ensures { coming names.new ≡ each_behind behind_enum (map enum_view enums.now)
+        (coming names.old) }
 {
     for entry in enums {
         skip_enum(names, entry);

@@ -19,7 +19,9 @@ fn full_name_if(
     name: &Option<String>,
     meant: Option<&Declaration>,
 ) -> Result<Option<String>, AllocError>
-    ensures { IfOk result (λ n. option_map string_bytes n ≡ option_map (λ name. full_name_or name (option_map (λ d. declaration_view d.now) meant.entry))
+    ensures { IfOk result (λ n. option_map string_bytes n
+        ≡ option_map (λ name. full_name_or name
+        (option_map (λ d. declaration_view d.now) meant.entry))
         (option_map string_bytes name.now)) }
 {
     match name {
@@ -38,7 +40,8 @@ fn resolve_field(
     names: TypeNames,
     field: &FieldDecl,
 ) -> Result<FieldDecl, AllocError>
-    ensures { IfOk result (λ f. field_view f ≡ field_of_type (field_view field.now) (first_type (map declaration_view row.now) (type_names_view names))) }
+    ensures { IfOk result (λ f. field_view f ≡ field_of_type (field_view field.now)
+        (first_type (map declaration_view row.now) (type_names_view names))) }
 {
     let meant = first_type(row, names);
     let name = field.name.clone()?;
@@ -62,8 +65,11 @@ pub(crate) fn resolve_fields(
     names: &mut Upcoming,
     fields: &[FieldDecl],
 ) -> Result<Vec<FieldDecl>, AllocError>
-    ensures fields { IfOk result (λ v. map field_view v.items ≡ fields_read (map declaration_view row.now) (coming names.old) (map field_view fields.now)) }
-    ensures behind { OnOk result (coming names.new ≡ each_behind behind_one (map field_view fields.now) (coming names.old)) }
+    ensures fields { IfOk result (λ v. map field_view v.items
+        ≡ fields_read (map declaration_view row.now) (coming names.old)
+        (map field_view fields.now)) }
+    ensures behind { OnOk result (coming names.new
+        ≡ each_behind behind_one (map field_view fields.now) (coming names.old)) }
 {
     let mut resolved: Vec<FieldDecl> = Vec::new(alloc);
     for field in fields {

@@ -21,8 +21,10 @@ fn resolve_file(
     names: &mut Upcoming,
     file: &FileDecl,
 ) -> Result<FileDecl, AllocError>
-    ensures file { IfOk result (λ f. file_view f ≡ file_read (map declaration_view row.now) (coming names.old) (file_view file.now)) }
-    ensures behind { OnOk result (coming names.new ≡ behind_file (file_view file.now) (coming names.old)) }
+    ensures file { IfOk result (λ f. file_view f
+        ≡ file_read (map declaration_view row.now) (coming names.old) (file_view file.now)) }
+    ensures behind { OnOk result (coming names.new
+        ≡ behind_file (file_view file.now) (coming names.old)) }
 {
     names.skip(1);
     let messages = resolve_messages(alloc, row, names, &file.messages)?;
@@ -52,7 +54,9 @@ pub(crate) fn resolve_files(
     found: &[TypeNames],
     files: &[FileDecl],
 ) -> Result<Vec<FileDecl>, AllocError>
-    ensures { IfOk result (λ v. map file_view v.items ≡ files_read (map declaration_view row.now) (map type_names_view found.now) (map file_view files.now)) }
+    ensures { IfOk result (λ v. map file_view v.items
+        ≡ files_read (map declaration_view row.now) (map type_names_view found.now)
+        (map file_view files.now)) }
 {
     let mut names = Upcoming { rest: found };
     let mut resolved: Vec<FileDecl> = Vec::new(alloc);

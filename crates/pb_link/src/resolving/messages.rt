@@ -20,8 +20,10 @@ fn resolve_message(
     names: &mut Upcoming,
     decl: &MessageDecl,
 ) -> Result<MessageDecl, AllocError>
-    ensures made { IfOk result (λ m. message_view m ≡ message_read (map declaration_view row.now) (coming names.old) (message_view decl.now)) }
-    ensures behind { OnOk result (coming names.new ≡ behind_message (message_view decl.now) (coming names.old)) }
+    ensures made { IfOk result (λ m. message_view m
+        ≡ message_read (map declaration_view row.now) (coming names.old) (message_view decl.now)) }
+    ensures behind { OnOk result (coming names.new
+        ≡ behind_message (message_view decl.now) (coming names.old)) }
 {
     names.skip(1);
     let fields = resolve_fields(alloc, row, names, &decl.fields)?;
@@ -53,9 +55,11 @@ pub(crate) fn resolve_messages(
     names: &mut Upcoming,
     messages: &[MessageDecl],
 ) -> Result<Vec<MessageDecl>, AllocError>
-    ensures made { IfOk result (λ v. map message_view v.items ≡ each_read (message_read (map declaration_view row.now)) behind_message (coming names.old)
+    ensures made { IfOk result (λ v. map message_view v.items
+        ≡ each_read (message_read (map declaration_view row.now)) behind_message (coming names.old)
         (map message_view messages.now)) }
-    ensures behind { OnOk result (coming names.new ≡ each_behind behind_message (map message_view messages.now) (coming names.old)) }
+    ensures behind { OnOk result (coming names.new
+        ≡ each_behind behind_message (map message_view messages.now) (coming names.old)) }
 {
     let mut resolved: Vec<MessageDecl> = Vec::new(alloc);
     for message in messages {

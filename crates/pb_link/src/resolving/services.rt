@@ -21,7 +21,8 @@ fn resolve_method(
     method: &MethodDecl,
 ) -> Result<MethodDecl, AllocError>
     ensures { IfOk result (λ m. method_view m
-        ≡ method_of_types (method_view method.now) (first_type (map declaration_view row.now) (type_names_view names))
+        ≡ method_of_types (method_view method.now)
+        (first_type (map declaration_view row.now) (type_names_view names))
         (second_type (map declaration_view row.now) (type_names_view names))) }
 {
     let name = method.name.clone()?;
@@ -43,8 +44,10 @@ fn resolve_methods(
     methods: &[MethodDecl],
 ) -> Result<Vec<MethodDecl>, AllocError>
     ensures methods { IfOk result (λ v. map method_view v.items
-        ≡ methods_read (map declaration_view row.now) (coming names.old) (map method_view methods.now)) }
-    ensures behind { OnOk result (coming names.new ≡ each_behind behind_one (map method_view methods.now) (coming names.old)) }
+        ≡ methods_read (map declaration_view row.now) (coming names.old)
+        (map method_view methods.now)) }
+    ensures behind { OnOk result (coming names.new
+        ≡ each_behind behind_one (map method_view methods.now) (coming names.old)) }
 {
     let mut resolved: Vec<MethodDecl> = Vec::new(alloc);
     for method in methods {
@@ -61,8 +64,11 @@ fn resolve_service(
     names: &mut Upcoming,
     service: &ServiceDecl,
 ) -> Result<ServiceDecl, AllocError>
-    ensures service { IfOk result (λ s. service_view s ≡ service_read (map declaration_view row.now) (coming names.old) (service_view service.now)) }
-    ensures behind { OnOk result (coming names.new ≡ behind_service (service_view service.now) (coming names.old)) }
+    ensures service { IfOk result (λ s. service_view s
+        ≡ service_read (map declaration_view row.now) (coming names.old)
+        (service_view service.now)) }
+    ensures behind { OnOk result (coming names.new
+        ≡ behind_service (service_view service.now) (coming names.old)) }
 {
     names.skip(1);
     let methods = resolve_methods(alloc, row, names, &service.methods)?;
@@ -78,8 +84,10 @@ pub(crate) fn resolve_services(
     services: &[ServiceDecl],
 ) -> Result<Vec<ServiceDecl>, AllocError>
     ensures services { IfOk result (λ v. map service_view v.items
-        ≡ services_read (map declaration_view row.now) (coming names.old) (map service_view services.now)) }
-    ensures behind { OnOk result (coming names.new ≡ each_behind behind_service (map service_view services.now) (coming names.old)) }
+        ≡ services_read (map declaration_view row.now) (coming names.old)
+        (map service_view services.now)) }
+    ensures behind { OnOk result (coming names.new
+        ≡ each_behind behind_service (map service_view services.now) (coming names.old)) }
 {
     let mut resolved: Vec<ServiceDecl> = Vec::new(alloc);
     for service in services {

@@ -14,7 +14,8 @@ use std::alloc::{AllocError, Global};
 
 /// The type that was found.
 fn type_at<'r, 'd>(row: &'r [Declaration<'d>], found: Found) -> Option<&'r Declaration<'d>>
-    ensures { option_map (λ d. declaration_view d.now) result ≡ type_at (map declaration_view row.now) (found_view found) }
+    ensures { option_map (λ d. declaration_view d.now) result
+        ≡ type_at (map declaration_view row.now) (found_view found) }
 {
     match found {
         Found::Type(place) => row.get(place),
@@ -29,7 +30,8 @@ pub(crate) fn first_type<'r, 'd>(
     row: &'r [Declaration<'d>],
     names: TypeNames,
 ) -> Option<&'r Declaration<'d>>
-    ensures { option_map (λ d. declaration_view d.now) result ≡ first_type (map declaration_view row.now) (type_names_view names) }
+    ensures { option_map (λ d. declaration_view d.now) result
+        ≡ first_type (map declaration_view row.now) (type_names_view names) }
 {
     match names {
         TypeNames::None => None,
@@ -43,7 +45,8 @@ pub(crate) fn second_type<'r, 'd>(
     row: &'r [Declaration<'d>],
     names: TypeNames,
 ) -> Option<&'r Declaration<'d>>
-    ensures { option_map (λ d. declaration_view d.now) result ≡ second_type (map declaration_view row.now) (type_names_view names) }
+    ensures { option_map (λ d. declaration_view d.now) result
+        ≡ second_type (map declaration_view row.now) (type_names_view names) }
 {
     match names {
         TypeNames::None => None,
@@ -68,7 +71,9 @@ pub(crate) fn full_name_or(
     name: &String,
     meant: Option<&Declaration>,
 ) -> Result<String, AllocError>
-    ensures { IfOk result (λ s. string_bytes s ≡ full_name_or (string_bytes name.now) (option_map (λ d. declaration_view d.now) meant.entry)) }
+    ensures { IfOk result (λ s. string_bytes s
+        ≡ full_name_or (string_bytes name.now)
+        (option_map (λ d. declaration_view d.now) meant.entry)) }
 {
     match meant {
         Some(declaration) => {

@@ -47,7 +47,9 @@ impl AddedNames {
 pub fn scoped(alloc: Global, scope: &[u8], name: &[u8]) -> Result<Vec<u8>, AllocError>
     ensures { IfOk result (λ v. v.items ≡ in_scope scope.now name.now) }
 {
-    let mut full_name = scope.to_vec(alloc)?;
+    let size = scope.len().saturating_add(name.len()).saturating_add(1);
+    let mut full_name = Vec::with_capacity(alloc, size)?;
+    full_name.extend_from_slice(scope)?;
     if !scope.is_empty() {
         full_name.push(b'.')?;
     }

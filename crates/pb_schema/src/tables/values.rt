@@ -1,35 +1,53 @@
 //! Enums by the numbers of their values.
 
-ghost use Rattle.std.specs.Prelude.{◌≡◌, ◌≤◌, ◌*◌, ◌⊎◌, ◌-ℤ◌, IsTrue, IfOk, IfSome, MatchOption, List, length, ℕ, ℤ, pos, true, map, set, string_bytes};
+ghost use Rattle.std.specs.Prelude.{◌≡◌, ◌≤◌, ◌*◌, ◌⊎◌, ◌-ℤ◌, IsTrue, IfOk, OnOk, IfSome, MatchOption, List, length, ℕ, ℤ, pos, true, map, set, option_map};
 ghost use Rattle.std.specs.List.{list_any};
 ghost use Rattle.std.specs.Ordering.{int_eq};
-ghost use Rattle.pb_schema.specs.View.{enum_view};
-ghost use Rattle.pb_schema.specs.Tables.{AreNumbersOf, AreMarksOf, IsValueTable, AreValueTables};
+ghost use Rattle.pb_schema.specs.EnumValues.{value_name};
+ghost use Rattle.pb_schema.specs.View.{enum_view, values_view};
+ghost use Rattle.pb_schema.specs.Tables.{AreFirstsOf, AreMarksOf, IsValueTable, AreValueTables, IsNoted};
 
 use crate::types::EnumType;
-use indexmap::IndexSet;
 use std::alloc::{AllocError, Global};
+use std::collections::BTreeMap;
 
 /// How many marks there are at most for each value, so that their memory follows what is declared.
 const MARKS_A_VALUE: usize = 16;
 
-/// The numbers of an enum's values: each once, and a mark for those near the least, which are found without a hash.
+/// The values of an enum by their numbers. Sorted, and not hashed, so that nobody can pick numbers that make
+/// look-ups slow.
 #[derive(Debug, Drop)]
 pub(crate) struct ValueTable {
-    pub(crate) numbers: IndexSet<i32>,
+    /// Of each number the index of the first value that has it.
+    pub(crate) firsts: BTreeMap<i32, usize>,
     pub(crate) least: i32,
-    /// At each distance from the least, whether the number there is known to be declared.
+    /// At each distance from the least number, whether the number there is known to be declared: found
+    /// without a search.
     pub(crate) marks: Vec<bool>,
 }
 
-fn numbers_of(alloc: Global, values: &[(String, i32)]) -> Result<IndexSet<i32>, AllocError>
-    ensures { IfOk result (λ numbers. AreNumbersOf (map (λ v. (string_bytes v.0, v.1)) values.now) numbers.keys) }
+/// Notes the index of a value, where no value before it has its number.
+fn note_first(
+    firsts: &mut BTreeMap<i32, usize>,
+    number: i32,
+    index: usize,
+) -> Result<(), AllocError>
+    ensures { OnOk result (IsNoted firsts.old firsts.new number index) }
 {
-    let mut numbers = IndexSet::new(alloc);
-    for value in values {
-        numbers.insert(value.1)?;
+    if !firsts.contains_key(&number) {
+        firsts.insert(number, index)?;
     }
-    Ok(numbers)
+    Ok(())
+}
+
+fn first_places(alloc: Global, values: &[(String, i32)]) -> Result<BTreeMap<i32, usize>, AllocError>
+    ensures { IfOk result (λ firsts. AreFirstsOf (values_view values.now) firsts) }
+{
+    let mut firsts = BTreeMap::new(alloc);
+    for (index, value) in values.iter().enumerate() {
+        note_first(&mut firsts, value.1, index)?;
+    }
+    Ok(firsts)
 }
 
 /// The least number of values and of one more, and how far the greatest is from it.
@@ -68,7 +86,7 @@ fn marks_of(
     least: i32,
     count: usize,
 ) -> Result<Vec<bool>, AllocError>
-    ensures marks { IfOk result (λ marks. AreMarksOf (map (λ v. (string_bytes v.0, v.1)) values.now) least marks.items) }
+    ensures marks { IfOk result (λ marks. AreMarksOf (values_view values.now) least marks.items) }
     ensures count { IfOk result (λ marks. length marks.items ≡ count) }
 {
     let mut marks = vec![in alloc; false; count]?;
@@ -79,14 +97,14 @@ fn marks_of(
 }
 
 fn value_table(alloc: Global, values: &[(String, i32)]) -> Result<ValueTable, AllocError>
-    ensures table { IfOk result (λ table. IsValueTable (map (λ v. (string_bytes v.0, v.1)) values.now) table) }
+    ensures table { IfOk result (λ table. IsValueTable (values_view values.now) table) }
     ensures few { IfOk result (λ table. length table.marks.items ≤ 16 * length values.now) }
 {
     let first = values.first().map_or(0, |value| value.1);
     let (least, extent) = extent(values, first);
     let most = values.len().saturating_mul(MARKS_A_VALUE);
     Ok(ValueTable {
-        numbers: numbers_of(alloc, values)?,
+        firsts: first_places(alloc, values)?,
         least,
         marks: marks_of(alloc, values, least, most.min(extent as usize + 1))?,
     })
@@ -123,5 +141,23 @@ fn is_marked(table: &ValueTable, number: i32) -> bool
 pub(crate) fn has_number(table: &ValueTable, number: i32) -> bool
     ensures { (vs : List (List ℕ × ℤ)) → IsValueTable vs table.now → result ≡ list_any (λ v. int_eq v.1 number) vs }
 {
-    is_marked(table, number) || table.numbers.contains(&number)
+    is_marked(table, number) || table.firsts.contains_key(&number)
+}
+
+/// The name of the first value with this number.
+pub(crate) fn first_named<'a>(
+    values: &'a [(String, i32)],
+    table: &ValueTable,
+    number: i32,
+) -> Option<&'a str>
+    requires { IsValueTable (values_view values.now) table.now }
+    ensures { option_map (λ s. s.now) result ≡ value_name number (values_view values.now) }
+{
+    match table.firsts.get(&number) {
+        Some(first) => match values.get(*first) {
+            Some(value) => Some(value.0.as_str()),
+            None => None,
+        },
+        None => None,
+    }
 }

@@ -2,9 +2,9 @@ use Rattle.std.proofs.Common.{◌≡◌, map, sym, ap, ◌∙◌}
 use Rattle.pb_value.specs.Data.{fields_of}
 use Rattle.pb_value.specs.View.{value_view, body_view}
 use Rattle.pb_value.proofs.Views.{value_view-Message}
-use Rattle.pb_descr.specs.Held.{fields_in, data_at}
-use Rattle.pb_descr.specs.Causes.{causes_from}
-use Rattle.pb_descr.proofs.ReadLemmas.{nothing_first}
+use Rattle.pb_descr_message.specs.Held.{fields_in, data_at}
+use Rattle.pb_descr_message.specs.Causes.{causes_from}
+use Rattle.pb_descr_message.proofs.ReadLemmas.{nothing_first}
 use Rattle.pb_descr.proofs.reading.add_declared.Goals as goal
 
 pub returns-clause-silent : goal.returns-clause-silent

@@ -1,7 +1,7 @@
 use Rattle.std.proofs.Common.{map}
 use Rattle.pb_value.specs.View.{value_view}
 use Rattle.pb_declarations.specs.View.{file_view}
-use Rattle.pb_descr.proofs.JoinedSets.{added_more}
+use Rattle.pb_descr_message.proofs.JoinedSets.{added_more}
 use Rattle.pb_descr.proofs.reading.add_files.Goals as goal
 
 pub loop-value-preserved : goal.loop-value-preserved

@@ -1,7 +1,7 @@
 use Rattle.std.proofs.Common.{◌≡◌, ◌++◌, map, take}
 use Rattle.pb_value.specs.View.{value_view}
 use Rattle.pb_declarations.specs.View.{file_view}
-use Rattle.pb_descr.specs.Reading.{file_in}
+use Rattle.pb_descr_message.specs.Reading.{file_in}
 use Rattle.pb_descr.proofs.reading.add_files.Given as goal
 
 abbrev pub invariant-loop-value : goal.invariant-loop-value

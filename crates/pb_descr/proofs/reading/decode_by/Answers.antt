@@ -5,7 +5,7 @@ use Rattle.pb_wire.specs.Limits.{full}
 use Rattle.pb_schema.specs.Types.{Types}
 use Rattle.pb_schema.specs.Context.{a_message, schema_of}
 use Rattle.pb_value.specs.Derives.{Text}
-use Rattle.pb_descr.specs.Pool.{the_set}
+use Rattle.pb_descr_message.specs.Pool.{the_set}
 use Rattle.pb_descr.proofs.reading.decode_by.Goals as goal
 
 pub returns-in-Ok-clause-accepted : goal.returns-in-Ok-clause-accepted

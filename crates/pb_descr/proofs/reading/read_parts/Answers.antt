@@ -2,8 +2,8 @@ use Rattle.std.proofs.Common.{◌≤◌, ◌+◌, List, [], length, map, sym, su
 use Rattle.pb_wire.specs.Limits.{full}
 use Rattle.pb_declarations.specs.View.{file_view}
 use Rattle.pb_declarations.specs.declared.decl.FileDecl.{FileDecl}
-use Rattle.pb_descr.specs.Sets.{IsSetOf}
-use Rattle.pb_descr.proofs.JoinedSets.{no_set, part_added}
+use Rattle.pb_descr_message.specs.Sets.{IsSetOf}
+use Rattle.pb_descr_message.proofs.JoinedSets.{no_set, part_added}
 use Rattle.pb_descr.proofs.reading.read_parts.Goals as goal
 
 pub loop-at-init : goal.loop-at-init

@@ -1,7 +1,7 @@
 use Rattle.std.proofs.Common.{◌≤◌, ◌-◌, map, take, length}
 use Rattle.pb_wire.specs.Limits.{full}
 use Rattle.pb_declarations.specs.View.{file_view}
-use Rattle.pb_descr.specs.Sets.{IsSetOf}
+use Rattle.pb_descr_message.specs.Sets.{IsSetOf}
 use Rattle.pb_descr.proofs.reading.read_parts.Given as goal
 
 abbrev pub invariant-loop-at : goal.invariant-loop-at

@@ -1,4 +1,4 @@
-use Rattle.pb_descr.proofs.JoinedSets.{same_files, not_both, one_told}
+use Rattle.pb_descr_message.proofs.JoinedSets.{same_files, not_both, one_told}
 use Rattle.pb_descr.proofs.reading.read_set.Goals as goal
 
 pub returns-in-Ok-Some-clause-accepted : goal.returns-in-Ok-Some-clause-accepted

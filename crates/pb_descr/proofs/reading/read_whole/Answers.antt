@@ -1,10 +1,10 @@
 use Rattle.std.proofs.Common.{◌≡◌, [], ◌∙◌, sym, ap, subst}
 use Rattle.std.proofs.lemmas.Result.{err_from_is_err_and}
 use Rattle.pb_value.specs.Data.{Message}
-use Rattle.pb_descr.specs.Reading.{files_in}
-use Rattle.pb_descr.specs.Causes.{set_causes}
-use Rattle.pb_descr.specs.Sets.{IsRefusedSet}
-use Rattle.pb_descr.proofs.ReadLemmas.{refused_silent, refused_told, silent_or_told}
+use Rattle.pb_descr_message.specs.Reading.{files_in}
+use Rattle.pb_descr_message.specs.Causes.{set_causes}
+use Rattle.pb_descr_message.specs.Sets.{IsRefusedSet}
+use Rattle.pb_descr_message.proofs.ReadLemmas.{refused_silent, refused_told, silent_or_told}
 use Rattle.pb_descr.proofs.reading.read_whole.Goals as goal
 
 pub returns-in_err-set-clause-accepted : goal.returns-in_err-set-clause-accepted

@@ -1,6 +1,6 @@
 use Rattle.std.proofs.Common.{map}
 use Rattle.pb_declarations.specs.View.{file_view}
-use Rattle.pb_descr.proofs.WriteLemmas.{told_deep}
+use Rattle.pb_descr_message.proofs.WriteLemmas.{told_deep}
 use Rattle.pb_descr.proofs.writing.set_message.Goals as goal
 
 pub returns-in-Err-TooDeep : goal.returns-in-Err-TooDeep

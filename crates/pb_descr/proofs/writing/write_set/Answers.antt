@@ -2,7 +2,7 @@ use Rattle.std.proofs.Common.{◌<◌, ◌^◌, length, map, ap, ◌∙◌, subs
 use Rattle.pb_value.specs.Dynamic.{Dynamic}
 use Rattle.pb_encode.specs.Encoding.{bytes_of}
 use Rattle.pb_declarations.specs.View.{file_view}
-use Rattle.pb_descr.proofs.WriteLemmas.{written_is_set}
+use Rattle.pb_descr_message.proofs.WriteLemmas.{written_is_set}
 use Rattle.pb_descr.proofs.writing.write_set.Goals as goal
 
 pub returns-in-Ok-encode-clause-read_back : goal.returns-in-Ok-encode-clause-read_back

@@ -16,7 +16,7 @@ pub returns-then-is_finite : goal.returns-then-is_finite
 returns-then-is_finite g c = λ layout indent.
     prints_known (IsJsonText layout indent (float_json binary64 (from_bits binary64 c.args.bits)))
     (finite_written layout indent binary64 _ _ _ c.f64_from_bits_with_nan-number.ensures (sym c.is_finite.ensures.value ∙ c.if-is_finite.true)
-    c.format_finite.ensures.plain c.format_finite.ensures.parses) (rw c.as_bytes.ensures.value at c.put.ensures)
+    c.format_finite.ensures.plain c.format_finite.ensures.parses c.format_finite.ensures.short) (rw c.as_bytes.ensures.value at c.put.ensures)
 
 pub returns-else-is_finite : goal.returns-else-is_finite
 returns-else-is_finite g c = λ layout indent.

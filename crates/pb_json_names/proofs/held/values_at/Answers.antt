@@ -3,8 +3,8 @@ use Rattle.pb_value.specs.Data.{Holding}
 use Rattle.pb_value.specs.View.{value_view, content_view}
 use Rattle.pb_value.specs.declared.body.Value.{Value}
 use Rattle.pb_value.proofs.Views.{content_view-List}
-use Rattle.pb_descr.specs.Held.{list_held}
-use Rattle.pb_descr.proofs.HeldLemmas.{elements_of_view}
+use Rattle.pb_descr_message.specs.Held.{list_held}
+use Rattle.pb_descr_message.proofs.HeldLemmas.{elements_of_view}
 use Rattle.pb_json_names.proofs.held.values_at.Goals as goal
 
 pub returns-in-Some-List : goal.returns-in-Some-List

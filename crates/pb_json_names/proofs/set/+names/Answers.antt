@@ -2,8 +2,8 @@ use Rattle.std.proofs.Common.{◌≡◌, ◌+◌, ◌*◌, ◌<◌, List, map, a
 use Rattle.pb_schema.specs.Names.{in_scope}
 use Rattle.pb_value.specs.Data.{Datum, levels_of}
 use Rattle.pb_value.specs.View.{value_view}
-use Rattle.pb_descr.specs.Held.{fields_in, name_at}
-use Rattle.pb_descr.proofs.HeldLemmas.{weight, weight_data, weight_element}
+use Rattle.pb_descr_message.specs.Held.{fields_in, name_at}
+use Rattle.pb_descr_message.proofs.HeldLemmas.{weight, weight_data, weight_element}
 use Rattle.pb_json_names.specs.Names.{message_named}
 use Rattle.pb_json_names.proofs.AddingLemmas.{adds_more, message_adds}
 use Rattle.pb_json_names.proofs.set.+names.Goals as goal

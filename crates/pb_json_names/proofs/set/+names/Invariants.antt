@@ -1,7 +1,7 @@
 use Rattle.std.proofs.Common.{◌+◌, ◌*◌, flat_map, map, take}
 use Rattle.pb_value.specs.Data.{levels_of}
 use Rattle.pb_value.specs.View.{value_view}
-use Rattle.pb_descr.proofs.HeldLemmas.{weight}
+use Rattle.pb_descr_message.proofs.HeldLemmas.{weight}
 use Rattle.pb_json_names.specs.Adding.{Adds}
 use Rattle.pb_json_names.specs.Names.{message_named}
 use Rattle.pb_json_names.proofs.set.+names.Given as goal

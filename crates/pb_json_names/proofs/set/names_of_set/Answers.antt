@@ -1,6 +1,6 @@
 use Rattle.std.proofs.Common.{◌≡◌, Some, None}
 use Rattle.pb_json.specs.Encoded.{message_encoded}
-use Rattle.pb_descr.specs.Pool.{descriptor_types, the_set}
+use Rattle.pb_descr_message.specs.Pool.{descriptor_types, the_set}
 use Rattle.pb_json_names.proofs.AddingLemmas.{no_set_names, not_opened, opened_set, set_held, set_names}
 use Rattle.pb_json_names.proofs.set.names_of_set.Goals as goal
 

@@ -40,19 +40,19 @@ returns-in_err-body-clause-refused c =
 pub returns-clause-read : goal.returns-clause-read
 returns-clause-read c =
     let v = c.in_ok-value.ensures in
-    all_read c.args.pool.now c.args.rules c.args.names.now c.args.message_type.0 c.args.bytes.now c.in_ok-value.value v.accepted v.refused v.value _ c.in_ok-body.ensures c.within_depth.result c.within_depth.ensures.made c.within_depth.ensures.well_formed
+    all_read c.args.pool.now c.args.rules c.args.names.now c.args.message_type.0 c.args.bytes.now c.in_ok-value.value v.accepted v.refused v.value _ c.in_ok-body.ensures c.with_form.result c.with_form.ensures.made c.with_form.ensures.well_formed c.with_form.ensures.has_form
 
 pub returns-clause-fault : goal.returns-clause-fault
 returns-clause-fault c =
     let v = c.in_ok-value.ensures in
-    all_fault c.args.pool.now c.args.rules c.args.names.now c.args.message_type.0 c.args.bytes.now c.in_ok-value.value v.accepted v.refused v.value _ c.in_ok-body.ensures c.within_depth.result c.within_depth.ensures.refused
+    all_fault c.args.pool.now c.args.rules c.args.names.now c.args.message_type.0 c.args.bytes.now c.in_ok-value.value v.accepted v.refused v.value _ c.in_ok-body.ensures c.with_form.result c.with_form.ensures.refused
 
 pub returns-clause-accepted : goal.returns-clause-accepted
 returns-clause-accepted c =
     let v = c.in_ok-value.ensures in
-    all_accepted c.args.pool.now c.args.rules c.args.names.now c.args.message_type.0 c.args.bytes.now c.in_ok-value.value v.accepted v.refused v.value _ c.in_ok-body.ensures c.within_depth.result c.within_depth.ensures.made c.within_depth.ensures.refused
+    all_accepted c.args.pool.now c.args.rules c.args.names.now c.args.message_type.0 c.args.bytes.now c.in_ok-value.value v.accepted v.refused v.value _ c.in_ok-body.ensures c.with_form.result c.with_form.ensures.made c.with_form.ensures.refused
 
 pub returns-clause-refused : goal.returns-clause-refused
 returns-clause-refused c =
     let v = c.in_ok-value.ensures in
-    all_refused c.args.pool.now c.args.rules c.args.names.now c.args.message_type.0 c.args.bytes.now c.in_ok-value.value v.accepted v.refused v.value _ c.in_ok-body.ensures c.within_depth.result c.within_depth.ensures.well_formed c.within_depth.ensures.refused
+    all_refused c.args.pool.now c.args.rules c.args.names.now c.args.message_type.0 c.args.bytes.now c.in_ok-value.value v.accepted v.refused v.value _ c.in_ok-body.ensures c.with_form.result c.with_form.ensures.well_formed c.with_form.ensures.has_form c.with_form.ensures.refused

@@ -1,10 +1,10 @@
 use Rattle.std.proofs.Common.{◌≡◌, List, [], map, sym, subst}
 use Rattle.pb_declarations.specs.View.{file_view}
 use Rattle.pb_declarations.specs.declared.decl.FileDecl.{FileDecl}
-use Rattle.pb_descr.specs.Causes.{set_causes}
-use Rattle.pb_descr.specs.Sets.{IsWritable}
-use Rattle.pb_descr.specs.Writable.{IsWithinLimits}
-use Rattle.pb_descr.specs.Writing.{set_body}
+use Rattle.pb_descr_message.specs.Causes.{set_causes}
+use Rattle.pb_descr_message.specs.Sets.{IsWritable}
+use Rattle.pb_descr_message.specs.Writable.{IsWithinLimits}
+use Rattle.pb_descr_message.specs.Writing.{set_body}
 use Rattle.pb_link.specs.Linking.{Links}
 use Rattle.pb_link.specs.ToDecls.{decls_of}
 use Rattle.pb_link_rules.proofs.WorldLemmas.{a_world}

@@ -44,7 +44,7 @@ returns-clause-comes g c =
     let input = c.in_ok-input.input in
     let out = Sent g.O.Output.written g.O.Output.failures c.args.out.now c.write_all_frames.new.out in
     let cut = Cut g.O.Output.written g.O.Output.failures c.args.out.now c.write_all_frames.new.out in
-    let comes = c.write_all_frames.ensures in
+    let comes = c.write_all_frames.ensures.comes in
     comes_map out out cut cut NoFile (IsSaved contents before c.open_file.new.files) (λ _. ⊥)
     (IsUnsaved contents g.F.Files.failures before c.open_file.new.files) (AllFramesBy (OfInput left stays input) form path pool kind)
     (AllFramesAtPath contents is_steady before form pool kind path) (AllBegunBy (OfInput left stays input) form pool kind) (AllBegunAtPath contents is_steady before form pool kind path)

@@ -1,3 +1,4 @@
+use Rattle.std.proofs.Common.{◌≡◌}
 use Rattle.pbtool_command.specs.PassingOn.{IsGoing}
 use Rattle.pbtool_command.proofs.all_frames.put_all_frames.Given as goal
 
@@ -6,3 +7,4 @@ invariant-loop-index g l =
     let stream = l.stream in
     IsGoing g.O.Output.written g.O.Output.failures g.I.Input.left g.I.Input.is_steady l.initial.out l.out l.initial.sink l.sink l.initial.input l.input
     stream.form stream.pool.now stream.message_type.0 l.index l.progress
+    × (g.I.Input.failures l.input ≡ g.I.Input.failures l.initial.input)

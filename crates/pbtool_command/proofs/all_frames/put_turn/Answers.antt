@@ -1,21 +1,23 @@
 use Rattle.std.proofs.Common.{◌<◌, ◌^◌, refl, rules}
 use Rattle.pb_value.specs.WellFormed.{IsWellFormed}
-use Rattle.pb_frames.specs.Next.{fault_of}
+use Rattle.pb_stream.specs.Next.{fault_of}
 use Rattle.pb_json.specs.Answers.{IsRefused, refused_view}
 use Rattle.pbtool_command.specs.FramesAnswer.{bad_bytes}
 use Rattle.pbtool_command.proofs.PassedFrames.{turn_cut, turn_end, turn_failed, turn_formless, turn_refused, turn_shown, turn_stopped}
+use Rattle.pbtool_files.specs.declared.report.Refusal.TheVariants as refusal
+use Rattle.pbtool_command.proofs.ReadFailures.{memory_counts, none_failed, one_failed}
 use Rattle.pbtool_command.proofs.all_frames.put_turn.Goals as goal
 
-pub returns-in-Err-Device : goal.returns-in-Err-Device
-returns-in-Err-Device g c = λ d a i h.
+pub returns-in-Err-Device-clause-puts : goal.returns-in-Err-Device-clause-puts
+returns-in-Err-Device-clause-puts g c = λ d a i h.
     turn_failed c.args.stream.now.path h (λ steady. c.in-Err-Device.ensures.steady steady (cc))
 
-pub returns-in-Ok-End : goal.returns-in-Ok-End
-returns-in-Ok-End g c = λ d a i h.
+pub returns-in-Ok-End-clause-puts : goal.returns-in-Ok-End-clause-puts
+returns-in-Ok-End-clause-puts g c = λ d a i h.
     turn_end c.args.stream.now.path.now (g.I.Input.left c.next_frame.new.input) h (rw c.in-Ok-End.field-0-is at c.in-Ok-End.ensures.next)
 
-pub returns-in-Ok : goal.returns-in-Ok
-returns-in-Ok g c = λ d a i h.
+pub returns-in-Ok-clause-puts : goal.returns-in-Ok-clause-puts
+returns-in-Ok-clause-puts g c = λ d a i h.
     let message = c.in-Ok-Message.message in
     let well : IsWellFormed message.pool message.kind message.body = search rules in
     let range : c.args.progress.now.offset < 2 ^ 64 = search rules in
@@ -23,8 +25,8 @@ returns-in-Ok g c = λ d a i h.
     (rw c.in-Ok-Message.field-0-is at c.in-Ok-Message.ensures.of_type) c.in-Ok-Message.ensures.stays c.in-Ok.ensures.put range c.saturating_add-progress.ensures
     refl refl
 
-pub returns-in-Ok-report_formless : goal.returns-in-Ok-report_formless
-returns-in-Ok-report_formless g c = λ d a i h.
+pub returns-in-Ok-report_formless-clause-puts : goal.returns-in-Ok-report_formless-clause-puts
+returns-in-Ok-report_formless-clause-puts g c = λ d a i h.
     let message = c.in-Ok-Message.message in
     let well : IsWellFormed message.pool message.kind message.body = search rules in
     let range : c.args.progress.now.offset < 2 ^ 64 = search rules in
@@ -36,24 +38,40 @@ returns-in-Ok-report_formless g c = λ d a i h.
     (turn_formless c.in-Ok-Message.size message (refused_view reported.0) _ h (rw c.in-Ok-Message.field-0-is at c.in-Ok-Message.ensures.next) well
     (rw c.in-Ok-Message.field-0-is at c.in-Ok-Message.ensures.of_type) failed.0 found c.in-Ok-Message.ensures.stays range done.offset done.refused reported.2)
 
-pub returns-in-Ok-Message : goal.returns-in-Ok-Message
-returns-in-Ok-Message g c = λ d a i h.
+pub returns-in-Ok-Message-clause-puts : goal.returns-in-Ok-Message-clause-puts
+returns-in-Ok-Message-clause-puts g c = λ d a i h.
     let failed = c.in-Err.ensures.failed in
     rw (c.in-Err-report_formless.ensures.memory, failed.2, failed.3) (turn_stopped c.args.stream.now.path.now h)
 
-pub returns-in-Ok-report : goal.returns-in-Ok-report
-returns-in-Ok-report g c = λ d a i h.
+pub returns-in-Ok-report-clause-puts : goal.returns-in-Ok-report-clause-puts
+returns-in-Ok-report-clause-puts g c = λ d a i h.
     let range : c.args.progress.now.offset < 2 ^ 64 = search rules in
     turn_refused c.in-Ok-Refused.size (bad_bytes (fault_of c.in-Ok-Refused.reason)) _ h (rw c.in-Ok-Refused.field-0-is at c.in-Ok-Refused.ensures.next) tt
     c.in-Ok-Refused.ensures.stays range c.in-Ok-report.ensures.offset c.in-Ok-report.ensures.refused c.in-Ok-report.ensures.reported
 
-pub returns-in-Ok-Refused : goal.returns-in-Ok-Refused
-returns-in-Ok-Refused g c = λ d a i h. rw c.in-Err-report.ensures.memory (turn_stopped c.args.stream.now.path.now h)
+pub returns-in-Ok-Refused-clause-puts : goal.returns-in-Ok-Refused-clause-puts
+returns-in-Ok-Refused-clause-puts g c = λ d a i h. rw c.in-Err-report.ensures.memory (turn_stopped c.args.stream.now.path.now h)
 
-pub returns-in-Ok-report-2 : goal.returns-in-Ok-report-2
-returns-in-Ok-report-2 g c = λ d a i h.
+pub returns-in-Ok-report-2-clause-puts : goal.returns-in-Ok-report-2-clause-puts
+returns-in-Ok-report-2-clause-puts g c = λ d a i h.
     turn_cut c.args.stream.now.path.now (fault_of c.in-Ok-Cut.reason) _ h (rw c.in-Ok-Cut.field-0-is at c.in-Ok-Cut.ensures.next)
     c.in-Ok-report-2.ensures.refused c.in-Ok-report-2.ensures.reported
 
-pub returns : goal.returns
-returns g c = λ d a i h. rw c.in-Err-report-2.ensures.memory (turn_stopped c.args.stream.now.path.now h)
+pub returns-clause-puts : goal.returns-clause-puts
+returns-clause-puts g c = λ d a i h. rw c.in-Err-report-2.ensures.memory (turn_stopped c.args.stream.now.path.now h)
+
+pub returns-in-Err-Device-clause-reads : goal.returns-in-Err-Device-clause-reads
+returns-in-Err-Device-clause-reads g c = one_failed _ _ (refusal.Device c.args.stream.now.path) (c.in-Err-Device.ensures.failed (cc)) refl
+
+pub returns-in-Err-Memory-clause-reads : goal.returns-in-Err-Memory-clause-reads
+returns-in-Err-Memory-clause-reads g c = none_failed _ _ refusal.Memory (c.in-Err-Memory.ensures.memory (cc)) refl
+
+pub returns-in-Ok-Message-clause-reads : goal.returns-in-Ok-Message-clause-reads
+returns-in-Ok-Message-clause-reads g c =
+    memory_counts _ _ c.in-Err-report_formless.refusal c.in-Ok-Message.ensures.kept c.in-Err-report_formless.ensures.memory
+
+pub returns-in-Ok-Refused-clause-reads : goal.returns-in-Ok-Refused-clause-reads
+returns-in-Ok-Refused-clause-reads g c = memory_counts _ _ c.in-Err-report.refusal c.in-Ok-Refused.ensures.kept c.in-Err-report.ensures.memory
+
+pub returns-clause-reads : goal.returns-clause-reads
+returns-clause-reads g c = memory_counts _ _ c.in-Err-report-2.refusal c.in-Ok-Cut.ensures.kept c.in-Err-report-2.ensures.memory

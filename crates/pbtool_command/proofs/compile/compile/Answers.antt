@@ -1,6 +1,6 @@
 use Rattle.std.proofs.Common.{◌≡◌, [], Ok, Err, map, refl}
 use Rattle.std.proofs.lemmas.Result.{err_from_is_err_and}
-use Rattle.pb_descr.specs.Sets.{set_bytes}
+use Rattle.pb_descr_message.specs.Sets.{set_bytes}
 use Rattle.pb_declarations.specs.View.{file_view}
 use Rattle.pb_wire.specs.declared.device.DeviceFault.{DeviceFault}
 use Rattle.pbtool_command.specs.CompileAnswer.{compiled, places_of, texts_of, untaken}

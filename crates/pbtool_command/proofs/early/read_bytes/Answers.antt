@@ -23,7 +23,7 @@ returns-in_err-judge_first-clause-refused g c =
     rw (p.1, p.2)
     (early_judges left g.I.Input.is_steady input c.args.limits c.args.path.now c.read_on.new.bytes.items (left c.read_on.new.input)
     c.in_err-judge_first.field-0.0 (read.taken (left input) (rw c.new-bytes.ensures.items (Consumes-nil (left input))))
-    (omega (arith, read.within, c.min-first.ensures, c.max_bytes.ensures.same)) (rw c.as_slice.ensures.value at c.in_err-judge_first.ensures))
+    (omega (arith, read.within, c.min-first.ensures, c.max_bytes.ensures.same)) (rw c.as_slice.ensures.value at c.in_err-judge_first.ensures.refused))
 
 pub returns-clause-read : goal.returns-clause-read
 returns-clause-read g c =

@@ -44,7 +44,7 @@ returns-clause-comes g c =
     let input = c.in_ok-input.input in
     let out = Sent g.O.Output.written g.O.Output.failures c.args.out.now c.write_frames.new.out in
     let cut = Cut g.O.Output.written g.O.Output.failures c.args.out.now c.write_frames.new.out in
-    let comes = rw c.new-reader.ensures at c.write_frames.ensures in
+    let comes = rw c.new-reader.ensures at c.write_frames.ensures.comes in
     comes_map out out cut cut NoFile (IsSaved contents before c.open_file.new.files) (λ _. ⊥)
     (IsUnsaved contents g.F.Files.failures before c.open_file.new.files) (FramesIn left stays input form path pool kind)
     (StreamAt contents is_steady before form pool kind path) (FramesBegunIn left stays input form pool kind) (StreamBegunAt contents is_steady before form pool kind path)

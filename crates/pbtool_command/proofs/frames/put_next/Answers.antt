@@ -1,14 +1,16 @@
-use Rattle.std.proofs.Common.{◌-◌, ap, rules, inl, inr}
+use Rattle.std.proofs.Common.{◌-◌, Option, ap, rules, inl, inr}
+use Rattle.pb_value.specs.Dynamic.{Dynamic}
 use Rattle.pb_value.specs.WellFormed.{IsWellFormed}
 use Rattle.pb_output.proofs.SinkLemmas.{puts_none}
+use Rattle.pbtool_command.proofs.ReadFailures.{formless_counts, frame_counts}
 use Rattle.pbtool_command.proofs.Streams.{lines_read, reads_frame}
 use Rattle.pbtool_command.proofs.frames.put_next.Goals as goal
 
-pub returns-in-Ok-None : goal.returns-in-Ok-None
-returns-in-Ok-None g c = (rw c.in-Ok-None.field-0-is at c.in-Ok-None.ensures.end, puts_none)
+pub returns-in-Ok-None-clause-puts : goal.returns-in-Ok-None-clause-puts
+returns-in-Ok-None-clause-puts g c = (rw c.in-Ok-None.field-0-is at c.in-Ok-None.ensures.end, puts_none)
 
-pub returns-in-Ok : goal.returns-in-Ok
-returns-in-Ok g c =
+pub returns-in-Ok-clause-puts : goal.returns-in-Ok-clause-puts
+returns-in-Ok-clause-puts g c =
     let well : IsWellFormed c.in-Ok-Some.message.pool c.in-Ok-Some.message.kind c.in-Ok-Some.message.body = search rules in
     let typed = rw c.in-Ok-Some.field-0-is at c.in-Ok-Some.ensures.of_type in
     let frame = rw c.in-Ok-Some.field-0-is at c.in-Ok-Some.ensures.message in (
@@ -19,8 +21,8 @@ returns-in-Ok g c =
           (ap (λ n. n - c.taken-offset.result) c.taken.ensures) c.in-Ok.ensures.put,
     )
 
-pub returns-in-Ok-Some : goal.returns-in-Ok-Some
-returns-in-Ok-Some g c =
+pub returns-in-Ok-Some-clause-puts : goal.returns-in-Ok-Some-clause-puts
+returns-in-Ok-Some-clause-puts g c =
     let well : IsWellFormed c.in-Ok-Some.message.pool c.in-Ok-Some.message.kind c.in-Ok-Some.message.body = search rules in
     let typed = rw c.in-Ok-Some.field-0-is at c.in-Ok-Some.ensures.of_type in
     let frame = rw c.in-Ok-Some.field-0-is at c.in-Ok-Some.ensures.message in
@@ -34,8 +36,16 @@ returns-in-Ok-Some g c =
       rw (failed.2, failed.3) puts_none,
     )
 
-pub returns : goal.returns
-returns g c = (
+pub returns-clause-puts : goal.returns-clause-puts
+returns-clause-puts g c = (
   inl (c.in-Err.error, record { why = c.in-Err.ensures.fault c.requires; failed = λ steady is. c.in-Err.ensures.steady steady (cc) }, c.refusal_at.ensures),
   puts_none,
 )
+
+pub returns-in-Ok-Some-clause-reads : goal.returns-in-Ok-Some-clause-reads
+returns-in-Ok-Some-clause-reads g c =
+    formless_counts _ _ c.args.index c.in-Err-put_frame.error c.formless.result c.in-Ok-Some.ensures.failures c.formless.ensures
+
+pub returns-clause-reads : goal.returns-clause-reads
+returns-clause-reads g c =
+    frame_counts (Option Dynamic) _ _ c.args.index c.args.path c.in-Err.error c.refusal_at.result c.in-Err.ensures.failures c.refusal_at.ensures

@@ -33,4 +33,4 @@ returns-clause-judged g c =
     (IsReadOf contents is_steady files limit path) c.read_records.result
     (λ read.
     opened_of contents is_steady files path g.F.In.Input.left g.F.In.Input.is_steady c.in_ok-input.input
-    (λ (content : Option (List ℕ)). read ≡ option_map (take limit) content) c.in_ok-input.ensures.opened) c.read_records.ensures
+    (λ (content : Option (List ℕ)). read ≡ option_map (take limit) content) c.in_ok-input.ensures.opened) c.read_records.ensures.judged

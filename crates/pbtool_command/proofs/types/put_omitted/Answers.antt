@@ -1,6 +1,6 @@
 use Rattle.std.proofs.lemmas.List.{take_all}
 use Rattle.std.proofs.lemmas.List.Folds.{flat_map-map}
-use Rattle.pb_descr.specs.Omitted.{omitted_view}
+use Rattle.pb_descr_message.specs.Omitted.{omitted_view}
 use Rattle.pbtool_command.specs.TypesAnswer.{omitted_line}
 use Rattle.pbtool_command.proofs.types.put_omitted.Goals as goal
 

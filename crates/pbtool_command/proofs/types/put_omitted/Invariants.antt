@@ -1,6 +1,6 @@
 use Rattle.std.proofs.Common.{take}
 use Rattle.std.specs.List.{flat_map}
-use Rattle.pb_descr.specs.Omitted.{omitted_view}
+use Rattle.pb_descr_message.specs.Omitted.{omitted_view}
 use Rattle.pb_output.specs.Sink.{Puts}
 use Rattle.pbtool_command.specs.TypesAnswer.{omitted_line}
 use Rattle.pbtool_command.proofs.types.put_omitted.Given as goal

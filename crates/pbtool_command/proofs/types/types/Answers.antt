@@ -3,7 +3,7 @@ use Rattle.std.specs.Prelude.{map, option_map}
 use Rattle.std.proofs.KnownBytes.{Appends-nil}
 use Rattle.std.proofs.lemmas.Result.{err_from_is_err_and}
 use Rattle.pb_wire.specs.Limits.{full}
-use Rattle.pb_descr.specs.Omitted.{omitted_view}
+use Rattle.pb_descr_message.specs.Omitted.{omitted_view}
 use Rattle.pb_output.specs.Sending.{Cut, Sent}
 use Rattle.pbtool_files.specs.FileMap.{IsSaved, IsUnsaved}
 use Rattle.pbtool_files.specs.Known.{IsReadOf}

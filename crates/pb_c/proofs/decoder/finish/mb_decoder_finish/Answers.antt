@@ -1,7 +1,7 @@
 -- The decoder that was taken out is the one that the handle holds, and the message that it gave is held.
 use Rattle.std.proofs.Common.{◌≡◌, ◌∙◌, Some, ap}
 use Rattle.pb_value.specs.Dynamic.{Dynamic}
-use Rattle.pb_c_decoding.proofs.Answered.{given_as}
+use Rattle.pb_c_answers.proofs.Answered.{given_as}
 use Rattle.pb_c.proofs.decoder.finish.mb_decoder_finish.Goals as goal
 
 pub returns-in-Ok-clause-ended : goal.returns-in-Ok-clause-ended

@@ -1,7 +1,7 @@
 -- The message that is held is the one that the decoder gave.
 use Rattle.std.proofs.Common.{◌≡◌, sym, ◌∙◌}
 use Rattle.pb_value.specs.Dynamic.{Dynamic}
-use Rattle.pb_c_decoding.proofs.Answered.{given_as, lost}
+use Rattle.pb_c_answers.proofs.Answered.{given_as, lost}
 use Rattle.pb_c.proofs.decoder.finish.message_of_parts.Goals as goal
 
 pub returns-in-Ok-boxed-clause-given : goal.returns-in-Ok-boxed-clause-given

@@ -1,7 +1,7 @@
 -- What is answered is how the change ended.
 use Rattle.std.proofs.Common.{refl, sym, subst}
-use Rattle.pb_c_changes.specs.Ends.{ends}
-use Rattle.pb_c_changes.proofs.OneEnd.{one_end}
+use Rattle.pb_c_message.specs.Ends.{ends}
+use Rattle.pb_c_message.proofs.OneEnd.{one_end}
 use Rattle.pb_c.specs.Message.Changes.{IsChangeAnswer}
 use Rattle.pb_c.proofs.ChangeAnswers.{changed, unchanged, is_answer}
 use Rattle.pb_c.proofs.message.change.change_message.Goals as goal

@@ -1,7 +1,7 @@
 -- The message that was put together is the one that is held, and the changed one is what is held then.
 use Rattle.std.proofs.Common.{◌≡◌, sym, ap}
 use Rattle.pb_value.specs.View.{body_view}
-use Rattle.pb_c_reports.proofs.Making.{the_message}
+use Rattle.pb_c_answers.proofs.Making.{the_message}
 use Rattle.pb_c.proofs.message.change.change_own.Goals as goal
 
 pub returns-clause-changed : goal.returns-clause-changed

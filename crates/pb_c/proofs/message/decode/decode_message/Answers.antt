@@ -4,9 +4,9 @@ use Rattle.pb_wire.specs.Inside.{records_spelled}
 use Rattle.pb_value.specs.Data.{Message}
 use Rattle.pb_value.specs.Derives.{Text}
 use Rattle.pb_value.specs.Value.{value}
-use Rattle.pb_c_reports.specs.Typed.{message_of}
+use Rattle.pb_c_message.specs.Holds.{message_of}
 use Rattle.pb_c.proofs.Copied.{either_way, held_text, ok_weaker}
-use Rattle.pb_c_reports.proofs.Making.{the_message}
+use Rattle.pb_c_answers.proofs.Making.{the_message}
 use Rattle.pb_c.proofs.message.decode.decode_message.Goals as goal
 
 pub returns-in-Ok-boxed-clause-accepted : goal.returns-in-Ok-boxed-clause-accepted

@@ -1,6 +1,6 @@
 -- The pool that was taken out is the one that the handle holds.
 use Rattle.std.proofs.Common.{◌≡◌, ◌≤◌, ◌+◌, ◌*◌, ◌∙◌, Some, ap, inl, inr, refl, sym}
-use Rattle.pb_c_reports.proofs.StepBounds.{of_message}
+use Rattle.pb_c_answers.proofs.StepBounds.{of_message}
 use Rattle.pb_c.proofs.message.decode.mb_message_decode.Goals as goal
 
 pub returns-in-Ok-clause-accepted : goal.returns-in-Ok-clause-accepted

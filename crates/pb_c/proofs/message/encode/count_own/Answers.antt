@@ -2,9 +2,9 @@
 use Rattle.std.proofs.Common.{◌≡◌, length, ap, sym, subst, arith, ◌∙◌}
 use Rattle.pb_encode.specs.Encoding.{bytes_of}
 use Rattle.pb_encode.specs.Sizes.{capped}
-use Rattle.pb_c_held.specs.Holds.{IsHeld, message_held}
-use Rattle.pb_c_held.specs.declared.held.Held.TheVariants as held
-use Rattle.pb_c_held.proofs.Canonical.{written_of_value}
+use Rattle.pb_c_message.specs.Holds.{IsHeld, message_held}
+use Rattle.pb_c_message.specs.declared.held.Held.TheVariants as held
+use Rattle.pb_c_message.proofs.Canonical.{written_of_value}
 use Rattle.pb_c.proofs.message.encode.count_own.Goals as goal
 
 pub returns-in-Bytes-clause-counted : goal.returns-in-Bytes-clause-counted

@@ -1,7 +1,7 @@
 -- What is reported is what was found.
 use Rattle.std.proofs.Common.{◌≡◌, length, refl}
 use Rattle.pb_place.specs.Ask.{laid_over}
-use Rattle.pb_c_values.specs.Answers.{numbers_in}
+use Rattle.pb_c_message.specs.Answers.{numbers_in}
 use Rattle.pb_c.proofs.PlaceAnswers.{done, missed}
 use Rattle.pb_c.proofs.message.fields.write_fields.Goals as goal
 

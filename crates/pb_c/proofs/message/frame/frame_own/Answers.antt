@@ -2,8 +2,8 @@
 use Rattle.std.proofs.Common.{◌≡◌, ◌<◌, ◌^◌, List, ℕ, length, ap, subst, ◌∙◌}
 use Rattle.pb_encode.specs.Encoding.{bytes_of}
 use Rattle.pb_stream.specs.Writing.{frame_of}
-use Rattle.pb_c_held.specs.Holds.{message_held}
-use Rattle.pb_c_reports.specs.Reporting.{IsLaid}
+use Rattle.pb_c_message.specs.Holds.{message_held}
+use Rattle.pb_c_answers.specs.Reporting.{IsLaid}
 use Rattle.pb_c.proofs.message.frame.frame_own.Goals as goal
 
 pub returns-in-Some-clause-written : goal.returns-in-Some-clause-written

@@ -1,6 +1,6 @@
 -- The message that is held is the one that was read.
 use Rattle.std.proofs.Common.{◌≡◌, ◌∙◌, refl}
-use Rattle.pb_c_reports.proofs.Making.{the_message}
+use Rattle.pb_c_answers.proofs.Making.{the_message}
 use Rattle.pb_c.proofs.message.from_json.boxed_text.Goals as goal
 
 pub returns-in-Ok-boxed-clause-read : goal.returns-in-Ok-boxed-clause-read

@@ -1,6 +1,6 @@
 -- The pool that was taken out is the one that the handle holds.
 use Rattle.std.proofs.Common.{◌≡◌, ◌<◌, ◌∙◌, Some, ap, inl, inr, refl, sym, length, rules}
-use Rattle.pb_c.specs.Held.{names_held, types_held}
+use Rattle.pb_c_handles.specs.Held.{names_held, types_held}
 use Rattle.pb_c.proofs.message.from_json.mb_message_from_json.Goals as goal
 
 pub returns-in-Ok-clause-read : goal.returns-in-Ok-clause-read

@@ -1,6 +1,6 @@
 -- What is found in the bytes is there, and the message that was put together is the one that is held.
 use Rattle.std.proofs.Common.{◌≡◌, refl}
-use Rattle.pb_c_values.specs.Answers.{plain_in}
+use Rattle.pb_c_message.specs.Answers.{plain_in}
 use Rattle.pb_c.proofs.PlaceAnswers.{done}
 use Rattle.pb_c.proofs.message.get.get_own.Goals as goal
 

@@ -1,6 +1,6 @@
 -- What is reported is what was found.
 use Rattle.std.proofs.Common.{◌≡◌, refl}
-use Rattle.pb_c_values.specs.Answers.{plain_in}
+use Rattle.pb_c_message.specs.Answers.{plain_in}
 use Rattle.pb_c.proofs.PlaceAnswers.{done, missed}
 use Rattle.pb_c.proofs.message.get.report_value.Goals as goal
 

@@ -1,6 +1,6 @@
 -- The names by which the message was written are those that the handle of the pool holds.
 use Rattle.std.proofs.Common.{◌≡◌, Some, refl, rules}
-use Rattle.pb_c.specs.Held.{names_held}
+use Rattle.pb_c_handles.specs.Held.{names_held}
 use Rattle.pb_c.proofs.message.json.mb_message_json.Goals as goal
 
 pub returns-clause-written : goal.returns-clause-written

@@ -2,7 +2,7 @@
 use Rattle.std.proofs.Common.{refl, ap, ◌∙◌}
 use Rattle.pb_value.specs.View.{key_view}
 use Rattle.pb_place.specs.Ask.{key_in}
-use Rattle.pb_c_reports.specs.Reporting.{laid_over}
+use Rattle.pb_c_answers.specs.Reporting.{laid_over}
 use Rattle.pb_c.specs.Typed.Found.{Reports}
 use Rattle.pb_c.proofs.PlaceAnswers.{done, missed}
 use Rattle.pb_c.proofs.message.key.report_key.Goals as goal

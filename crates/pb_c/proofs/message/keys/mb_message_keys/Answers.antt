@@ -1,7 +1,7 @@
 -- The message that was taken out is the one that the handle holds, and what is reported is what was found.
 use Rattle.std.proofs.Common.{◌≡◌, List, Some, refl, subst}
 use Rattle.pb_schema.specs.Scalar.{Scalar}
-use Rattle.pb_c_keys.specs.Keys.{ReportsKeys, keys_in}
+use Rattle.pb_c_message.specs.Keys.{ReportsKeys, keys_in}
 use Rattle.pb_c.specs.Message.Places.{IsAnswered}
 use Rattle.pb_c.proofs.PlaceAnswers.{done, missed}
 use Rattle.pb_c.proofs.message.keys.mb_message_keys.Goals as goal

@@ -1,7 +1,7 @@
 -- The message that was taken out is the one that the handle holds.
 use Rattle.std.proofs.Common.{◌≡◌, ◌≤◌, ◌+◌, ◌*◌, ◌∙◌, Some, inl, inr}
 use Rattle.pb_c.proofs.Copies.{some_same}
-use Rattle.pb_c_reports.proofs.StepBounds.{of_message}
+use Rattle.pb_c_answers.proofs.StepBounds.{of_message}
 use Rattle.pb_c.proofs.message.merge.mb_message_merge.Goals as goal
 
 pub returns-clause-steps : goal.returns-clause-steps

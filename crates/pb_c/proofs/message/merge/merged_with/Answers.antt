@@ -1,6 +1,6 @@
 -- What is answered of a copy is answered of the message.
 use Rattle.std.proofs.Common.{◌≡◌}
-use Rattle.pb_c_reports.specs.Reporting.{Tells}
+use Rattle.pb_c_answers.specs.Reporting.{Tells}
 use Rattle.pb_c.proofs.Copies.{accepted_onto, refused_onto}
 use Rattle.pb_c.proofs.message.merge.merged_with.Goals as goal
 

@@ -1,8 +1,8 @@
 -- What the bytes make of the message is what was decoded onto it, and their fault is the one that is reported, or memory ran out.
 use Rattle.std.proofs.Common.{◌≡◌, refl}
-use Rattle.pb_c_reports.specs.Reporting.{Tells}
-use Rattle.pb_c_reports.proofs.Making.{the_message}
-use Rattle.pb_c_reports.proofs.Refusals.{of_bytes, the_fault_of}
+use Rattle.pb_c_answers.specs.Reporting.{Tells}
+use Rattle.pb_c_answers.proofs.Making.{the_message}
+use Rattle.pb_c_answers.proofs.Refusals.{of_bytes, the_fault_of}
 use Rattle.pb_c.proofs.message.merge.onto_copy.Goals as goal
 
 pub returns-in-Ok-clause-onto : goal.returns-in-Ok-clause-onto

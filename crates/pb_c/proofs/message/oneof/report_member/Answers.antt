@@ -1,6 +1,6 @@
 -- What is reported is what was found.
 use Rattle.std.proofs.Common.{◌≡◌, refl}
-use Rattle.pb_c_values.specs.Answers.{member_in}
+use Rattle.pb_c_message.specs.Answers.{member_in}
 use Rattle.pb_c.proofs.PlaceAnswers.{done, missed}
 use Rattle.pb_c.proofs.message.oneof.report_member.Goals as goal
 

@@ -1,7 +1,7 @@
 -- What is found in the bytes is there, and the message that was put together is the one that is held.
 use Rattle.std.proofs.Common.{◌≡◌, refl}
-use Rattle.pb_c_values.specs.Answers.{bytes_in}
-use Rattle.pb_c_reports.specs.Reporting.{IsLaid}
+use Rattle.pb_c_message.specs.Answers.{bytes_in}
+use Rattle.pb_c_answers.specs.Reporting.{IsLaid}
 use Rattle.pb_c.proofs.PlaceAnswers.{done}
 use Rattle.pb_c.proofs.message.read.read_own.Goals as goal
 

@@ -1,7 +1,7 @@
 -- What is reported is what was found.
 use Rattle.std.proofs.Common.{refl}
-use Rattle.pb_c_values.specs.Answers.{bytes_in}
-use Rattle.pb_c_reports.specs.Reporting.{IsLaid}
+use Rattle.pb_c_message.specs.Answers.{bytes_in}
+use Rattle.pb_c_answers.specs.Reporting.{IsLaid}
 use Rattle.pb_c.proofs.PlaceAnswers.{done, missed}
 use Rattle.pb_c.proofs.message.read.write_bytes.Goals as goal
 

@@ -1,6 +1,6 @@
 -- The message in whose bytes was looked is the one that is held.
 use Rattle.std.proofs.Common.{◌≡◌}
-use Rattle.pb_c_held.specs.Holds.{message_held}
+use Rattle.pb_c_message.specs.Holds.{message_held}
 use Rattle.pb_c.proofs.message.read.write_found.Goals as goal
 
 pub returns-in-Some-clause-found : goal.returns-in-Some-clause-found

@@ -1,7 +1,7 @@
 -- The message that was taken out is the one that the handle holds, and what is reported is what was found.
 use Rattle.std.proofs.Common.{◌≡◌, ℕ, List, Some, refl, subst}
-use Rattle.pb_c_values.specs.Answers.{unknown_in}
-use Rattle.pb_c_reports.specs.Reporting.{IsLaid}
+use Rattle.pb_c_message.specs.Answers.{unknown_in}
+use Rattle.pb_c_answers.specs.Reporting.{IsLaid}
 use Rattle.pb_c.specs.Message.Places.{IsAnswered}
 use Rattle.pb_c.proofs.PlaceAnswers.{done, missed}
 use Rattle.pb_c.proofs.message.unknown.mb_message_unknown.Goals as goal

@@ -1,6 +1,6 @@
 -- Sources make one pool or have one fault, so what was answered is all that may be.
 use Rattle.pb_source.specs.declared.reading.Reading.TheVariants.{Strict}
-use Rattle.pb_c.specs.Held.{types_held}
+use Rattle.pb_c_handles.specs.Held.{types_held}
 use Rattle.pb_c.specs.PoolFault.{TellsRefusal}
 use Rattle.pb_c.specs.SourcePool.{SourcesFail, SourcesMake}
 use Rattle.pb_c.proofs.Exact.{accepted, told}

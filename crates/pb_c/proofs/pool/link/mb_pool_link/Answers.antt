@@ -3,9 +3,9 @@ use Rattle.std.proofs.Common.{All, arith, rules, sym, ◌∙◌}
 use Rattle.std.proofs.lemmas.List.Elements.{All-from_get_or}
 use Rattle.pb_wire.specs.Limits.{full}
 use Rattle.pb_wire.specs.Ranges.{IsByte}
-use Rattle.pb_descr.specs.Sets.{HasSetFault, IsSetOf}
-use Rattle.pb_descr.proofs.OneSet.{one_set}
-use Rattle.pb_c.specs.Held.{types_held}
+use Rattle.pb_descr_message.specs.Sets.{HasSetFault, IsSetOf}
+use Rattle.pb_descr_message.proofs.OneSet.{one_set}
+use Rattle.pb_c_handles.specs.Held.{types_held}
 use Rattle.pb_c.specs.PoolFault.{TellsFault}
 use Rattle.pb_c.specs.SetPool.{SetFails, SetMakes}
 use Rattle.pb_c.proofs.Exact.{accepted, told}

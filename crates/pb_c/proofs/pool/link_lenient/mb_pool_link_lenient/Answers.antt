@@ -3,7 +3,7 @@ use Rattle.std.proofs.Common.{All, arith, rules, sym, ◌∙◌}
 use Rattle.std.proofs.lemmas.List.Elements.{All-from_get_or}
 use Rattle.pb_wire.specs.Ranges.{IsByte}
 use Rattle.pb_c.proofs.OneLenientSet.{one_lenient_set}
-use Rattle.pb_c.specs.Held.{types_held}
+use Rattle.pb_c_handles.specs.Held.{types_held}
 use Rattle.pb_c.specs.PoolFault.{TellsFault}
 use Rattle.pb_c.specs.SetPool.{HasLenientFault, IsLenientSet, LenientSetFails, LenientSetMakes}
 use Rattle.pb_c.proofs.Exact.{accepted, told}

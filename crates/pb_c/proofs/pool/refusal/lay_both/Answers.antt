@@ -1,5 +1,5 @@
 -- The second text comes after the first.
-use Rattle.pb_c_reports.proofs.Laid.{laid_behind}
+use Rattle.pb_c_answers.proofs.Laid.{laid_behind}
 use Rattle.pb_c.proofs.pool.refusal.lay_both.Goals as goal
 
 pub returns : goal.returns

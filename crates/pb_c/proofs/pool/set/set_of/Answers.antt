@@ -3,8 +3,8 @@ use Rattle.std.proofs.Common.{◌≤◌, ◌<◌, ◌^◌, List, ap, length, map
 use Rattle.pb_value.specs.Data.{message_depth}
 use Rattle.pb_declarations.specs.Decls.{DeclaredFile}
 use Rattle.pb_declarations.specs.View.{file_view}
-use Rattle.pb_descr.specs.Sets.{set_bytes}
-use Rattle.pb_descr.specs.Writing.{set_body}
+use Rattle.pb_descr_message.specs.Sets.{set_bytes}
+use Rattle.pb_descr_message.specs.Writing.{set_body}
 use Rattle.pb_c.proofs.pool.set.set_of.Goals as goal
 
 pub returns-in-Ok-write_set-clause-set : goal.returns-in-Ok-write_set-clause-set

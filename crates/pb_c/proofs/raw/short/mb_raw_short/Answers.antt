@@ -2,7 +2,7 @@
 use Rattle.std.proofs.Common.{◌≡◌, ◌≤◌, ◌+◌, subst, sym}
 use Rattle.pb_wire.specs.Schema.{blank}
 use Rattle.pb_wire.specs.Grammar.{HasFault}
-use Rattle.pb_c_reports.specs.Reporting.{Tells}
+use Rattle.pb_c_answers.specs.Reporting.{Tells}
 use Rattle.pb_c.proofs.StepBounds.{of_raw_error}
 use Rattle.pb_c.proofs.Telling.{one_told}
 use Rattle.pb_c.proofs.raw.short.mb_raw_short.Goals as goal

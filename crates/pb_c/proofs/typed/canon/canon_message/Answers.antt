@@ -2,8 +2,8 @@ use Rattle.std.specs.Prelude.{true}
 use Rattle.std.proofs.Common.{◌≡◌, List, ℕ, refl, inl, inr, ap, subst, arith}
 use Rattle.pb_value.specs.Canon.{canon_bytes}
 use Rattle.pb_encode.specs.Encoding.{bytes_of}
-use Rattle.pb_c_reports.specs.Reporting.{IsLaid}
-use Rattle.pb_c_reports.proofs.Making.{the_message, too_many, written}
+use Rattle.pb_c_answers.specs.Reporting.{IsLaid}
+use Rattle.pb_c_answers.proofs.Making.{the_message, too_many, written}
 use Rattle.pb_c.proofs.typed.canon.canon_message.Goals as goal
 
 pub returns-in-Ok-clause-accepted : goal.returns-in-Ok-clause-accepted

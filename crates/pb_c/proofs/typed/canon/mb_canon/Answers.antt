@@ -1,6 +1,6 @@
 -- The pool that was taken out is the one that the handle holds.
 use Rattle.std.proofs.Common.{◌≡◌, ◌≤◌, ◌+◌, ◌*◌, sym}
-use Rattle.pb_c_reports.proofs.StepBounds.{of_message}
+use Rattle.pb_c_answers.proofs.StepBounds.{of_message}
 use Rattle.pb_c.proofs.typed.canon.mb_canon.Goals as goal
 
 pub returns-clause-refused : goal.returns-clause-refused

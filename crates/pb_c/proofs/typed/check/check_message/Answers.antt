@@ -2,8 +2,8 @@
 use Rattle.std.proofs.Common.{◌≡◌, subst, sym}
 use Rattle.pb_value.specs.Derives.{Text}
 use Rattle.pb_decode.specs.Push.{IsFaultOf}
-use Rattle.pb_c_reports.specs.Reporting.{Tells}
-use Rattle.pb_c_reports.proofs.Refusals.{of_bytes, the_fault_of}
+use Rattle.pb_c_answers.specs.Reporting.{Tells}
+use Rattle.pb_c_answers.proofs.Refusals.{of_bytes, the_fault_of}
 use Rattle.pb_c.proofs.typed.check.check_message.Goals as goal
 
 pub returns-in-Err-clause-accepted : goal.returns-in-Err-clause-accepted

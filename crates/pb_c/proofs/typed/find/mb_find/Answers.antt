@@ -2,7 +2,7 @@
 use Rattle.std.proofs.Common.{◌≡◌, ◌≤◌, ◌+◌, ◌*◌, sym}
 use Rattle.pb_decode.specs.Push.{IsFaultOf}
 use Rattle.pb_c.proofs.FoundTelling.{fault_told, missing_told, refused_told, reported_told}
-use Rattle.pb_c_reports.proofs.StepBounds.{of_message}
+use Rattle.pb_c_answers.proofs.StepBounds.{of_message}
 use Rattle.pb_c.proofs.typed.find.mb_find.Goals as goal
 
 pub returns-clause-steps : goal.returns-clause-steps

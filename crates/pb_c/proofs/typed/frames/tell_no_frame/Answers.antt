@@ -2,9 +2,9 @@
 use Rattle.std.proofs.Common.{◌≡◌, ◌++◌, [], Some, length, inl, inr, refl, subst, sym}
 use Rattle.pb_decode.specs.FromDevice.{IsNoFault}
 use Rattle.pb_stream.specs.Frame.{FrameFault}
-use Rattle.pb_c_reports.specs.Reporting.{Tells}
+use Rattle.pb_c_answers.specs.Reporting.{Tells}
 use Rattle.pb_c.specs.Typed.Frames.{AnswersFault}
-use Rattle.pb_c_reports.proofs.Refusals.{fault_of, no_fault_of, the_fault_of}
+use Rattle.pb_c_answers.proofs.Refusals.{fault_of, no_fault_of, the_fault_of}
 use Rattle.pb_c.proofs.typed.frames.tell_no_frame.Goals as goal
 
 pub unreachable-requires : goal.unreachable-requires

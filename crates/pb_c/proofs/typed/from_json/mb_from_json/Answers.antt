@@ -1,8 +1,8 @@
 -- The pool that was taken out is the one that the handle holds.
 use Rattle.std.proofs.Common.{◌≡◌, ◌<◌, Some, List, ℕ, inl, inr, refl, sym, subst, length, rules}
 use Rattle.pb_value.specs.Canon.{canon_bytes}
-use Rattle.pb_c_reports.specs.Reporting.{IsLaid}
-use Rattle.pb_c.specs.Held.{names_held, types_held}
+use Rattle.pb_c_answers.specs.Reporting.{IsLaid}
+use Rattle.pb_c_handles.specs.Held.{names_held, types_held}
 use Rattle.pb_c.proofs.typed.from_json.mb_from_json.Goals as goal
 
 pub returns-in-Ok-clause-written : goal.returns-in-Ok-clause-written

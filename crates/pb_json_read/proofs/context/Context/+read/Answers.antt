@@ -7,12 +7,11 @@ use Rattle.pb_json_text.specs.declared.value.JsonValue.{JsonValue}
 use Rattle.pb_json_text.proofs.ViewLemmas.{form_view-Array, form_view-Object}
 use Rattle.pb_schema.specs.Types.{FieldView}
 use Rattle.pb_schema.specs.View.{field_view}
-use Rattle.pb_value.specs.Change.{AreKeys}
-use Rattle.pb_value.specs.Data.{Datums, Entries, one, list, map, message}
+use Rattle.pb_value.specs.Data.{Datums, one, list, map, message}
 use Rattle.pb_value.specs.View.{body_view, content_view, entries_view, key_view, value_view, values_view}
 use Rattle.pb_value.proofs.Views.{content_view-One, content_view-List, content_view-Map, value_view-Message}
-use Rattle.pb_json_read.specs.Answers.{Changes, named, parts_view}
-use Rattle.pb_json_read.specs.Steps.{Made, Parts, with_number, with_oneof, with_entry, with_held, is_absent, ReadsScalar, ReadsHeld}
+use Rattle.pb_json_read.specs.Answers.{AreEntered, Changes, entered_view, named, parts_view}
+use Rattle.pb_json_read.specs.Steps.{Made, Entered, Parts, with_number, with_oneof, with_entry, with_held, is_absent, ReadsScalar, ReadsHeld}
 use Rattle.pb_json_read.specs.Reads.{ReadsMemberUnder, ReadsMemberEntry, ReadsElements, ReadsEntries, ReadsMembers, ReadsMember, ReadsMemberHeld, ReadsContent, ReadsValue, ReadsMessage}
 use Rattle.pb_json.specs.declared.well_known.WellKnown.TheVariants.{Other, Wrapper, Struct, ListValue, Value, Timestamp, Duration, FieldMask, Any}
 use Rattle.pb_json_read.specs.Answers.{Answers}
@@ -23,7 +22,6 @@ use Rattle.pb_json_read.specs.WellKnown.{is_sole}
 use Rattle.pb_json_read.proofs.ReadLemmas.{form_answers, none_answers, answers_done}
 use Rattle.pb_json_read.proofs.ReadLemmas.{made_ok, made_err, after_ok, after_err, or_weaker, answers_weaker, changes_weaker, changes_done, content_as, value_plain, value_inside}
 use Rattle.pb_json_read.specs.Reads.{ReadsBeside}
-use Rattle.pb_json.specs.WellKnown.{is_plain}
 use Rattle.pb_json_read.specs.Anys.{beside, only_field}
 use Rattle.pb_json_read.proofs.AnyLemmas.{in_any_held, in_any_plain, in_any_stops}
 use Rattle.pb_json_read.proofs.ReadLemmas.{beside_step, beside_stop}
@@ -114,8 +112,8 @@ read_elements-returns t c =
 pub read_entries-loop-member-init : goal.read_entries-loop-member-init
 read_entries-loop-member-init t c =
     let none = c.new-entries.ensures in record {
-      keys = subst (λ (es : Entries). AreKeys c.args.key es) (sym none) tt;
-      left = λ o h. subst (λ (es : Entries). ReadsEntries c.args.self.now.pool.now c.args.self.now.rules c.args.self.now.names.now c.args.key c.args.kind es (members_view c.args.members.now.items) o) none h;
+      keys = subst (λ (s : Entered). AreEntered c.args.key s) (sym none) (tt, tt);
+      left = λ o h. subst (λ (s : Entered). ReadsEntries c.args.self.now.pool.now c.args.self.now.rules c.args.self.now.names.now c.args.key c.args.kind s (members_view c.args.members.now.items) o) none h;
     }
 
 pub read_entries-loop-member-preserved : goal.read_entries-loop-member-preserved
@@ -132,13 +130,16 @@ read_entries-returns-in_err-read_entry t c =
     let below = rw c.deref-member-items.ensures.value at c.loop-member-test.true in
     let item = rw c.deref-member-items.ensures.value at c.member-item.is in
     let p = err_from_is_err_and c.from_residual.result c.from_residual.ensures.1 in
-    rw (p.1, p.2) (or_weaker (λ h. c.loop-member.invariant.left (Err _) (entries_stop c.args.self.now.pool.now c.args.self.now.rules c.args.self.now.names.now c.args.key c.args.kind _ c.args.members.now.items c.loop-member.member-index c.member-item.result below item _ h)) (c.in_err-read_entry.ensures.read c.loop-member.invariant.keys))
+    rw (p.1, p.2)
+    (made_err _ (λ (s : Entered). s.entries) _ (or_weaker (λ h. c.loop-member.invariant.left (Err _) (entries_stop c.args.self.now.pool.now c.args.self.now.rules c.args.self.now.names.now c.args.key c.args.kind _ c.args.members.now.items c.loop-member.member-index c.member-item.result below item _ h)) (c.in_err-read_entry.ensures.read c.loop-member.invariant.keys)))
 
 pub read_entries-returns : goal.read_entries-returns
 read_entries-returns t c =
     let none = drop_of_length-le c.args.members.now.items (rw c.deref-member-items.ensures.value at c.loop-member-test.false) in
-    c.loop-member.invariant.left (Ok (entries_view c.loop-member.entries.map.entries))
-    (subst (λ (ms : List JsonMember). ReadsEntries c.args.self.now.pool.now c.args.self.now.rules c.args.self.now.names.now c.args.key c.args.kind (entries_view c.loop-member.entries.map.entries) (members_view ms) (Ok (entries_view c.loop-member.entries.map.entries))) (sym none) refl)
+    let all = entered_view c.loop-member.entries in
+    made_ok _ (λ (s : Entered). s.entries) all _ refl
+    (c.loop-member.invariant.left (Ok all)
+    (subst (λ (ms : List JsonMember). ReadsEntries c.args.self.now.pool.now c.args.self.now.rules c.args.self.now.names.now c.args.key c.args.kind all (members_view ms) (Ok all)) (sym none) refl))
 
 pub read_object-returns-in-Object : goal.read_object-returns-in-Object
 read_object-returns-in-Object t c = rw (c.in-Object.is, form_view-Object) c.read_members.ensures
@@ -297,34 +298,36 @@ read_single-returns-in-None t c =
     answers_weaker (option_map value_view) (ReadsScalar c.args.self.now.pool.now c.args.self.now.rules c.args.kind c.args.value.now.at (form_view c.args.value.now.form)) (ReadsValue c.args.self.now.pool.now c.args.self.now.rules c.args.self.now.names.now c.args.kind c.args.value.now.at (form_view c.args.value.now.form)) c.read_plain.result
     (λ o h. value_plain c.args.self.now.pool.now c.args.self.now.rules c.args.self.now.names.now c.args.kind c.args.value.now.at (form_view c.args.value.now.form) o (sym c.in-None.ensures.named) h) c.read_plain.ensures
 
-pub read_under-returns-then-has_key : goal.read_under-returns-then-has_key
-read_under-returns-then-has_key t c = λ fits.
-    inr (under_taken (key_view c.args.key) (named c.args.member.now).0 (λ r. ReadsValue c.args.self.now.pool.now c.args.self.now.rules c.args.self.now.names.now c.args.kind (named c.args.member.now).2.0 (named c.args.member.now).2.1 r) (entries_view c.args.entries.now.map.entries) _ (sym c.has_key.ensures ∙ c.if-has_key.true) c.refused.ensures)
+pub read_under-returns-then-is_taken : goal.read_under-returns-then-is_taken
+read_under-returns-then-is_taken t c = λ fits.
+    inr (under_taken (key_view c.args.key) (named c.args.member.now).0 (λ r. ReadsValue c.args.self.now.pool.now c.args.self.now.rules c.args.self.now.names.now c.args.kind (named c.args.member.now).2.0 (named c.args.member.now).2.1 r) (entered_view c.args.entries.now) _ (sym c.is_taken.ensures ∙ c.if-is_taken.true) c.refused.ensures)
 
 pub read_under-returns-in_err-value : goal.read_under-returns-in_err-value
 read_under-returns-in_err-value t c = λ fits.
     let p = err_from_is_err_and c.from_residual.result c.from_residual.ensures.1 in
-    rw (p.1, p.2) (or_weaker (under_free (key_view c.args.key) (named c.args.member.now).0 (λ r. ReadsValue c.args.self.now.pool.now c.args.self.now.rules c.args.self.now.names.now c.args.kind (named c.args.member.now).2.0 (named c.args.member.now).2.1 r) (entries_view c.args.entries.now.map.entries) (Err _) (sym c.has_key.ensures ∙ c.if-has_key.false)) (made_err (ReadsValue c.args.self.now.pool.now c.args.self.now.rules c.args.self.now.names.now c.args.kind (named c.args.member.now).2.0 (named c.args.member.now).2.1) (with_entry (key_view c.args.key) (entries_view c.args.entries.now.map.entries)) _ c.in_err-value.ensures))
+    rw (p.1, p.2) (or_weaker (under_free (key_view c.args.key) (named c.args.member.now).0 (λ r. ReadsValue c.args.self.now.pool.now c.args.self.now.rules c.args.self.now.names.now c.args.kind (named c.args.member.now).2.0 (named c.args.member.now).2.1 r) (entered_view c.args.entries.now) (Err _) (sym c.is_taken.ensures ∙ c.if-is_taken.false)) (made_err (ReadsValue c.args.self.now.pool.now c.args.self.now.rules c.args.self.now.names.now c.args.kind (named c.args.member.now).2.0 (named c.args.member.now).2.1) (with_entry (key_view c.args.key) (entered_view c.args.entries.now)) _ c.in_err-value.ensures))
 
 pub read_under-returns : goal.read_under-returns
 read_under-returns t c = λ fits.
-    changes_done (entries_view c.put_some.new.entries.map.entries) ((with_entry (key_view c.args.key) (entries_view c.args.entries.now.map.entries)) (option_map value_view c.in_ok-value.value)) (ReadsMemberUnder c.args.self.now.pool.now c.args.self.now.rules c.args.self.now.names.now (key_view c.args.key) c.args.kind (named c.args.member.now) (entries_view c.args.entries.now.map.entries))
+    changes_done (entered_view c.put_some.new.entries) ((with_entry (key_view c.args.key) (entered_view c.args.entries.now)) (option_map value_view c.in_ok-value.value)) (ReadsMemberUnder c.args.self.now.pool.now c.args.self.now.rules c.args.self.now.names.now (key_view c.args.key) c.args.kind (named c.args.member.now) (entered_view c.args.entries.now))
     c.put_some.result (on_ok_weaker c.put_some.result (λ h. h fits) c.put_some.ensures.put) c.put_some.ensures.memory
-    (under_free (key_view c.args.key) (named c.args.member.now).0 (λ r. ReadsValue c.args.self.now.pool.now c.args.self.now.rules c.args.self.now.names.now c.args.kind (named c.args.member.now).2.0 (named c.args.member.now).2.1 r) (entries_view c.args.entries.now.map.entries) _ (sym c.has_key.ensures ∙ c.if-has_key.false)
-    (made_ok (ReadsValue c.args.self.now.pool.now c.args.self.now.rules c.args.self.now.names.now c.args.kind (named c.args.member.now).2.0 (named c.args.member.now).2.1) (with_entry (key_view c.args.key) (entries_view c.args.entries.now.map.entries)) (option_map value_view c.in_ok-value.value) _ refl c.in_ok-value.ensures))
+    (under_free (key_view c.args.key) (named c.args.member.now).0 (λ r. ReadsValue c.args.self.now.pool.now c.args.self.now.rules c.args.self.now.names.now c.args.kind (named c.args.member.now).2.0 (named c.args.member.now).2.1 r) (entered_view c.args.entries.now) _ (sym c.is_taken.ensures ∙ c.if-is_taken.false)
+    (made_ok (ReadsValue c.args.self.now.pool.now c.args.self.now.rules c.args.self.now.names.now c.args.kind (named c.args.member.now).2.0 (named c.args.member.now).2.1) (with_entry (key_view c.args.key) (entered_view c.args.entries.now)) (option_map value_view c.in_ok-value.value) _ refl c.in_ok-value.ensures))
 
 pub read_entry-returns-in-Some-clause-read : goal.read_entry-returns-in-Some-clause-read
 read_entry-returns-in-Some-clause-read t c = λ keys.
-    changes_weaker (entries_view c.read_under.new.entries.map.entries) (ReadsMemberUnder c.args.self.now.pool.now c.args.self.now.rules c.args.self.now.names.now (key_view c.in-Some.name) c.args.kind (named c.args.member.now) (entries_view c.args.entries.now.map.entries)) (ReadsMemberEntry c.args.self.now.pool.now c.args.self.now.rules c.args.self.now.names.now c.args.key c.args.kind (named c.args.member.now) (entries_view c.args.entries.now.map.entries))
-    c.read_under.result (entry_under c.args.key (named c.args.member.now).1 (named c.args.member.now).0 (λ r. ReadsValue c.args.self.now.pool.now c.args.self.now.rules c.args.self.now.names.now c.args.kind (named c.args.member.now).2.0 (named c.args.member.now).2.1 r) (entries_view c.args.entries.now.map.entries) (key_view c.in-Some.name) (rw (c.as_str.ensures.value, c.in-Some.is) at c.in_ok-name.ensures).0) (c.read_under.ensures (c.args.key, (key_of_kind c.args.key (named c.args.member.now).1 (key_view c.in-Some.name) (rw (c.as_str.ensures.value, c.in-Some.is) at c.in_ok-name.ensures).0), keys))
+    let of_kind = key_of_kind c.args.key (named c.args.member.now).1 (key_view c.in-Some.name) (rw (c.as_str.ensures.value, c.in-Some.is) at c.in_ok-name.ensures).0 in
+    changes_weaker (entered_view c.read_under.new.entries) (ReadsMemberUnder c.args.self.now.pool.now c.args.self.now.rules c.args.self.now.names.now (key_view c.in-Some.name) c.args.kind (named c.args.member.now) (entered_view c.args.entries.now)) (ReadsMemberEntry c.args.self.now.pool.now c.args.self.now.rules c.args.self.now.names.now c.args.key c.args.kind (named c.args.member.now) (entered_view c.args.entries.now))
+    c.read_under.result (entry_under c.args.key (named c.args.member.now).1 (named c.args.member.now).0 (λ r. ReadsValue c.args.self.now.pool.now c.args.self.now.rules c.args.self.now.names.now c.args.kind (named c.args.member.now).2.0 (named c.args.member.now).2.1 r) (entered_view c.args.entries.now) (key_view c.in-Some.name) (rw (c.as_str.ensures.value, c.in-Some.is) at c.in_ok-name.ensures).0) (c.read_under.ensures ((c.args.key, of_kind, keys.0), (c.args.key, of_kind, keys.1)))
 
 pub read_entry-returns-in-Some-clause-keys : goal.read_entry-returns-in-Some-clause-keys
 read_entry-returns-in-Some-clause-keys t c = λ keys.
-    entry_keys (key_view c.in-Some.name) (named c.args.member.now).0 (λ r. ReadsValue c.args.self.now.pool.now c.args.self.now.rules c.args.self.now.names.now c.args.kind (named c.args.member.now).2.0 (named c.args.member.now).2.1 r) (entries_view c.args.entries.now.map.entries) c.args.key (entries_view c.read_under.new.entries.map.entries) c.read_under.result (key_of_kind c.args.key (named c.args.member.now).1 (key_view c.in-Some.name) (rw (c.as_str.ensures.value, c.in-Some.is) at c.in_ok-name.ensures).0) keys (c.read_under.ensures (c.args.key, (key_of_kind c.args.key (named c.args.member.now).1 (key_view c.in-Some.name) (rw (c.as_str.ensures.value, c.in-Some.is) at c.in_ok-name.ensures).0), keys))
+    let of_kind = key_of_kind c.args.key (named c.args.member.now).1 (key_view c.in-Some.name) (rw (c.as_str.ensures.value, c.in-Some.is) at c.in_ok-name.ensures).0 in
+    entry_keys (key_view c.in-Some.name) (named c.args.member.now).0 (λ r. ReadsValue c.args.self.now.pool.now c.args.self.now.rules c.args.self.now.names.now c.args.kind (named c.args.member.now).2.0 (named c.args.member.now).2.1 r) (entered_view c.args.entries.now) c.args.key (entered_view c.read_under.new.entries) c.read_under.result of_kind keys (c.read_under.ensures ((c.args.key, of_kind, keys.0), (c.args.key, of_kind, keys.1)))
 
 pub read_entry-returns-in-None-clause-read : goal.read_entry-returns-in-None-clause-read
 read_entry-returns-in-None-clause-read t c = λ keys.
-    inr (entry_none c.args.key (named c.args.member.now).1 (named c.args.member.now).0 (λ r. ReadsValue c.args.self.now.pool.now c.args.self.now.rules c.args.self.now.names.now c.args.kind (named c.args.member.now).2.0 (named c.args.member.now).2.1 r) (entries_view c.args.entries.now.map.entries) _ (rw (c.as_str.ensures.value, c.in-None.is) at c.in_ok-name.ensures) c.refused.ensures)
+    inr (entry_none c.args.key (named c.args.member.now).1 (named c.args.member.now).0 (λ r. ReadsValue c.args.self.now.pool.now c.args.self.now.rules c.args.self.now.names.now c.args.kind (named c.args.member.now).2.0 (named c.args.member.now).2.1 r) (entered_view c.args.entries.now) _ (rw (c.as_str.ensures.value, c.in-None.is) at c.in_ok-name.ensures) c.refused.ensures)
 
 pub read_sole-returns-in-Some : goal.read_sole-returns-in-Some
 read_sole-returns-in-Some t c =
@@ -435,21 +438,22 @@ read_nested-returns-else-is_sole t c =
     subst (λ (b : Bool). Answers body_view (Where b c.args.value.now.at (SoleOf c.args.self.now.pool.now c.args.self.now.rules c.args.self.now.names.now c.args.value.now.at (form_view c.args.value.now.form) c.args.id.0)) (Err c.refused.result))
     (sym c.if-is_sole.false ∙ c.is_sole.ensures ∙ ap is_sole c.well_known.ensures) (none_answers body_view c.args.value.now.at _ c.refused.ensures)
 
-pub read_in_any-returns-then-is_plain : goal.read_in_any-returns-then-is_plain
-read_in_any-returns-then-is_plain t c =
-    let plain = ap (λ (b : Bool). only_field b c.args.inner.0) (sym (sym c.if-is_plain.true ∙ c.is_plain.ensures ∙ ap is_plain c.well_known.ensures)) in
+pub read_in_any-returns-then-has_members : goal.read_in_any-returns-then-has_members
+read_in_any-returns-then-has_members t c =
+    let plain = ap (λ (b : Bool). only_field b c.args.inner.0) (sym (sym c.if-has_members.true ∙ c.has_members.ensures)) in
     in_any_plain c.args.self.now.pool.now c.args.self.now.rules c.args.self.now.names.now c.args.at (members_view c.args.members.now.items) c.args.inner.0 c.read_beside.result plain c.read_beside.ensures
 
 pub read_in_any-returns-in_err-body : goal.read_in_any-returns-in_err-body
 read_in_any-returns-in_err-body t c =
-    let own = ap (λ (b : Bool). only_field b c.args.inner.0) (sym (sym c.if-is_plain.false ∙ c.is_plain.ensures ∙ ap is_plain c.well_known.ensures)) in
+    let own = ap (λ (b : Bool). only_field b c.args.inner.0) (sym (sym c.if-has_members.false ∙ c.has_members.ensures)) in
     let p = err_from_is_err_and c.from_residual-in_err-body.result c.from_residual-in_err-body.ensures.1 in
     rw (p.1, p.2) (in_any_stops c.args.self.now.pool.now c.args.self.now.rules c.args.self.now.names.now c.args.at (members_view c.args.members.now.items) c.args.inner.0 _ own (rw c.in_ok-field.ensures at c.in_err-body.ensures))
 
 pub read_in_any-returns-in_ok-body : goal.read_in_any-returns-in_ok-body
 read_in_any-returns-in_ok-body t c =
-    let own = ap (λ (b : Bool). only_field b c.args.inner.0) (sym (sym c.if-is_plain.false ∙ c.is_plain.ensures ∙ ap is_plain c.well_known.ensures)) in
-    in_any_held c.args.self.now.pool.now c.args.self.now.rules c.args.self.now.names.now c.args.at (members_view c.args.members.now.items) c.args.inner.0 (body_view c.in_ok-body.body) c.held_message.result own (rw c.in_ok-field.ensures at c.in_ok-body.ensures) c.held_message.ensures
+    let own = ap (λ (b : Bool). only_field b c.args.inner.0) (sym (sym c.if-has_members.false ∙ c.has_members.ensures)) in
+    in_any_held c.args.self.now.pool.now c.args.self.now.rules c.args.self.now.names.now c.args.at (members_view c.args.members.now.items) c.args.inner.0 (body_view c.in_ok-body.body) c.held_message.result own (rw c.in_ok-field.ensures at c.in_ok-body.ensures)
+    (rw c.is_empty_type.ensures at c.held_message.ensures)
 
 pub read_only-returns-else-eq : goal.read_only-returns-else-eq
 read_only-returns-else-eq t c =

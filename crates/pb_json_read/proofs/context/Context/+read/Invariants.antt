@@ -1,11 +1,10 @@
 use Rattle.std.proofs.Common.{drop, option_map}
 use Rattle.pb_schema.specs.View.{field_view}
 use Rattle.pb_json_text.specs.View.{elements_view, members_view}
-use Rattle.pb_value.specs.Change.{AreKeys}
-use Rattle.pb_value.specs.Data.{no_datums, no_entries, Datums, Entries}
-use Rattle.pb_value.specs.View.{entries_view, values_view}
-use Rattle.pb_json_read.specs.Answers.{parts_view}
-use Rattle.pb_json_read.specs.Steps.{Read, Parts, nothing}
+use Rattle.pb_value.specs.Data.{no_datums, Datums}
+use Rattle.pb_value.specs.View.{values_view}
+use Rattle.pb_json_read.specs.Answers.{AreEntered, entered_view, parts_view}
+use Rattle.pb_json_read.specs.Steps.{Read, Entered, Parts, none_entered, nothing}
 use Rattle.pb_json_read.specs.Reads.{ReadsBeside, ReadsElements, ReadsEntries, ReadsMembers}
 use Rattle.pb_json_read.specs.Anys.{beside}
 use Rattle.pb_json_read.specs.Names.{field_meant}
@@ -31,8 +30,8 @@ invariant-read_elements-loop-item l =
 
 abbrev pub invariant-read_entries-loop-member : goal.invariant-read_entries-loop-member
 invariant-read_entries-loop-member l = record {
-  keys : AreKeys l.key (entries_view l.entries.map.entries);
-  left : (o : Read Entries)
-      → ReadsEntries l.self.pool.now l.self.rules l.self.names.now l.key l.kind (entries_view l.entries.map.entries) (members_view (drop l.member-index l.members.items)) o
-      → ReadsEntries l.self.pool.now l.self.rules l.self.names.now l.key l.kind no_entries (members_view l.members.items) o;
+  keys : AreEntered l.key (entered_view l.entries);
+  left : (o : Read Entered)
+      → ReadsEntries l.self.pool.now l.self.rules l.self.names.now l.key l.kind (entered_view l.entries) (members_view (drop l.member-index l.members.items)) o
+      → ReadsEntries l.self.pool.now l.self.rules l.self.names.now l.key l.kind none_entered (members_view l.members.items) o;
 }

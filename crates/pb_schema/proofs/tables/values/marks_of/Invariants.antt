@@ -1,9 +1,10 @@
-use Rattle.std.proofs.Common.{◌≡◌, length, map, string_bytes}
+use Rattle.std.proofs.Common.{◌≡◌, length}
+use Rattle.pb_schema.specs.View.{values_view}
 use Rattle.pb_schema.specs.Tables.{AreMarksOf}
 use Rattle.pb_schema.proofs.tables.values.marks_of.Given as goal
 
 abbrev pub invariant-loop-value : goal.invariant-loop-value
 invariant-loop-value l = record {
-  marks : AreMarksOf (map (λ v. (string_bytes v.0, v.1)) l.values) l.least l.marks.items;
+  marks : AreMarksOf (values_view l.values) l.least l.marks.items;
   count : length l.marks.items ≡ l.count;
 }

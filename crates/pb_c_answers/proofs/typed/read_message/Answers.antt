@@ -1,0 +1,19 @@
+-- A value of the bytes is the one that was decoded, and a fault of them the one that was reported, or memory ran out.
+use Rattle.std.proofs.Common.{◌≡◌, subst, sym}
+use Rattle.pb_value.specs.Derives.{Text}
+use Rattle.pb_decode.specs.Push.{IsFaultOf}
+use Rattle.pb_c_answers.specs.Reporting.{Tells}
+use Rattle.pb_c_answers.proofs.Refusals.{of_bytes, the_fault_of}
+use Rattle.pb_c_answers.proofs.typed.read_message.Goals as goal
+
+pub returns-in-Ok-clause-accepted : goal.returns-in-Ok-clause-accepted
+returns-in-Ok-clause-accepted c within v text =
+    c.in-Ok.ensures.accepted v (subst (λ m. Text c.args.pool.now m c.args.limits c.args.bytes.now v) (sym c.in-Some.ensures.found.0) text)
+
+pub returns-in-Err-clause-refused : goal.returns-in-Err-clause-refused
+returns-in-Err-clause-refused c within f fault =
+    the_fault_of c.in-Err.error f (λ g. (c.tell_error.result ≡ 13) × Tells g c.tell_error.new.fault c.args.path.now c.tell_error.new.path)
+    (c.tell_error.result ≡ 14)
+    (of_bytes c.in-Err.error (λ g. g ≡ f)
+    (c.in-Err.ensures.refused f (subst (λ m. IsFaultOf c.args.pool.now m c.args.limits c.args.bytes.now f) (sym c.in-Some.ensures.found.0) fault)))
+    c.tell_error.ensures.told

@@ -1,0 +1,4 @@
+-- JSON texts that are read and written.
+pub mod Numbers
+pub mod Reading
+pub mod Writing

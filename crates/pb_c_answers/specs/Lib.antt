@@ -1,0 +1,4 @@
+pub mod Reporting
+pub mod Typed
+pub mod Json
+pub mod Decoder

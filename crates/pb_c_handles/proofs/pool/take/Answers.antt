@@ -1,0 +1,7 @@
+-- A handle that says that it is full holds a pool.
+use Rattle.std.proofs.Common.{◌∙◌, sym}
+use Rattle.pb_c_handles.proofs.Filled.{filled}
+use Rattle.pb_c_handles.proofs.pool.take.Goals as goal
+
+pub into_parts-requires : goal.into_parts-requires
+into_parts-requires c = filled c.replace-seal.result.seal.pool (sym c.replace-seal.result.agrees ∙ c.if-full.true)

@@ -1,0 +1,4 @@
+pub mod PoolSeal
+pub mod MessageSeal
+pub mod DecoderSeal
+pub mod Held

@@ -1,2 +1,0 @@
--- what is answered of a JSON text that is read
-pub mod JsonReading

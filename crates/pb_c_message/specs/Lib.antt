@@ -1,0 +1,7 @@
+pub mod Plain
+pub mod Places
+pub mod Answers
+pub mod Keys
+pub mod NewValue
+pub mod Ends
+pub mod Holds

@@ -1,5 +1,0 @@
-use Rattle.pb_descr.proofs.LenientStrict as lenient
-use Rattle.pb_descr.proofs.laws.lenient_is_strict.Goals as goal
-
-pub returns : goal.returns
-returns c = record { read = λ b without files are w. lenient.read b without are w files; refused = λ b without i cause are w. lenient.refused b without are w i cause }

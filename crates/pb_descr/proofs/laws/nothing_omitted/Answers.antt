@@ -1,5 +1,0 @@
-use Rattle.pb_descr.proofs.NothingOmitted.{read_strictly, read_leniently}
-use Rattle.pb_descr.proofs.laws.nothing_omitted.Goals as goal
-
-pub returns : goal.returns
-returns c = record { strictly = λ b files are r. read_strictly b are files r; leniently = λ b files are none r. read_leniently b are files none r }

@@ -1,7 +1,0 @@
-use Rattle.std.proofs.Common.{◌≡◌, map, take}
-use Rattle.pb_schema.specs.View.{field_view}
-use Rattle.pb_descr.specs.PoolRows.{field_row_view}
-use Rattle.pb_descr.proofs.pool.fields_of.Given as goal
-
-abbrev pub invariant-loop-row : goal.invariant-loop-row
-invariant-loop-row l = map field_view l.fields.items ≡ map field_row_view (take l.row-index l.rows)

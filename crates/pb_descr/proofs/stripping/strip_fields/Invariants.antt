@@ -1,8 +1,0 @@
-use Rattle.std.proofs.Common.{map}
-use Rattle.pb_value.specs.View.{value_view}
-use Rattle.pb_descr.specs.Without.{field_without}
-use Rattle.pb_descr.proofs.WithoutLemmas.{Changed}
-use Rattle.pb_descr.proofs.stripping.strip_fields.Given as goal
-
-abbrev pub invariant-loop-field : goal.invariant-loop-field
-invariant-loop-field l = Changed value_view field_without l.field-index (map value_view l.initial.fields) l.fields

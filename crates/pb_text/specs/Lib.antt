@@ -1,0 +1,6 @@
+pub mod Lines
+pub mod Strings
+pub mod Numbers
+pub mod Values
+pub mod Unknown
+pub mod Text
