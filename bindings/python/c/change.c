@@ -4,12 +4,12 @@
 PyObject *change_functions;
 
 const char append_doc[] = "append($self, value, /)\n--\n\nAdds a value at the end. A message is given as a dict or as a message, which is copied.";
-const char extend_doc[] = "extend($self, values, /)\n--\n\nAdds each of the values at the end. If one is refused, those before it are kept.";
+const char extend_doc[] = "extend($self, values, /)\n--\n\nAdds each of the values at the end. If a value is refused, the values before it are kept.";
 const char clear_doc[] = "clear($self, /)\n--\n\nRemoves all elements or entries.";
 const char make_doc[] = "_make([name or key])\n--\n\nPuts an empty message here, and returns it as a part.";
 const char make_at_doc[] = "_make_at($self, index, /)\n--\n\nPuts an empty message in place of the one here, and returns it as a part.";
 const char move_doc[] = "_move($self, index, count, /)\n--\n\nMoves this many elements from the end of the list to an index.";
-const char drop_unknown_doc[] = "drop_unknown($self, /)\n--\n\nDrops the unknown fields of this message, but not those of messages in it.";
+const char drop_unknown_doc[] = "drop_unknown($self, /)\n--\n\nDrops the unknown fields of this message. Messages in it keep their unknown fields.";
 
 /* A call that changes a message, and those of them that take a value. */
 typedef uint32_t changer(struct mb_message *, const struct mb_value *, size_t, const struct mb_bytes *, size_t);

@@ -33,8 +33,8 @@ static PyObject *differences(MessageType *old, MessageType *new, const struct mb
 
 const char compat_doc[] =
 "compat($self, new, /)\n--\n\n"
-"Lists what changes if the type `new` reads messages of this type: a list of Difference, each with the types old and new, a field of old, and a"
-"\nseverity: breaks, loses, presence, converts or renames. The message types of fields are compared too.";
+"Returns a list of Difference: what changes if the type `new` reads messages of this type. A difference has the types old and new, a field of old, and"
+"\na severity: breaks, loses, presence, converts or renames. The message types of fields are compared too.";
 
 PyObject *type_compat(PyObject *self, PyObject *other)
 {
@@ -64,7 +64,7 @@ PyObject *type_compat(PyObject *self, PyObject *other)
 const char witness_doc[] =
 "witness($self, new, difference, /)\n--\n\n"
 "Returns a message of this type that shows a break. The type `new` refuses its canonical bytes, or reads another message. The difference is one of"
-"\ncompat(new). None if it breaks nothing, or if more than 99 fields lead to it.";
+"\ncompat(new). Returns None if the difference breaks nothing, or if it is more than 99 messages deep.";
 
 static PyObject *not_of_both(void)
 {

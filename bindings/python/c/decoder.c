@@ -15,7 +15,7 @@ typedef struct {
 
 const char decoder_doc[] =
 "decoder($self, /, *, max_bytes=2147483647, max_depth=100)\n--\n\n"
-"Returns a Decoder for a message that arrives in pieces. The limits are those of the whole message. While one thread feeds the decoder, another"
+"Returns a Decoder for a message that arrives in pieces. The limits are for the whole message. While one thread feeds the decoder, another"
 "\nthread that uses it gets RuntimeError.";
 
 PyObject *type_decoder(PyObject *self, PyObject *args, PyObject *kwargs)
@@ -54,8 +54,8 @@ static struct mb_decoder *handle_of(PyObject *self)
 
 PyDoc_STRVAR(feed_doc,
 "feed($self, data, /)\n--\n\n"
-"Gives the next piece to the decoder: anything with the buffer protocol. Raises Refused as soon as the bytes received have a fault that further"
-"\nbytes cannot repair; its byte counts from the first piece on. After Refused or MemoryError the decoder is finished: each further call raises ValueError.");
+"Gives the next piece to the decoder: bytes, or any other buffer. Raises Refused as soon as the bytes received have a fault that further"
+"\nbytes cannot repair; the byte of the fault counts from the first piece on. After Refused or MemoryError the decoder is finished: each further call raises ValueError.");
 
 static PyObject *decoder_feed(PyObject *self, PyObject *data)
 {
@@ -140,8 +140,8 @@ PyObject *make_decoder_type(void)
     };
     static PyGetSetDef getset[] = {
         {"pending", decoder_get_pending, NULL,
-         "How many bytes it holds as they came: those of a tag, a length or a number that is not complete, or of the payload of a string, of bytes or of an"
-         "\nunknown record. 0 where it is finished.", NULL},
+         "The number of bytes that the decoder keeps as they came: the beginning of a tag, a length, a number, a string, bytes or an unknown field. 0 if the"
+         "\ndecoder is finished.", NULL},
         {NULL, NULL, NULL, NULL, NULL},
     };
     static PyMethodDef methods[] = {

@@ -163,8 +163,8 @@ static PyObject *dict_of(struct walk *walk, MessageType *type, struct span insid
 
 const char to_dict_doc[] =
 "to_dict($self, /, *, enums='numbers')\n--\n\n"
-"Returns the set fields as a dict by name. Messages and maps are dicts, lists are lists. An enum is its number, or with enums=\"names\" its name if it"
-"\nhas one. Unknown fields are left out.";
+"Returns the set fields as a dict by name. Messages and maps are dicts, lists are lists. An enum is its number; with enums=\"names\" it is its name if it"
+"\nhas a name. Unknown fields are left out.";
 
 /* Whether enums are wanted by their names: 1, 0, or -1 with an exception. */
 static int wants_names(const char *enums)

@@ -224,7 +224,7 @@ Field *field_of(MessageType *type, PyObject *name)
     return field_by_number(type, number <= UINT32_MAX ? (uint32_t)number : 0);
 }
 
-const char field_doc[] = "field($self, name, /)\n--\n\nReturns the Field of a simple name, as \"number\". Raises KeyError if the type has none.";
+const char field_doc[] = "field($self, name, /)\n--\n\nReturns the Field with a simple name, as \"number\". Raises KeyError if the type has no such field.";
 
 PyObject *type_field(PyObject *self, PyObject *name)
 {
@@ -407,16 +407,16 @@ PyObject *make_field_type(void)
         {NULL, 0, 0, 0, NULL},
     };
     static PyGetSetDef getset[] = {
-        {"owner", field_get_owner, NULL, "The message type that has it.", NULL},
+        {"owner", field_get_owner, NULL, "The message type that has the field.", NULL},
         {"full_name", field_get_full_name, NULL, "The full name, as shop.Order.number.", NULL},
         {"kind", field_get_kind, NULL, "The kind of its values, as a source writes it: int32, string, message, enum ..", NULL},
-        {"shape", field_get_shape, NULL, "implicit, optional, oneof, list or map. An implicit one is unset while it has its default value.", NULL},
-        {"key", field_get_key, NULL, "Of a map the kind of its keys, else None.", NULL},
+        {"shape", field_get_shape, NULL, "implicit, optional, oneof, list or map. An implicit field that has its default value is not set.", NULL},
+        {"key", field_get_key, NULL, "For a map the kind of its keys, else None.", NULL},
         {"type", field_get_type, NULL, "The message type of its values, or None.", NULL},
         {"enum", field_get_enum, NULL,
-         "The Enum of its values, or None: a str, its full name, with names, which has the name of each number, and numbers, of each name.", NULL},
-        {"oneof", field_get_oneof, NULL, "The name of the oneof that it is in, or None.", NULL},
-        {"packed", field_get_packed, NULL, "Whether a list of it is written packed.", NULL},
+         "The Enum of its values, or None. An Enum is a str, its full name. Its names is a dict from number to name, and its numbers from name to number.", NULL},
+        {"oneof", field_get_oneof, NULL, "The name of its oneof, or None.", NULL},
+        {"packed", field_get_packed, NULL, "Whether the list is written packed.", NULL},
         {"numbers", field_get_numbers, NULL, "number, kind, shape, key and type_of of struct mb_field.", NULL},
         {NULL, NULL, NULL, NULL, NULL},
     };

@@ -158,14 +158,14 @@ static PyObject *map_keys(PyObject *self, PyObject *Py_UNUSED(ignored))
     return listed(self, KEYS);
 }
 
-PyDoc_STRVAR(values_doc, "values($self, /)\n--\n\nReturns the values as a list, by rising keys.");
+PyDoc_STRVAR(values_doc, "values($self, /)\n--\n\nReturns the values as a list, in the order of their keys.");
 
 static PyObject *map_values(PyObject *self, PyObject *Py_UNUSED(ignored))
 {
     return listed(self, VALUES);
 }
 
-PyDoc_STRVAR(items_doc, "items($self, /)\n--\n\nReturns pairs of key and value as a list, by rising keys.");
+PyDoc_STRVAR(items_doc, "items($self, /)\n--\n\nReturns pairs of key and value as a list, in the order of the keys.");
 
 static PyObject *map_items(PyObject *self, PyObject *Py_UNUSED(ignored))
 {
@@ -213,7 +213,7 @@ PyObject *made_map_type(void)
 {
     static PyMethodDef methods[] = {
         {"get", (PyCFunction)(void (*)(void))map_get, METH_VARARGS | METH_KEYWORDS,
-         "get($self, /, key, default=None)\n--\n\nWhat is under a key, else the default."},
+         "get($self, /, key, default=None)\n--\n\nReturns the value under a key if it is there, else the default."},
         {"keys", map_keys, METH_NOARGS, keys_doc},
         {"values", map_values, METH_NOARGS, values_doc},
         {"items", map_items, METH_NOARGS, items_doc},

@@ -176,8 +176,8 @@ static PyObject *message_encoded_length(PyObject *self, PyObject *Py_UNUSED(igno
 
 PyDoc_STRVAR(listing_doc,
 "listing($self, /, *, decimal=False)\n--\n\n"
-"Returns the listing that `pbtool show` prints, with floats by their bits. With decimal=True a float is the shortest decimal that reads back to the"
-"\nsame bits, or nan, inf or -inf. str(message) and repr(message) are the listing in decimal.");
+"Returns the listing that `pbtool show` prints, with floats by their bits. With decimal=True floats have the fewest decimal digits that read back as the"
+"\nsame bits, or are nan, inf or -inf. str(message) and repr(message) are the listing in decimal.");
 
 static PyObject *message_listing(PyObject *self, PyObject *args, PyObject *kwargs)
 {
@@ -191,8 +191,8 @@ static PyObject *message_listing(PyObject *self, PyObject *args, PyObject *kwarg
 
 PyDoc_STRVAR(to_json_doc,
 "to_json($self, /, *, declared_names=False, indent=False)\n--\n\n"
-"Returns the message as JSON (ProtoJSON), on one line, or indented. A name is the json_name of the set, or else in lowerCamelCase. With"
-"\ndeclared_names=True it is the declared name. Raises Refused if a value has no JSON form, such as a Timestamp after the year 9999.");
+"Returns the message as JSON (ProtoJSON), on one line, or indented. Names are the json_name of the set, or else in lowerCamelCase. With"
+"\ndeclared_names=True they are the declared names. Raises Refused if a value has no JSON form, such as a Timestamp after the year 9999.");
 
 static PyObject *message_to_json(PyObject *self, PyObject *args, PyObject *kwargs)
 {
@@ -430,7 +430,7 @@ static int message_bool(PyObject *self)
     return is_there(node, &place);
 }
 
-PyDoc_STRVAR(numbers_doc, "numbers($self, /)\n--\n\nReturns the numbers of the set fields as a list, rising.");
+PyDoc_STRVAR(numbers_doc, "numbers($self, /)\n--\n\nReturns the numbers of the set fields as a list, in rising order.");
 
 static PyObject *listed_numbers(const uint32_t *numbers, size_t count)
 {
@@ -536,7 +536,7 @@ static PyObject *made_message_type(void)
     };
     static PyGetSetDef getset[] = {
         {"type", message_get_type, NULL, "The type of the message.", NULL},
-        {"unknown", message_get_unknown, NULL, "The unknown records of the message, but not of messages in it, as their shortest encoding.", NULL},
+        {"unknown", message_get_unknown, NULL, "The unknown fields of this message, without those of messages in it, in their shortest encoding.", NULL},
         {NULL, NULL, NULL, NULL, NULL},
     };
     static PyType_Slot slots[] = {

@@ -3,8 +3,8 @@
 
 const char place_doc[] =
 "place($self, path, /)\n--\n\n"
-"The steps of a path, as lines[2].article or discounts[\"loyal\"]: a tuple of the numbers of fields, of indexes and of keys. KeyError if a name is that"
-"\nof no field, ValueError if the path does not go on as it has to. Both say at which byte.";
+"Returns the steps of a path, as lines[2].article or discounts[\"loyal\"]: a tuple of field numbers, indexes and keys. Raises KeyError if no field has a"
+"\nname of the path, and ValueError if a part cannot be there. Both say at which byte.";
 
 static PyObject *step_of(const struct mb_value *step, const uint8_t *at, size_t len)
 {

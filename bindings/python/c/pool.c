@@ -172,8 +172,8 @@ static PyObject *items_of(PyObject *sources)
 
 PyDoc_STRVAR(of_sources_doc,
 "of_sources($type, sources, *, lenient=False)\n--\n\n"
-"Makes a pool of proto3 sources: a mapping from names, as imports use them, to sources, each str or bytes. Imported files must be among them,"
-"\ngoogle/protobuf/timestamp.proto too. lenient=True also takes proto2. It leaves out extensions, custom options and default values, and reads a map of a"
+"Makes a pool of proto3 sources: a mapping from names, as imports use them, to sources, each str or bytes. Imported files must be among the sources,"
+"\nalso google/protobuf/timestamp.proto. lenient=True also takes proto2. It leaves out extensions, custom options and default values, and reads a map of a"
 "\nclosed enum as the list of its entries. Raises Refused if a source is refused.");
 
 static PyObject *pool_of_sources(PyObject *type, PyObject *args, PyObject *kwargs)
@@ -296,7 +296,7 @@ MessageType *type_by_number(Pool *pool, uint32_t number, PyObject *name)
 }
 
 PyDoc_STRVAR(schema_doc,
-"schema($self, /)\n--\n\nReturns all that the pool declares, in the order of its set: the lists files, types and enums of named tuples.");
+"schema($self, /)\n--\n\nReturns all that the pool declares, in the order of its set, as three lists of named tuples: files, types and enums.");
 
 static PyObject *pool_schema(PyObject *self, PyObject *Py_UNUSED(ignored))
 {
@@ -358,7 +358,7 @@ PyObject *make_pool_type(void)
     static PyMemberDef members[] = {
         {"_origin", T_OBJECT, offsetof(Pool, origin), READONLY, "What it was made of: whether of a set, this or the pairs of sources, whether leniently."},
         {"__weaklistoffset__", T_PYSSIZET, offsetof(Pool, weak), READONLY, NULL},
-        {"left_out", T_PYSSIZET, offsetof(Pool, left_out), READONLY, "How many parts of the set lenient reading left out."},
+        {"left_out", T_PYSSIZET, offsetof(Pool, left_out), READONLY, "The number of parts of the set that lenient=True left out."},
         {NULL, 0, 0, 0, NULL},
     };
     static PyMethodDef methods[] = {
@@ -375,8 +375,8 @@ PyObject *make_pool_type(void)
     };
     static PyType_Slot slots[] = {
         {Py_tp_doc, "Pool(set_bytes, lenient=False)\n--\n\nThe message types of a descriptor set, as `protoc --include_imports --descriptor_set_out` or\n"
-                    "`pbtool compile` writes one. With lenient=True without what is refused in sets of proto2: extensions, required labels, default values\n"
-                    "and the marks of maps of closed enums. pool[\"shop.Order\"] is a type. Threads may share a pool."},
+                    "`pbtool compile` writes it. lenient=True leaves out the parts of proto2 that are otherwise refused: extensions, default values, required\n"
+                    "labels, and the marks of maps of closed enums. pool[\"shop.Order\"] is a message type. Threads may share a pool."},
         {Py_tp_new, pool_new},
         {Py_tp_traverse, pool_traverse},
         {Py_tp_clear, pool_clear},

@@ -65,7 +65,7 @@ static PyObject *end(struct call *call, PyObject *answer)
 
 PyDoc_STRVAR(check_doc,
 "check($self, data, /, *, max_bytes=2147483647, max_depth=100)\n--\n\n"
-"Checks that bytes are a message of this type. Builds nothing. Raises Refused if they are not."
+"Checks that the bytes are a message of this type, and builds no message. Raises Refused if they are not."
 "\nmax_bytes and max_depth are the most bytes and levels that a message may have.");
 
 static PyObject *type_check(PyObject *self, PyObject *args, PyObject *kwargs)
@@ -143,8 +143,8 @@ static PyObject *type_canonical(PyObject *self, PyObject *args, PyObject *kwargs
 
 PyDoc_STRVAR(listing_doc,
 "listing($self, data, /, *, decimal=False, max_bytes=2147483647, max_depth=100)\n--\n\n"
-"Returns the listing that `pbtool show` prints of the message that the bytes encode. With decimal=True a float is the shortest decimal that reads"
-"\nback to the same bits. Raises Refused as check does.");
+"Returns the listing of the message that the bytes encode, as `pbtool show` prints it. With decimal=True floats have the fewest decimal digits that"
+"\nread back as the same bits. Raises Refused as check does.");
 
 /* Takes a flag out of the keywords. Returns 1, 0, or -1 with an exception; the other keywords are in a new dict, or NULL. */
 static int take_flag(PyObject *kwargs, const char *name, PyObject **rest)
@@ -194,7 +194,7 @@ static PyObject *type_decode(PyObject *self, PyObject *args, PyObject *kwargs)
 
 PyDoc_STRVAR(from_json_doc,
 "from_json($self, text, *, ignore_unknown=False, lenient=False)\n--\n\n"
-"Returns the message of a JSON text (ProtoJSON), a str or bytes in UTF-8. Raises Refused if it has none. ignore_unknown=True skips members that no"
+"Returns the message of a JSON text (ProtoJSON), a str or bytes in UTF-8. Raises Refused if the text is no message. ignore_unknown=True skips members that no"
 "\nfield has, and strings that an enum does not declare. lenient is an older name of this flag.");
 
 /* Reads the arguments (text, *, ignore_unknown) of a method; lenient is an older name of the flag. A str is taken as its bytes in UTF-8. */
@@ -273,8 +273,8 @@ static PyObject *type_empty(PyObject *self, PyObject *Py_UNUSED(ignored))
 
 PyDoc_STRVAR(from_dict_doc,
 "from_dict($self, fields, /)\n--\n\n"
-"Returns a message with these fields, by name, as to_dict gives them. Messages and maps are dicts, lists are lists. A message may also be given as"
-"\na message, and an enum value by its name. Order(number=1) is the same as Order.from_dict({\"number\": 1}).");
+"Returns a message with these fields, by name, as to_dict gives them. Messages and maps are dicts, lists are lists. You may also give a message as a"
+"\nmessage, and an enum value by its name. Order(number=1) is the same as Order.from_dict({\"number\": 1}).");
 
 static PyObject *type_from_dict(PyObject *self, PyObject *fields)
 {
@@ -335,9 +335,9 @@ static PyObject *type_frame(PyObject *self, PyObject *args)
 
 PyDoc_STRVAR(frames_doc,
 "frames($self, source, /, *, skip=None, max_bytes=2147483647, max_depth=100)\n--\n\n"
-"Reads a stream in which the length of each message comes before it. The source is a binary file or bytes. The iterator gives a Frame for each"
-"\nmessage: at is where the frame begins, size the number of its bytes, and data the bytes of the message. If a message is refused, it calls skip with the"
-"\nexception and goes on. Without skip it raises Refused, and the next call of next() goes on after the frame.");
+"Reads a stream, in which each message comes after its length. The source is a binary file or bytes. The iterator gives a Frame for each message:"
+"\nat is where the frame begins, size is the number of its bytes, and data has the bytes of the message. If a message is refused, the iterator calls skip"
+"\nwith the exception and goes on. Without skip it raises Refused, and the next call of next() goes on after the frame.");
 
 static PyObject *type_frames(PyObject *self, PyObject *args, PyObject *kwargs)
 {
@@ -531,9 +531,9 @@ static PyObject *find(PyObject *self, PyObject *args, PyObject *kwargs, path_rea
 
 PyDoc_STRVAR(find_doc,
 "find($self, data, /, *fields, max_bytes=2147483647, max_depth=100)\n--\n\n"
-"Returns one scalar of the message that the bytes encode. It checks all bytes, but builds no message: find(data, \"number\"),"
-"\nfind(data, \"invoice\", \"address\"). Each field is a name, a number or a Field. If the last field is not set, the result is None, but the default value if its"
-"\nshape is implicit and the message that has it is set. A list or map, or a message at the end, raises TypeError.");
+"Returns one scalar of the message that the bytes encode: find(data, \"number\"), find(data, \"invoice\", \"address\"). It checks all bytes, but builds no"
+"\nmessage. Each field is a name, a number or a Field. If the last field is not set, the result is None. If its shape is implicit and its message is set, the"
+"\nresult is its default value. If a field on the way is a list or map, or the last field is a message, find raises TypeError.");
 
 static PyObject *type_find(PyObject *self, PyObject *args, PyObject *kwargs)
 {

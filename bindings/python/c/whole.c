@@ -102,8 +102,8 @@ PyObject *message_deep_copy(PyObject *self, PyObject *Py_UNUSED(memo))
 
 const char merge_doc[] =
 "merge($self, data, /, *, max_bytes=2147483647, max_depth=100)\n--\n\n"
-"Decodes bytes, or another message of the type, onto this one, as if they came after its own canonical bytes. If they are refused, the message is"
-"\nas it was.";
+"Merges bytes, or another message of the type, into this message, as if the bytes came after its own canonical bytes. If the bytes are refused, the"
+"\nmessage stays as it was.";
 
 /* The bytes of a message of the same type, or the data itself. */
 static PyObject *merged(Node *node, PyObject *data)
@@ -158,7 +158,7 @@ PyObject *message_merge(PyObject *self, PyObject *args, PyObject *kwargs)
 
 const char which_oneof_doc[] =
 "which_oneof($self, name, /)\n--\n\n"
-"Returns the name of the field that is set of a oneof, or None. Raises KeyError if the type has no such oneof.";
+"Returns the name of the field of a oneof that is set, or None. Raises KeyError if the type has no such oneof.";
 
 /* The index of the oneof of a name in a type, or -1 with an exception. */
 static Py_ssize_t oneof_index(MessageType *type, PyObject *name)

@@ -1,4 +1,4 @@
-"""Protocol Buffers messages of types that are known only at run time, read, checked and written by proved code.
+"""Decodes, checks, changes and encodes Protocol Buffers messages. It learns their types at run time, from a descriptor set or .proto sources.
 
     import mabristu
 
@@ -7,8 +7,8 @@
     order = Order.decode(open("shop_order.bin", "rb").read())
     print(order)
 
-Bytes, a set, sources or JSON that are wrong raise Refused, with the byte, the path and the cause. A name that is not declared raises KeyError. If memory
-runs out, a call raises MemoryError.
+If bytes, a set, sources or JSON are wrong, a call raises Refused, with the byte, the path and the cause. If a name is not declared, it raises KeyError. If
+memory runs out, it raises MemoryError.
 """
 from ._frames import Frame, Frames
 from ._mabristu import INTERFACE, MAX_BYTES, MAX_DEPTH, Decoder, Field, List, Map, Message, MessageType, Pool, raw_check, raw_short

@@ -7,7 +7,7 @@ TRUNCATED = 1
 
 
 class Frame:
-    """A message in a stream: at, where its frame begins, size, how many bytes that has with its length, and data, the bytes of the message."""
+    """A message in a stream. at is where its frame begins, size is the number of bytes of the frame, and data has the bytes of the message."""
 
     __slots__ = ("at", "size", "data")
 
@@ -19,7 +19,7 @@ class Frame:
 
 
 class Frames:
-    """Reads the frames of a stream. Where one is refused and its end is known, reading goes on after it: with `skip`, or by the next call of next()."""
+    """Reads the frames of a stream. If a frame is refused and its end is known, reading goes on after it: with `skip`, or by the next call of next()."""
 
     def __init__(self, message_type, source, *, skip=None, max_bytes=FULL[0], max_depth=FULL[1]):
         self._type, self._skip, self._limits = message_type, skip, (max_bytes, max_depth)
@@ -56,8 +56,8 @@ class Frames:
         raise self._cut(begin if size else len(self._held) - self._at, size or None)
 
     def _more(self, size):
-        """Reads on until the frame of this size is there, 0 if that is not known, but at most as much again as is held: so a fault is found before the
-        frame is complete, and each byte is judged twice at most, however little a read gives. Whether there was more."""
+        """Reads on until the frame of this size (0 if it is not known) is there, but at most as many bytes again as are held. So a fault is found before
+        the frame is complete, and each byte is judged at most twice, also if a read gives few bytes. Returns whether there was more."""
         held = [self._held[self._at :]]
         has = len(held[0])
         wanted = min(size or BLOCK, max(BLOCK, 2 * has))
@@ -79,7 +79,7 @@ class Frames:
         return refused
 
     def _passed(self, refused):
-        """Goes to the end of a frame that is refused, or of the stream where its length can't be read."""
+        """Goes to the end of a refused frame, or to the end of the stream if the frame's length cannot be read."""
         placed = self._placed(refused)
         if refused.size is None:
             self._end()
@@ -88,7 +88,7 @@ class Frames:
         return placed
 
     def _go_to(self, at):
-        """Goes on at an index of what is held, or beyond that."""
+        """Goes on at an index of the bytes held, or after them."""
         while at > len(self._held):
             at -= len(self._held)
             self._before += len(self._held)
@@ -101,8 +101,8 @@ class Frames:
         self._at, self._read = len(self._held), None
 
     def _cut(self, begin, size):
-        """The fault of the frame that the stream ends in. What there is of its message begins this many bytes after the frame does, and has a fault
-        there, or it is whole records, and ends too early."""
+        """The fault of the frame in which the stream ends. Its message begins this many bytes after the frame. The bytes of the message have a fault, or
+        they are whole records, and end too early."""
         refused = fault(len(self._held) - self._at, (), TRUNCATED)
         try:
             self._type.check(self._held[self._at + begin :], max_bytes=self._limits[0], max_depth=self._limits[1])

@@ -1,4 +1,4 @@
-"""What lists, maps and messages do by their other calls: the methods of list and dict, the names of enums, and pickling. Each is put into its type."""
+"""The methods of lists, maps and messages that use other methods: those of list and dict, the names of enums, and pickling. Each is put into its type."""
 import hashlib
 import operator
 import pickle
@@ -26,14 +26,14 @@ def insert(self, index, value):
 
 
 def pop(self, index=-1):
-    """Takes out the value at an index, and returns it: of a message a copy."""
+    """Removes the value at an index, and returns it (a message as a copy)."""
     value = copied(self[index])
     del self[index]
     return value
 
 
 def index(self, value, start=0, stop=sys.maxsize):
-    """The least index of a value that is equal, from start on and before stop. ValueError where there is none."""
+    """Returns the lowest index of an equal value, from start on and before stop. Raises ValueError if there is none."""
     for at in range(*slice(start, stop).indices(len(self))):
         if self[at] == value:
             return at
@@ -41,27 +41,27 @@ def index(self, value, start=0, stop=sys.maxsize):
 
 
 def count(self, value):
-    """How many values are equal to this one."""
+    """Returns how many values are equal to this value."""
     return list(self).count(value)
 
 
 def remove(self, value):
-    """Takes out the first value that is equal. ValueError where there is none."""
+    """Removes the first equal value. Raises ValueError if there is none."""
     del self[self.index(value)]
 
 
 def reverse(self):
-    """Puts the values in the other order."""
+    """Reverses the order of the values."""
     self[:] = self[::-1]
 
 
 def sort(self, *, key=None, reverse=False):
-    """Puts the values in order, as list.sort does."""
+    """Sorts the values, as list.sort does."""
     self[:] = sorted(self, key=key, reverse=reverse)
 
 
 def iadd(self, values):
-    """Puts each value at the end."""
+    """Adds each value at the end."""
     self.extend(values)
     return self
 
@@ -72,7 +72,8 @@ NOTHING = object()
 
 
 def pop_key(self, key, default=NOTHING):
-    """Removes what is under a key, and returns it: of a message a copy. Else the default, or KeyError where none is given."""
+    """Removes the entry of a key, and returns its value (a message as a copy). If there is no such entry, returns the default, or raises KeyError if no
+    default is given."""
     if key not in self:
         if default is NOTHING:
             raise KeyError(key)
@@ -83,7 +84,7 @@ def pop_key(self, key, default=NOTHING):
 
 
 def popitem(self):
-    """Removes the entry of the greatest key, and returns both. KeyError where there is none."""
+    """Removes the entry with the greatest key, and returns key and value. Raises KeyError if the map is empty."""
     keys = self.keys()
     if not keys:
         raise KeyError("the map is empty")
@@ -91,14 +92,14 @@ def popitem(self):
 
 
 def setdefault(self, key, default):
-    """What is under a key, where the default is put first if nothing is."""
+    """Returns the value under a key. If there is none, the default is put there first."""
     if key not in self:
         self[key] = default
     return self[key]
 
 
 def update(self, entries=(), **more):
-    """Puts the entries of a mapping, or pairs of keys and values, over those that are there."""
+    """Puts in the entries of a mapping, or pairs of keys and values. They replace entries with the same keys."""
     for key, value in dict(entries, **more).items():
         self[key] = value
 
@@ -107,8 +108,8 @@ def update(self, entries=(), **more):
 
 
 def name(self, field):
-    """The name of the value of an enum: None where the field is not set and has no default, and the number where the enum has no name for it. Of a list
-    or a map of an enum the list or the dict of the names."""
+    """Returns the name of an enum value, or its number if the enum has no name for it. None if the field is not set and has no default. For a list or map
+    of enum values, returns a list or dict of names."""
     value = self[field]
     if isinstance(value, (List, Map)):
         field = value.field
@@ -138,7 +139,7 @@ def length(self):
 
 
 def signature(self):
-    """Which fields Order(..) takes: for inspect.signature, help() and what completes names. A field that has a word of Python as its name is not listed."""
+    """The fields that Order(..) takes: for inspect.signature, help() and completion. A field whose name is a keyword of Python is not listed."""
     from inspect import Parameter, Signature
     from keyword import iskeyword
 
@@ -146,7 +147,7 @@ def signature(self):
 
 
 class OfInstances:
-    """An attribute that each message type has, and MessageType itself has not."""
+    """An attribute of each message type, but not of MessageType itself."""
 
     def __init__(self, read):
         self.read = read
@@ -168,7 +169,7 @@ def digest(*made_of):
 
 
 def known(pool):
-    """A mark of the pool, by which a copy in this process is of the same pool, and what it was made of."""
+    """A mark of the pool, by which a copy in this process finds the same pool, and the set or sources of the pool."""
     mark = MARKS.setdefault(pool, uuid.uuid4().bytes)
     POOLS[mark] = pool
     is_set, given, is_lenient = pool._origin
@@ -176,7 +177,7 @@ def known(pool):
 
 
 def pool_of(mark, is_set, given, is_lenient):
-    """The pool with a mark, or one that was made here of the same before, or a new one."""
+    """The pool with a mark, or a pool that was made here of the same set or sources before, or a new pool."""
     pool = POOLS.get(mark)
     if pool is not None:
         return pool

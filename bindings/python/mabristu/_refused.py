@@ -1,4 +1,4 @@
-"""Why a call did not do what was asked."""
+"""Why a call fails."""
 import re
 from os.path import commonprefix
 
@@ -11,11 +11,11 @@ CAUSES = {}
 class Refused(ValueError):
     """Bytes, a descriptor set, sources or JSON that are refused. Its text is the line that pbtool prints.
 
-    cause is the name of the cause, and number its number. The other attributes are None where they are not known. byte is where the fault is, counted
-    from 0. path is the fields that lead there, a tuple of steps (number, before), outermost first: the field with this number, and how many fields of
-    this number come before it in the same message. Of a value that has no JSON form, path is field numbers alone. type is the message type that the
-    bytes were read as. file is the name of a source, or the index of a file of a set; name is that of a declaration. Of a frame of a stream, frame is
-    its index, at where it begins and size the number of its bytes; then byte counts from at.
+    cause is the name of the cause, and number its number. Each other attribute is None if it is not known. byte is where the fault is, counted from 0.
+    path has the fields that lead to the fault, a tuple of steps (number, before), outermost first: a field number, and the count of fields of this number
+    before it in the same message. For a value without a JSON form, path has field numbers alone. type is the message type that the bytes should have.
+    file is the name of a source, or the index of a file of a set; name is the name of a declaration. For a stream, frame is the index of the frame, at is
+    where it begins and size is the number of its bytes; then byte counts from at.
 
     hint is a line for people: the path with names, a position in a source or in JSON, or what the bytes look like. A traceback of Python 3.11 and later
     ends with it. Programs should not read it.
@@ -44,9 +44,9 @@ class Refused(ValueError):
         return type(self), self.args, {**self.__dict__, "type": None, "_hint": self.hint}
 
     def names(self, message_type):
-        """The path with names in place of numbers, by the type that the bytes were read as: steps (name, before), outermost first; or, of a part that
-        has no JSON form, the names of the fields. A map's entry is a step into its field, and what is in it `key` or `value`. A number that no field
-        of its type has stays a number."""
+        """The path with names, by the type that the bytes should have: steps (name, before), outermost first. For a part without a JSON form it has names
+        alone. An entry of a map is a step into the map's field, and a field in the entry is `key` or `value`. A number that no field of the type has stays
+        a number."""
         found, inside = [], (message_type, None)
         for step in self.path or ():
             number, *before = step if isinstance(step, tuple) else (step,)
@@ -60,7 +60,7 @@ class Refused(ValueError):
 
 
 class UnknownName(KeyError):
-    """A name that a pool or a message type does not declare. Its text names the declared name that is most like it, if there is one."""
+    """A name that a pool or a message type does not declare. The text of the exception has a declared name that is near to it, if there is one."""
 
     def __init__(self, line, name=None, what=None, owner=None):
         self._name, self._what, self._owner = name, what, owner

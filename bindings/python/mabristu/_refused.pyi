@@ -8,7 +8,7 @@ class Refused(ValueError):
     where: str
     number: int
     cause: str
-    # Each of these is None where it is not known; which are known, what is refused says.
+    # Each attribute is None if it is not known. The input that is refused decides which are known.
     byte: Union[int, Any]
     path: Union[tuple[Any, ...], Any]
     file: Union[int, str, Any]

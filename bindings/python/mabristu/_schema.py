@@ -6,17 +6,17 @@ __all__ = ["DeclaredEnum", "DeclaredFile", "DeclaredType", "Difference", "Enum",
 DeclaredFile = namedtuple("DeclaredFile", "name package imports syntax")
 DeclaredFile.__doc__ = "A file: its name, its package, how many files it imports, and its syntax, proto2 or proto3."
 DeclaredType = namedtuple("DeclaredType", "name file parent type")
-DeclaredType.__doc__ = "A message type: its full name, the name of its file, the full name of the type that it is declared in, or None, and itself."
+DeclaredType.__doc__ = "A message type: its full name, the name of its file, the full name of the type around it, or None, and the MessageType."
 DeclaredEnum = namedtuple("DeclaredEnum", "name file parent values")
-DeclaredEnum.__doc__ = "An enum: its full name, the name of its file, that of the type that it is declared in, or None, and its values (name, number)."
+DeclaredEnum.__doc__ = "An enum: its full name, the name of its file, the full name of the type around it, or None, and its values (name, number)."
 
 Difference = namedtuple("Difference", "old new field severity")
-Difference.__doc__ = "A difference between two message types: the old and the new one, the field of the old one, and what it does, by its word in docs/COMPAT.md."
+Difference.__doc__ = "A difference between two message types: the old type, the new type, a field of the old type, and the severity, as docs/COMPAT.md explains it."
 
 
 class Enum(str):
-    """An enum: its full name, with two dicts of its values. names has the name of each number, the first where several share one; numbers has the number
-    of each name."""
+    """An enum: a str, its full name, with two dicts. names is a dict from number to name (the first name if several share the number), and numbers is a
+    dict from name to number."""
 
     names: dict
     numbers: dict
