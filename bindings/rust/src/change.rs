@@ -7,22 +7,22 @@ use crate::{calls, Error, Given as Put, Key, Message, Part, Value};
 type Changes = unsafe extern "C" fn(*mut crate::structs::MessageHandle, *const Given, usize, *const Bytes, usize) -> u32;
 type Puts = unsafe extern "C" fn(*mut crate::structs::MessageHandle, *const Given, usize, *const Bytes, usize, &Given) -> u32;
 
-/// A place in a message, to change what is there: `message.field_mut("lines")?.index(2).field("price")?.set(9.0)?`.
+/// A place in a message that can be changed: `message.field_mut("lines")?.index(2).field("price")?.set(9.0)?`.
 ///
-/// A call that is refused leaves the message as it was. [`Error::NoField`]: the message whose field is to be changed is not there.
-/// [`Error::Change`] has the place and the cause why the message refuses the change. [`Error::BadValue`]: the field's kind does not hold the integer.
+/// A refused call leaves the message as it was. [`Error::NoField`]: the message whose field the call changes is not set. [`Error::Change`] has the place
+/// and the cause why the message refuses the change. [`Error::BadValue`]: the integer is out of the range of the field's kind.
 pub struct PartMut<'a> {
     // Of a message that nothing else borrows.
     part: Part<'a>,
 }
 
 impl Message {
-    /// The message itself, to be changed.
+    /// The message itself, as a place that can be changed.
     pub fn whole_mut(&mut self) -> PartMut<'_> {
         PartMut { part: self.whole() }
     }
 
-    /// The place of a field, by its simple name, to be changed.
+    /// The place of a field, by its simple name, that can be changed.
     pub fn field_mut(&mut self, name: &str) -> Result<PartMut<'_>, Error> {
         self.whole_mut().field(name)
     }
@@ -69,18 +69,17 @@ impl<'a> PartMut<'a> {
         PartMut { part: self.part.index(index) }
     }
 
-    /// What is under a key of the map that is here.
+    /// The value under a key of the map that is here.
     pub fn key(self, key: impl Into<Key>) -> PartMut<'a> {
         PartMut { part: self.part.key(key) }
     }
 
-    /// The same place, to be read.
+    /// The same place, for reading.
     pub fn part(&self) -> Part<'_> {
         self.part.clone()
     }
 
-    /// Sets the field, or the element of a list, that is here to one value: [`Value::Message`] is an empty message of the field's type, whatever its
-    /// number.
+    /// Sets the field, or the element of a list, that is here. [`Value::Message`] is an empty message of the field's type; its number is not read.
     pub fn set(&mut self, value: impl Into<Put>) -> Result<(), Error> {
         put(&self.part, calls::mb_message_set, value.into())
     }
@@ -105,12 +104,12 @@ impl<'a> PartMut<'a> {
         change(&self.part.key(key), calls::mb_message_remove)
     }
 
-    /// Removes the element at an index, counted from 0, of the list that is here, and the elements after it move up.
+    /// Removes the element at an index, counted from 0, of the list that is here. The elements after it move up.
     pub fn remove_at(&mut self, index: usize) -> Result<(), Error> {
         change(&self.part.index(index), calls::mb_message_remove)
     }
 
-    /// Drops the unknown records of the message that is here, but not of messages in it.
+    /// Drops the unknown records of the message that is here. Messages in it keep their unknown records.
     pub fn drop_unknown(&mut self) -> Result<(), Error> {
         change(&self.part, calls::mb_message_drop_unknown)
     }
@@ -120,7 +119,7 @@ fn strings(part: &Part<'_>) -> Vec<Bytes> {
     part.keys.iter().map(|key| Bytes { at: key.as_ptr(), len: key.len() }).collect()
 }
 
-/// The same error, with the place where a change is refused.
+/// The same error, with the place of the refused change.
 fn at_place(part: &Part<'_>, error: Error) -> Error {
     match error {
         Error::Change { cause, .. } => Error::Change { place: part.to_string(), cause },
@@ -134,7 +133,7 @@ fn change(part: &Part<'_>, call: Changes) -> Result<(), Error> {
     Report::new().judge(answer).map_err(|error| at_place(part, error))
 }
 
-/// Puts the first of the values that the field takes. Each call that is refused leaves the message as it was.
+/// Puts the first value that the field takes. A refused call leaves the message as it was.
 fn put(part: &Part<'_>, call: Puts, value: Put) -> Result<(), Error> {
     let mut refused = Err(Error::BadValue);
     for value in value.values(part.kind) {

@@ -1,15 +1,15 @@
-//! Whether messages of an old type can be read as a new one.
+//! Whether messages of an old type can be read as a new type.
 use crate::report::Report;
 use crate::structs::Difference as Reported;
 use crate::{calls, Error, Message, MessageType};
 use std::fmt;
 
-/// What a difference does to messages of the old type that are read as the new one: docs/COMPAT.md.
+/// What a difference does to messages of the old type that are read as the new type (docs/COMPAT.md).
 #[derive(Clone, Copy, Debug, PartialEq, Eq, PartialOrd, Ord)]
 pub enum Severity {
-    /// Some message is refused, or a value is read as another.
+    /// Some message is refused, or its value is read as another value.
     Breaks,
-    /// The new type has no such field: its records become unknown, and stay.
+    /// The new type has no such field: the field's records become unknown records, which are kept.
     Loses,
     /// The value is kept, but not always whether it was set.
     Presence,
@@ -20,7 +20,7 @@ pub enum Severity {
 }
 
 impl Severity {
-    /// The word for it.
+    /// The word for the severity, as `breaks`.
     pub fn name(self) -> &'static str {
         match self {
             Severity::Breaks => "breaks",
@@ -32,7 +32,7 @@ impl Severity {
     }
 }
 
-/// A difference at the field of a number of an old type. It prints as `shop.Order 4 breaks`, and where the two types have different names as
+/// A difference at a field of an old type. It prints as `shop.Order 4 breaks`. If the two types have different names, it prints as
 /// `shop.Item 1 breaks (shop.Item -> shop.Thing)`.
 #[derive(Clone, Debug, PartialEq, Eq)]
 pub struct Difference {
@@ -55,8 +55,8 @@ impl fmt::Display for Difference {
 }
 
 impl MessageType {
-    /// The differences between this type and a new one, of another pool or of a clone of this one, and between each two types that fields of the same
-    /// number lead to: these types first, and of each two by rising field number.
+    /// The differences between this type and a new type, of another pool or of a clone of this pool. Then the differences of each pair of types to which
+    /// fields of the same number lead. The differences of a pair come by rising field number.
     pub fn compat(&self, new: &MessageType) -> Result<Vec<Difference>, Error> {
         let (mut found, mut count, new_pool) = (vec![Reported::default(); 64], 0, new.pool.try_clone()?);
         loop {
@@ -80,8 +80,8 @@ impl MessageType {
         }
     }
 
-    /// A message of this type that shows that a difference, one of `compat(new)`, breaks reading: its canonical bytes are refused by the new type, or
-    /// read as a message that does not agree with it. None where the difference does not break, or more than 99 fields lead to its types.
+    /// A message of this type that shows the break of a difference of `compat(new)`. The new type refuses its canonical bytes, or reads them as a message
+    /// that does not agree with it. None if the difference breaks nothing, or is more than 99 messages deep.
     pub fn witness(&self, new: &MessageType, difference: &Difference) -> Result<Option<Message>, Error> {
         let reported = Reported {
             old_type: self.pool.message_type(&difference.old_type)?.number as usize,

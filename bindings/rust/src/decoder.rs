@@ -6,7 +6,7 @@ use std::cell::UnsafeCell;
 use std::io::{self, Write};
 use std::{fmt, ptr};
 
-/// Decodes a message from pieces of its bytes, as they arrive. No piece is kept.
+/// Decodes a message from pieces of its bytes, as they arrive. It keeps no piece.
 ///
 /// ```
 /// use mabristu::Pool;
@@ -22,9 +22,9 @@ use std::{fmt, ptr};
 /// # }
 /// ```
 ///
-/// Bytes can be written to it too, as by [`io::copy`]. An error of such a write has the [`Error`] inside.
+/// It is also an `io::Write`, for [`io::copy`]. If a write refuses bytes, its `io::Error` has the [`Error`] inside.
 ///
-/// It may go to another thread. It is not `Sync`, as a [`Message`] is not.
+/// A decoder may go to another thread. It is not `Sync`: one thread at a time uses it.
 ///
 /// ```compile_fail
 /// fn shared<T: Sync>() {}
@@ -54,8 +54,8 @@ impl Decoder {
         &self.message_type
     }
 
-    /// Gives the decoder the next piece. Refused where all bytes received have another fault than Truncated, which no further bytes change; its byte
-    /// counts from the first piece on. After an error each further call has [`Error::Finished`].
+    /// Gives the decoder the next piece. It is refused if the bytes received have a fault that no further bytes can repair. The byte of the fault counts
+    /// from the first piece on. After an error each further call returns [`Error::Finished`].
     pub fn feed(&mut self, piece: &[u8]) -> Result<(), Error> {
         judged(|fault, path, steps| unsafe { calls::mb_decoder_feed(self.handle.get(), piece.as_ptr(), piece.len(), fault, path, steps) })
     }
@@ -67,8 +67,7 @@ impl Decoder {
         Ok(message)
     }
 
-    /// How many bytes it holds as they came: those of a tag, a length or a number that is not complete, or of the payload of a string, of bytes or of
-    /// an unknown record. 0 after an error.
+    /// How many bytes the decoder keeps as they came: the beginning of a tag, a length, a number, a string, bytes or an unknown record. 0 after an error.
     pub fn pending(&self) -> usize {
         let mut pending = 0;
         // It has no other answer of a decoder that was made.

@@ -1,4 +1,4 @@
-//! Why a call did not do what was asked.
+//! Why a call fails.
 use crate::calls;
 use crate::message_type::text;
 use crate::report::written_alone;
@@ -7,7 +7,7 @@ use std::{error, fmt, io};
 
 pub use crate::structs::Step;
 
-/// The cause of a refusal. docs/ERRORS.md says of each what it means.
+/// The cause of a refusal. docs/ERRORS.md explains each cause.
 #[derive(Clone, Copy, PartialEq, Eq, Hash)]
 pub struct Cause(pub(crate) u32);
 
@@ -44,8 +44,8 @@ impl fmt::Display for Cause {
     }
 }
 
-/// A refusal, or why else nothing was done. A refusal of bytes, a set, sources or JSON prints as the line of pbtool, but for what that prints before the
-/// fault of a set; what pbtool has no line for prints with the names of fields and types.
+/// A refusal, or another reason why a call fails. A refusal of bytes, a set, sources or JSON prints as the line of pbtool; the fault of a set prints
+/// without the word `set`. Errors for which pbtool has no line print with the names of fields and types.
 #[derive(Clone, Debug, PartialEq, Eq)]
 #[non_exhaustive]
 pub enum Error {
@@ -59,27 +59,27 @@ pub enum Error {
     Link { file: String, name: String, cause: Cause },
     /// A part of a message has no JSON form: the numbers of the fields that lead to it.
     Json { path: Vec<u32>, cause: Cause },
-    /// A JSON text is not read as a message: the byte where what is refused begins, counted from 0.
+    /// A JSON text is not read as a message: the byte, counted from 0, where the refused part begins.
     JsonText { byte: usize, cause: Cause },
     /// A message refuses a change: the place, as in `lines[2].price`.
     Change { place: String, cause: Cause },
     /// A value is out of the range of its kind, or is a list or a map.
     BadValue,
-    /// A limit is above the greatest.
+    /// A limit is above 2^31 - 1 bytes or 100 levels.
     BadLimits,
-    /// The pool has no message type of this full name. A declared name may be near to it.
+    /// The pool has no message type with this full name. `near` is a declared name near to it, if there is one.
     UnknownType { name: String, near: Option<String> },
-    /// The message type, by its full name, has no field or oneof of this simple name. A declared name may be near to it.
+    /// The message type has no field or oneof with this simple name. `near` is a declared name near to it, if there is one.
     UnknownField { message_type: String, name: String, near: Option<String> },
-    /// A path with names is no place of the message type: the byte where no field has the name, or where the path does not go on as it has to.
+    /// A path with names is no place of the message type: the byte where no field has the name, or where a part cannot be there.
     Path { byte: usize },
-    /// The pool has no message type of that number.
+    /// The pool has no message type of this number.
     NoType,
-    /// The message has nothing there.
+    /// The message has nothing at this place.
     NoField,
-    /// What would be written has more than 2^31 - 1 bytes.
+    /// The output would have more than 2^31 - 1 bytes.
     TooLarge,
-    /// The decoder has given its fault, or lost what it had received where memory ran out.
+    /// The decoder has given its fault, or memory ran out and it lost its message.
     Finished,
     /// Memory ran out.
     Memory,
@@ -104,7 +104,7 @@ impl Error {
     }
 }
 
-/// A question about a name that may be meant.
+/// A question about a near name.
 fn question(near: &Option<String>) -> String {
     near.as_ref().map(|name| format!(": did you mean {name}?")).unwrap_or_default()
 }
@@ -148,7 +148,7 @@ impl error::Error for Error {}
 #[non_exhaustive]
 pub enum StreamError {
     Io(io::Error),
-    /// The frame of an index, which begins at a byte of the stream. The byte of a fault counts from there.
+    /// A frame is refused: its index, and where it begins in the stream. The byte of a fault counts from there.
     Refused {
         index: usize,
         at: u64,

@@ -17,7 +17,7 @@ pub struct Frame {
     pub data: Vec<u8>,
 }
 
-/// The frames of a stream. After a frame that is refused it goes on with the next one, where its end is known; else it ends.
+/// The frames of a stream. After a refused frame it goes on with the next frame if the end of the refused frame is known, and else it ends.
 pub struct Frames<'a, R> {
     message_type: &'a MessageType,
     stream: Option<R>,
@@ -32,7 +32,7 @@ impl<'a, R: Read> Frames<'a, R> {
         Frames { message_type, stream: Some(stream), held: vec![], at: 0, before: 0, index: 0 }
     }
 
-    /// Forgets what is done with, and reads on, at least as much again as is held. Whether there was more.
+    /// Drops the bytes of past frames, and reads on, at least as many bytes as are held. Returns whether there was more.
     fn more(&mut self, wanted: usize) -> std::io::Result<bool> {
         self.held.drain(..self.at);
         self.before += self.at as u64;
@@ -71,7 +71,7 @@ impl<'a, R: Read> Frames<'a, R> {
         Ok(())
     }
 
-    /// The fault of the frame that the stream ends in: what there is of its message has one there, or it is whole records, and ends too early.
+    /// The fault of the frame in which the stream ends. The bytes of its message have a fault, or they are whole records, and end too early.
     fn cut(&self, frame: FrameReport) -> Error {
         let bytes = &self.held[self.at..];
         let begin = if frame.end == 0 { bytes.len() } else { frame.begin };

@@ -1,8 +1,8 @@
-//! Values that are given to be set.
+//! Values that a caller gives to set a field.
 use crate::{calls, Value};
 
-/// A value to be set, pushed or inserted. A [`Value`] is taken as it is, by its kind. An integer of Rust is taken by a field of any integer kind that
-/// holds it, and by an enum as the number of its value.
+/// A value to set, push or insert. A [`Value`] sets a field of its own kind only. An integer of Rust sets a field of any integer kind that holds it, and
+/// an enum by the number of its value.
 #[derive(Clone, Debug, PartialEq)]
 pub struct Given(What);
 
@@ -40,8 +40,8 @@ pub(crate) fn integer_of(kind: u32, number: i128) -> Option<Value> {
 }
 
 impl Given {
-    /// The values that this may be in a field of a declared kind, or of any kind where that is not known. There are none where the field's kind does
-    /// not hold the integer.
+    /// The values that this may be in a field of a declared kind, or of any kind if the kind is not known. There are none if the field's kind does not
+    /// hold the integer.
     pub(crate) fn values(self, declared: Option<u32>) -> Vec<Value> {
         let number = match self.0 {
             What::Value(value) => return vec![value],

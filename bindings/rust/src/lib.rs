@@ -1,4 +1,4 @@
-//! Protocol Buffers messages of types that are known only at run time, read, checked and written by proved code.
+//! Decodes, checks, changes and encodes Protocol Buffers messages. It learns their types at run time, from a descriptor set or .proto sources.
 //!
 //! ```
 //! use mabristu::Pool;
@@ -13,11 +13,11 @@
 //! ```
 //!
 //! Types come from a descriptor set ([`Pool::link`]) or from sources of proto3 ([`Pool::of_sources`]). A [`MessageType`] checks, rewrites and lists bytes,
-//! splits streams, and decodes a [`Message`], which is read by places ([`Part`]) and changed at places ([`PartMut`]); a
-//! [`Decoder`] does so with a message that arrives in pieces. What is refused is an [`Error`] with the byte, the path and the cause.
+//! splits streams, and decodes a [`Message`]. A [`Part`] reads a place in a message, and a [`PartMut`] changes it. A [`Decoder`] decodes a message that
+//! arrives in pieces. A refusal is an [`Error`] with the byte, the path and the cause.
 //!
-//! A [`Pool`], a [`MessageType`], a [`Message`] and a [`Decoder`] may go to another thread, and one thread at a time uses them. A clone of the first two is
-//! cheap.
+//! A [`Pool`], a [`MessageType`], a [`Message`] and a [`Decoder`] may go to another thread, and one thread at a time uses them. A clone of a pool or a
+//! type copies no types.
 mod calls;
 mod change;
 mod compat;

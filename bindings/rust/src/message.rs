@@ -6,7 +6,7 @@ use crate::{calls, Cause, Error, Limits, MessageType};
 use std::cell::UnsafeCell;
 use std::{fmt, ptr};
 
-/// How JSON is written. The default: field names as the set gives them by `json_name`, else in lowerCamelCase, on one line.
+/// How JSON is written. By default, names are the `json_name` of the set, else in lowerCamelCase, and all is on one line.
 #[derive(Clone, Copy, Debug, Default, PartialEq, Eq)]
 pub struct JsonForm {
     /// Field names as declared.
@@ -17,7 +17,7 @@ pub struct JsonForm {
 
 /// A message, and its type. It prints as its listing, with floats in decimal.
 ///
-/// It may go to another thread. It is not `Sync`: one thread at a time uses a message.
+/// A message may go to another thread. It is not `Sync`: one thread at a time uses it.
 ///
 /// ```compile_fail
 /// fn shared<T: Sync>() {}
@@ -51,7 +51,7 @@ impl Message {
         written_alone(|out, capacity, size| unsafe { calls::mb_message_encode(self.handle(), out, capacity, size) })
     }
 
-    /// The message as a frame of a stream: the number of canonical bytes as a varint, and then these. [`MessageType::frames`] reads such a stream.
+    /// The message as a frame of a stream: the number of canonical bytes as a varint, and then these bytes. [`MessageType::frames`] reads such a stream.
     pub fn frame(&self) -> Result<Vec<u8>, Error> {
         written_alone(|out, capacity, size| unsafe { calls::mb_message_frame(self.handle(), out, capacity, size) })
     }
@@ -68,13 +68,13 @@ impl Message {
         Ok(text(written_alone(|out, capacity, size| unsafe { calls::mb_message_show(self.handle(), out, capacity, size) })?))
     }
 
-    /// The listing with each float as the shortest decimal that reads back to the same bits, or `nan`, `inf` or `-inf`.
+    /// The listing with floats in decimal: the fewest digits that read back as the same bits, or `nan`, `inf` or `-inf`.
     pub fn listing_decimal(&self) -> Result<String, Error> {
         Ok(text(written_alone(|out, capacity, size| unsafe { calls::mb_message_show_decimal(self.handle(), out, capacity, size) })?))
     }
 
-    /// Decodes bytes onto the message, within the limits of its type: then it is what its canonical bytes followed by these decode to. Where they are
-    /// refused the message is as it was.
+    /// Decodes bytes onto the message, within the limits of its type, as if the bytes came after its own canonical bytes. If the bytes are refused, the
+    /// message stays as it was.
     pub fn merge(&mut self, bytes: &[u8]) -> Result<(), Error> {
         let Limits { max_bytes, max_depth } = self.message_type.limits;
         judged(|fault, path, steps| unsafe {
@@ -82,15 +82,15 @@ impl Message {
         })
     }
 
-    /// A copy, or an error where memory runs out or the message has more than 2^31 - 1 canonical bytes.
+    /// A copy, or an error if memory runs out or the message has more than 2^31 - 1 canonical bytes.
     pub fn try_clone(&self) -> Result<Message, Error> {
         let other = Message::none(&self.message_type);
         Report::new().judge(unsafe { calls::mb_message_copy(self.handle(), other.handle()) })?;
         Ok(other)
     }
 
-    /// Whether both messages are of the same type, by pools that hold the same, and have the same contents, or an error as [`Message::try_clone`]
-    /// has it. Floats are compared by their bits.
+    /// Whether both messages have the same type, of equal pools, and the same contents; or the error of [`Message::try_clone`]. Floats are compared by
+    /// their bits.
     pub fn try_eq(&self, other: &Message) -> Result<bool, Error> {
         if ptr::eq(self, other) {
             return Ok(true);

@@ -51,16 +51,16 @@ impl Shape {
     }
 }
 
-/// What a field is.
+/// A field of a message type.
 #[derive(Clone, Copy, Debug, PartialEq, Eq)]
 pub struct Field {
     pub number: u32,
-    /// The kind of its values, by the numbers of types in descriptor.proto: 5 for int32, 9 for string, 11 for a message, 14 for an enum.
+    /// The kind of its values, as the number of a type in descriptor.proto: 5 for int32, 9 for string, 11 for a message, 14 for an enum.
     pub kind: u32,
     pub shape: Shape,
-    /// Of a map the kind of its keys.
+    /// For a map the kind of its keys.
     pub key: Option<u32>,
-    /// The number of the message type, or of the enum, that the kind names, else 0.
+    /// The number of the message type or enum of its values, else 0.
     pub type_of: usize,
 }
 
@@ -85,13 +85,13 @@ impl Field {
         Field { number, kind, shape, key: (key != 0).then_some(key), type_of }
     }
 
-    /// The kind of its values, as a source writes it, or `message` and `enum`.
+    /// The kind of its values, as a source writes it, or `message` or `enum`.
     pub fn kind_name(&self) -> &'static str {
         kind_name(self.kind)
     }
 }
 
-/// A message type of a pool, with the limits of its calls. It may go to another thread, and a clone is cheap.
+/// A message type of a pool, with the limits of its calls. It may go to another thread. A clone copies no types.
 #[derive(Clone)]
 pub struct MessageType {
     pub(crate) pool: Pool,
@@ -115,7 +115,7 @@ impl MessageType {
         &self.pool
     }
 
-    /// Checks bytes as a message of the type. It builds nothing.
+    /// Checks that bytes are a message of the type, and builds no message.
     pub fn check(&self, bytes: &[u8]) -> Result<(), Error> {
         let Limits { max_bytes, max_depth } = self.limits;
         judged(|fault, path, steps| unsafe {
@@ -142,7 +142,7 @@ impl MessageType {
         Ok(text(listing))
     }
 
-    /// The listing with each float as the shortest decimal that reads back to the same bits, or `nan`, `inf` or `-inf`.
+    /// The listing with floats in decimal: the fewest digits that read back as the same bits, or `nan`, `inf` or `-inf`.
     pub fn listing_decimal(&self, bytes: &[u8]) -> Result<String, Error> {
         let Limits { max_bytes, max_depth } = self.limits;
         let listing = written(5 * bytes.len(), |out, capacity, size, fault, path, steps| unsafe {
@@ -152,7 +152,7 @@ impl MessageType {
         Ok(text(listing))
     }
 
-    /// What the field of a simple name is.
+    /// The field with a simple name.
     pub fn field(&self, name: &str) -> Result<Field, Error> {
         let mut field = FieldReport::default();
         let answer = unsafe { calls::mb_pool_field(self.pool.handle(), self.number, name.as_ptr(), name.len(), &mut field) };
@@ -182,7 +182,7 @@ impl MessageType {
         Ok(message)
     }
 
-    /// The message that bytes are.
+    /// The message that the bytes encode.
     pub fn decode(&self, bytes: &[u8]) -> Result<Message, Error> {
         let (message, Limits { max_bytes, max_depth }) = (Message::none(self), self.limits);
         judged(|fault, path, steps| unsafe {
@@ -197,12 +197,12 @@ impl MessageType {
         Decoder::new(self)
     }
 
-    /// The message that a JSON text in UTF-8 is (ProtoJSON). A name that no field or enum has is refused.
+    /// The message of a JSON text in UTF-8 (ProtoJSON). A name that no field or enum has is refused.
     pub fn from_json(&self, json: impl AsRef<[u8]>) -> Result<Message, Error> {
         self.from_json_with(json, JsonInput::default())
     }
 
-    /// The message that a JSON text in UTF-8 is, read as `input` says.
+    /// The message of a JSON text in UTF-8, read as `input` says.
     pub fn from_json_with(&self, json: impl AsRef<[u8]>, input: JsonInput) -> Result<Message, Error> {
         self.read_json(json.as_ref(), input.ignore_unknown)
     }
@@ -222,12 +222,12 @@ impl MessageType {
         Ok(message)
     }
 
-    /// The canonical bytes of the message that a JSON text in UTF-8 is, which is read as by [`MessageType::from_json`].
+    /// The canonical bytes of the message that [`MessageType::from_json`] reads.
     pub fn canonical_from_json(&self, json: impl AsRef<[u8]>) -> Result<Vec<u8>, Error> {
         self.canonical_from_json_with(json, JsonInput::default())
     }
 
-    /// The canonical bytes of the message that a JSON text in UTF-8 is, read as `input` says.
+    /// The canonical bytes of the message that [`MessageType::from_json_with`] reads.
     pub fn canonical_from_json_with(&self, json: impl AsRef<[u8]>, input: JsonInput) -> Result<Vec<u8>, Error> {
         self.write_json(json.as_ref(), input.ignore_unknown)
     }
@@ -246,13 +246,13 @@ impl MessageType {
         bytes.map_err(|error| of_text(error, byte))
     }
 
-    /// Reads a stream of messages, each after its length. After a frame that is refused it goes on with the next one.
+    /// Reads a stream of messages, each after its length. After a refused frame it goes on with the next frame.
     pub fn frames<R: Read>(&self, stream: R) -> Frames<'_, R> {
         Frames::new(self, stream)
     }
 
-    /// Judges the frame that the bytes begin with, and reports where its message begins and ends by its length, also where it is refused: zeros where
-    /// that cannot be read. False where the bytes end before the frame does.
+    /// Judges the first frame of the bytes, and reports where its message begins and ends, also if it is refused; zeros if the length cannot be read.
+    /// False if the bytes end before the end of the frame.
     pub(crate) fn frame(&self, bytes: &[u8], frame: &mut FrameReport) -> Result<bool, Error> {
         let (mut is_part, Limits { max_bytes, max_depth }) = (false, self.limits);
         judged(|fault, path, steps| unsafe {
@@ -268,9 +268,9 @@ impl MessageType {
         Ok(!is_part)
     }
 
-    /// The value of one field of one scalar, read from the bytes of a message without building it, which are checked as by [`MessageType::check`]. The
-    /// names lead to it from the outermost message on. None if it is not set, or if a name is that of a list or map. A name after a scalar is
-    /// [`Error::NoField`].
+    /// One scalar, read from the bytes of a message, without building the message. All bytes are checked as by [`MessageType::check`]. The names lead to
+    /// the scalar from the outermost message on. None if the scalar is not set, or if a name is the name of a list or map. For a name after a scalar
+    /// the error is [`Error::NoField`].
     pub fn find(&self, bytes: &[u8], names: &[&str]) -> Result<Option<Value>, Error> {
         let (mut numbers, mut inside) = (Vec::with_capacity(names.len()), Some(self.clone()));
         for name in names {
@@ -326,17 +326,17 @@ fn of_text(error: Error, byte: usize) -> Error {
     }
 }
 
-/// A listing is ASCII but for strings, which are UTF-8.
+/// A listing is ASCII except for strings, which are UTF-8.
 pub(crate) fn text(listing: Vec<u8>) -> String {
     String::from_utf8(listing).unwrap_or_else(|refused| String::from_utf8_lossy(refused.as_bytes()).into_owned())
 }
 
-/// Checks bytes as records, without a schema.
+/// Checks that bytes are records, without a schema.
 pub fn raw_check(bytes: &[u8], Limits { max_bytes, max_depth }: Limits) -> Result<(), Error> {
     judged(|fault, path, steps| unsafe { calls::mb_raw_check(bytes.as_ptr(), bytes.len(), max_bytes, max_depth, fault, path, steps) })
 }
 
-/// The shortest spelling of the records that bytes are.
+/// The shortest encoding of the records in the bytes.
 pub fn raw_short(bytes: &[u8], Limits { max_bytes, max_depth }: Limits) -> Result<Vec<u8>, Error> {
     written(bytes.len(), |out, capacity, size, fault, path, steps| unsafe {
         calls::mb_raw_short(bytes.as_ptr(), bytes.len(), max_bytes, max_depth, out, capacity, size, fault, path, steps)

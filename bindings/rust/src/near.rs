@@ -1,6 +1,6 @@
-//! Declared names that may be meant by a name that is not declared.
+//! Declared names that are near to a name that is not declared.
 
-/// Whether two names differ in one place alone, but for ASCII case: there each has at most two bytes, or half of a name that is shorter than four.
+/// Whether two names differ, apart from ASCII case, in one place only. There each has at most two bytes, or half of a name that is shorter than four.
 fn is_near(wanted: &str, name: &str) -> bool {
     let most = if wanted.len() < 4 { wanted.len() / 2 } else { 2 };
     let (wanted, name) = (wanted.as_bytes(), name.as_bytes());
@@ -11,7 +11,7 @@ fn is_near(wanted: &str, name: &str) -> bool {
     wanted.len().max(name.len()) - after <= most
 }
 
-/// The first declared name that ends in `.` and the wanted one, or that is near to it.
+/// The first declared name that ends in `.` and the wanted name, or that is near to the wanted name.
 pub(crate) fn near(wanted: &str, declared: &[String]) -> Option<String> {
     let is_its_end = |name: &&String| name.strip_suffix(wanted).is_some_and(|rest| rest.ends_with('.'));
     declared.iter().find(is_its_end).or_else(|| declared.iter().find(|name| is_near(wanted, name))).cloned()

@@ -20,7 +20,7 @@ pub enum Key {
 }
 
 impl Key {
-    /// The same key of the kind that a map's keys are declared with, where that is known and holds it.
+    /// The same key, of the declared kind of the map's keys, if this kind is known and holds the key.
     fn of_kind(self, declared: Option<u32>) -> Key {
         let number = match &self {
             Key::Int32(key) => i128::from(*key),
@@ -33,7 +33,7 @@ impl Key {
         value.and_then(Key::of_value).unwrap_or(self)
     }
 
-    /// A reported key, of a string with these bytes.
+    /// A reported key. The bytes are those of a string.
     fn reported(key: &Reported, bytes: Vec<u8>) -> Result<Key, Error> {
         scalar(key, bytes).and_then(Key::of_value).ok_or(Error::Answer(key.kind))
     }
@@ -82,13 +82,13 @@ impl From<&str> for Key {
     }
 }
 
-/// A place in a message: `message.field("lines")?.index(2).field("price")?`. It leads there whether or not anything is set.
+/// A place in a message: `message.field("lines")?.index(2).field("price")?`. The place need not be set.
 #[derive(Clone)]
 pub struct Part<'a> {
     pub(crate) message: &'a Message,
-    /// The type of what is there, if that is a message, or of the messages in a list or map.
+    /// The type of the message that is here, or of the messages in the list or map that is here.
     message_type: Option<MessageType>,
-    /// The declared kind of the values of the field that is here, and of its keys if it is a map, where that is known.
+    /// The declared kind of the values of the field that is here, and of its keys if it is a map, if they are known.
     pub(crate) kind: Option<u32>,
     key_kind: Option<u32>,
     pub(crate) steps: Vec<Reported>,
@@ -106,8 +106,8 @@ impl Message {
         self.whole().field(name)
     }
 
-    /// The place of a path with the names of fields, such as `lines[2].article` or `stock["pen"]`. The message type says what the path means, so it leads
-    /// there whether or not anything is set. The empty path is the message itself.
+    /// The place of a path with the names of fields, such as `lines[2].article` or `stock["pen"]`. The place need not be set. The empty path is the
+    /// message itself.
     pub fn at(&self, path: &str) -> Result<Part<'_>, Error> {
         // A path has no more steps than bytes, and its strings have no more bytes.
         let most = path.len() + 1;
@@ -136,17 +136,17 @@ impl Message {
         Ok(Part { message: self, message_type: None, kind: None, key_kind: None, steps, keys })
     }
 
-    /// The simple name of the member that is set of a oneof, by the oneof's name, or None where none is.
+    /// The simple name of the field of a oneof that is set, or None. `oneof` is the name of the oneof.
     pub fn which_oneof(&self, name: &str) -> Result<Option<String>, Error> {
         self.whole().which_oneof(name)
     }
 
-    /// The unknown records of the message, but not of messages in it, as their shortest encoding.
+    /// The unknown records of the message, without those of messages in it, in their shortest encoding.
     pub fn unknown(&self) -> Result<Vec<u8>, Error> {
         self.whole().unknown()
     }
 
-    /// The value of a field, by its simple name, or None where it is not set.
+    /// The value of a field, by its simple name, or None if it is not set.
     pub fn get(&self, name: &str) -> Result<Option<Value>, Error> {
         self.field(name)?.get()
     }
@@ -159,7 +159,7 @@ impl<'a> Part<'a> {
         part
     }
 
-    /// The type of the message that is here, or of those in the list or map that is here.
+    /// The type of the message that is here, or of the messages in the list or map that is here.
     fn message_type(&self) -> Result<MessageType, Error> {
         if let Some(message_type) = &self.message_type {
             return Ok(message_type.clone());
@@ -190,7 +190,7 @@ impl<'a> Part<'a> {
         self.step(calls::INDEX, index as u64)
     }
 
-    /// What is under a key of the map that is here. An integer is a key of any integer kind that holds it.
+    /// The value under a key of the map that is here. An integer is a key of any integer kind that holds it.
     pub fn key(&self, key: impl Into<Key>) -> Part<'a> {
         match key.into().of_kind(self.key_kind) {
             Key::Int32(key) => self.step(calls::INT32, i64::from(key) as u64),
@@ -228,7 +228,7 @@ impl<'a> Part<'a> {
         }
     }
 
-    /// What is here, or None.
+    /// The value that is here, or None.
     pub fn get(&self) -> Result<Option<Value>, Error> {
         let Some(value) = self.reported()? else { return Ok(None) };
         let mut out = vec![0; size(&value)];
@@ -241,12 +241,12 @@ impl<'a> Part<'a> {
         Ok(scalar(&value, out))
     }
 
-    /// Whether anything is here.
+    /// Whether a value is here.
     pub fn is_set(&self) -> Result<bool, Error> {
         Ok(self.reported()?.is_some())
     }
 
-    /// How many values or entries the list or map that is here has: 0 where it is not set.
+    /// How many values or entries the list or map that is here has: 0 if it is not set.
     pub fn len(&self) -> Result<usize, Error> {
         Ok(self.reported()?.map_or(0, |value| if matches!(value.kind, calls::LIST | calls::MAP) { value.number as usize } else { 0 }))
     }
@@ -261,7 +261,7 @@ impl<'a> Part<'a> {
         Ok((0..self.len()?).map(|index| self.index(index)))
     }
 
-    /// The numbers of the fields that are set in the message that is here, rising.
+    /// The numbers of the fields that are set in the message that is here, in rising order.
     pub fn numbers(&self) -> Result<Vec<u32>, Error> {
         let (mut numbers, mut count) = (vec![0; 64], 0);
         loop {
@@ -276,12 +276,12 @@ impl<'a> Part<'a> {
         }
     }
 
-    /// The fields that are set in the message that is here, by rising number, as the numbers and the places of what they hold.
+    /// The fields that are set in the message that is here, by rising number: each number, and the place of the field.
     pub fn fields(&self) -> Result<impl Iterator<Item = (u32, Part<'a>)> + '_, Error> {
         Ok(self.numbers()?.into_iter().map(|number| (number, self.number(number))))
     }
 
-    /// The simple name of the member that is set of a oneof of the message that is here, by the oneof's name, or None where none is.
+    /// The simple name of the field of a oneof that is set in the message that is here, or None. `oneof` is the name of the oneof.
     pub fn which_oneof(&self, name: &str) -> Result<Option<String>, Error> {
         let message_type = self.message_type()?;
         let Some(index) = message_type.oneof_index(name)? else { return Err(message_type.unknown_field(name)) };
@@ -289,7 +289,7 @@ impl<'a> Part<'a> {
         Ok(message_type.fields()?.into_iter().find(|declared| declared.field.number == number).map(|declared| declared.name))
     }
 
-    /// The number of the member that is set of the oneof at an index of the type of the message that is here, or None where none is.
+    /// The number of the field of a oneof that is set in the message that is here, or None. The oneof is at this index of the message's type.
     pub fn oneof_member(&self, index: u32) -> Result<Option<u32>, Error> {
         let mut number = 0;
         let found = self.call(|place, steps, keys, count| unsafe {
@@ -302,7 +302,7 @@ impl<'a> Part<'a> {
         }
     }
 
-    /// The unknown records of the message that is here, but not of messages in it, as their shortest encoding.
+    /// The unknown records of the message that is here, without those of messages in it, in their shortest encoding.
     pub fn unknown(&self) -> Result<Vec<u8>, Error> {
         let (place, steps, keys) = (self.steps.as_ptr(), self.steps.len(), self.strings());
         written_alone(|out, capacity, size| unsafe {
@@ -310,7 +310,7 @@ impl<'a> Part<'a> {
         })
     }
 
-    /// The entries of the map that is here, by rising keys: each key, and the place of its value.
+    /// The entries of the map that is here, by rising key: each key, and the place of its value.
     pub fn entries(&self) -> Result<impl Iterator<Item = (Key, Part<'a>)> + '_, Error> {
         Ok(self.keys()?.into_iter().map(|key| (key.clone(), self.key(key))))
     }
@@ -351,7 +351,7 @@ impl<'a> Part<'a> {
         found.iter().map(next).collect()
     }
 
-    /// The key at an index, counted from 0, of the map that is here, or None. The library walks there from the first key, so for all keys [`Part::keys`]
+    /// The key at an index, counted from 0, of the map that is here, or None. The library walks to it from the first key. So for all keys, [`Part::keys`]
     /// takes less time.
     pub fn nth_key(&self, index: usize) -> Result<Option<Key>, Error> {
         let (place, steps, keys, mut key) = (self.steps.as_ptr(), self.steps.len(), self.strings(), Reported::default());
@@ -368,13 +368,13 @@ impl<'a> Part<'a> {
         }
     }
 
-    /// The key that a step is, if it is one.
+    /// The key of a step, if the step is a key.
     fn key_of_step(&self, step: &Reported) -> Option<Key> {
         let bytes = if step.kind == calls::STRING { self.keys.get(step.number as usize)?.clone() } else { vec![] };
         scalar(step, bytes).and_then(Key::of_value)
     }
 
-    /// Writes a field as the name that the message type gives it, or else as its number. The answer is the type of the messages that it holds.
+    /// Writes a field as its name in the message type, or else as its number. Returns the type of the messages in the field.
     fn write_field(f: &mut fmt::Formatter<'_>, message_type: Option<MessageType>, number: u64) -> Result<Option<MessageType>, fmt::Error> {
         let of_number = |it: &MessageType| it.fields().ok()?.into_iter().find(|declared| u64::from(declared.field.number) == number);
         match message_type.as_ref().and_then(of_number) {
@@ -387,7 +387,8 @@ impl<'a> Part<'a> {
     }
 }
 
-/// The place as its steps: `lines[2].price`, `discounts["loyal"]`. A field that no type names is its number. The message itself is an empty string.
+/// The place as its steps: `lines[2].price`, `discounts["loyal"]`. A field without a name in the type is its number. The message itself is an empty
+    /// string.
 impl fmt::Display for Part<'_> {
     fn fmt(&self, f: &mut fmt::Formatter<'_>) -> fmt::Result {
         let mut message_type = Some(self.message.message_type().clone());

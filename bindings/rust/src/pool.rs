@@ -6,9 +6,9 @@ use crate::{calls, Error, Limits, MessageType};
 use std::cell::{Cell, UnsafeCell};
 use std::ptr;
 
-/// The message types of a descriptor set, or of sources. A clone holds the same ones, at the cost of a small allocation.
+/// The message types of a descriptor set, or of sources. A clone holds the same types, at the cost of a small allocation.
 ///
-/// It may go to another thread. It is not `Sync`: one thread at a time uses a pool, and each has a clone of its own.
+/// A pool may go to another thread. It is not `Sync`: one thread at a time uses it, so give each thread its own clone.
 ///
 /// ```compile_fail
 /// fn shared<T: Sync>() {}
@@ -38,7 +38,7 @@ impl Pool {
         self.handle.get()
     }
 
-    /// Links a descriptor set, as `protoc --include_imports --descriptor_set_out` or `pbtool compile` writes one.
+    /// Links a descriptor set, as `protoc --include_imports --descriptor_set_out` or `pbtool compile` writes it.
     pub fn link(set: &[u8]) -> Result<Pool, Error> {
         let pool = Pool::empty();
         linked(&[], |fault, path, steps, refusal, text, capacity| unsafe {
@@ -47,8 +47,8 @@ impl Pool {
         Ok(pool)
     }
 
-    /// Links a descriptor set without what is refused in sets of proto2: extensions, required labels, default values and the marks of maps of closed
-    /// enums. [`Pool::left_out`] is how many parts were left out.
+    /// Links a descriptor set without the parts of proto2 that [`Pool::link`] refuses: extensions, required labels, default values and the marks of maps
+    /// of closed enums. [`Pool::left_out`] is how many parts were left out.
     pub fn link_lenient(set: &[u8]) -> Result<Pool, Error> {
         let (mut pool, left_out) = (Pool::empty(), Cell::new(0));
         linked(&[], |fault, path, steps, refusal, text, capacity| unsafe {
@@ -72,14 +72,13 @@ impl Pool {
         Ok(pool)
     }
 
-    /// Links sources of proto3, each by its name, as imports name it, and its text. What they import has to be among them.
+    /// Links sources of proto3: the name of each source, as imports name it, and its text. Imported files have to be among the sources.
     pub fn of_sources<N: AsRef<str>, T: AsRef<[u8]>>(sources: impl IntoIterator<Item = (N, T)>) -> Result<Pool, Error> {
         Pool::compile(calls::mb_pool_compile, sources)
     }
 
-    /// As [`Pool::of_sources`], of sources of all of proto2 and proto3: what declares no message, enum or service is read and left out, as
-    /// parts of an option's name in parentheses, constants in braces, default values, blocks of `extend` and ranges of extensions. A map in
-    /// a file of proto2 whose values are of an enum is the list of its entries.
+    /// As [`Pool::of_sources`], for sources of all of proto2 and proto3. Custom options, constants in braces, default values, blocks of `extend` and
+    /// ranges of extensions are left out. In a file of proto2, a map with values of an enum is the list of its entries.
     pub fn of_sources_lenient<N: AsRef<str>, T: AsRef<[u8]>>(sources: impl IntoIterator<Item = (N, T)>) -> Result<Pool, Error> {
         Pool::compile(calls::mb_pool_compile_lenient, sources)
     }
@@ -97,17 +96,17 @@ impl Pool {
         Ok(pool)
     }
 
-    /// A descriptor set of the pool's types: linking it makes the same types again. Services and options, which a pool does not hold, are not in it.
+    /// A descriptor set of the pool's types. If you link this set, you get the same types. It has no services and options: a pool does not hold them.
     pub fn to_set(&self) -> Result<Vec<u8>, Error> {
         written_alone(|out, capacity, size| unsafe { calls::mb_pool_set(self.handle(), out, capacity, size) })
     }
 
-    /// How many parts of the set lenient reading left out.
+    /// How many parts of the set [`Pool::link_lenient`] left out.
     pub fn left_out(&self) -> usize {
         self.left_out
     }
 
-    /// A clone, or an error where memory runs out.
+    /// A clone, or an error if memory runs out.
     pub fn try_clone(&self) -> Result<Pool, Error> {
         let mut other = Pool::empty();
         other.left_out = self.left_out;
@@ -115,7 +114,7 @@ impl Pool {
         Ok(other)
     }
 
-    /// The message type of a full name, as `shop.Order`.
+    /// The message type with a full name, as `shop.Order`.
     pub fn message_type(&self, name: &str) -> Result<MessageType, Error> {
         let mut number = 0;
         let answer = unsafe { calls::mb_pool_type(self.handle(), name.as_ptr(), name.len(), &mut number) };
@@ -128,7 +127,7 @@ impl Pool {
 }
 
 impl Clone for Pool {
-    /// Panics where memory runs out.
+    /// Panics if memory runs out.
     fn clone(&self) -> Pool {
         self.try_clone().expect("there is memory for a handle")
     }

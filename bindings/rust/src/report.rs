@@ -1,9 +1,9 @@
-//! From what a call answers to a result.
+//! From the answer of a call to a result.
 use crate::calls::{self, MAX_STEPS};
 use crate::structs::{Fault, Refusal, Step};
 use crate::{Cause, Error};
 
-/// Room for a fault and its whole path.
+/// Buffers for a fault and its whole path.
 pub struct Report {
     pub fault: Fault,
     pub path: [Step; MAX_STEPS],
@@ -14,7 +14,7 @@ impl Report {
         Report { fault: Fault::default(), path: [Step::default(); MAX_STEPS] }
     }
 
-    /// What an answer comes to.
+    /// The result of an answer.
     pub fn judge(&self, answer: u32) -> Result<(), Error> {
         Err(match answer {
             calls::DONE => return Ok(()),
@@ -34,7 +34,7 @@ impl Report {
         })
     }
 
-    /// What the answer of a call that links types comes to.
+    /// The result of the answer of a call that links types.
     pub fn judge_link(&self, answer: u32, refusal: &Refusal, text: &[u8], names: &[&str]) -> Result<(), Error> {
         let &Refusal { file, byte, file_len, name_len } = refusal;
         let name = |from: usize, len: usize| String::from_utf8_lossy(&text[from..from + len]).into_owned();
@@ -55,7 +55,7 @@ pub fn judged(call: impl FnOnce(&mut Fault, *mut Step, usize) -> u32) -> Result<
     report.judge(answer)
 }
 
-/// What a call writes, into a buffer of the length that it should have. Where it is longer, the call reports that, and is made again.
+/// The output of a call, in a buffer of the expected length. If the output is longer, the call reports its length, and is made again.
 pub fn written(
     expected: usize,
     mut call: impl FnMut(*mut u8, usize, &mut usize, &mut Fault, *mut Step, usize) -> u32,
@@ -71,12 +71,12 @@ pub fn written(
     }
 }
 
-/// The same of a call that reports no fault.
+/// The same for a call that reports no fault.
 pub fn written_alone(mut call: impl FnMut(*mut u8, usize, &mut usize) -> u32) -> Result<Vec<u8>, Error> {
     written(4096, |out, capacity, size, _, _, _| call(out, capacity, size))
 }
 
-/// Makes a call that links types. Where the names that it reports are longer than the buffer for them, it is made again.
+/// Makes a call that links types. If the names that it reports are longer than their buffer, the call is made again.
 pub fn linked(names: &[&str], call: impl Fn(&mut Fault, *mut Step, usize, &mut Refusal, *mut u8, usize) -> u32) -> Result<(), Error> {
     let (mut text, mut refusal, mut report) = (vec![0; 256], Refusal::default(), Report::new());
     loop {

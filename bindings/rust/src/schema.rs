@@ -21,9 +21,9 @@ pub struct DeclaredFile {
 pub struct DeclaredField {
     pub name: String,
     pub field: Field,
-    /// The name of the oneof that it is in.
+    /// The name of its oneof.
     pub oneof: Option<String>,
-    /// Whether a list of it is written packed.
+    /// Whether the list is written packed.
     pub is_packed: bool,
 }
 
@@ -84,7 +84,7 @@ impl Pool {
         Ok(enums.into_iter())
     }
 
-    /// The full names of the message types, or those before one that can't be read.
+    /// The full names of the message types, up to the first name that cannot be read.
     pub(crate) fn type_names(&self) -> Vec<String> {
         let count = self.counts().map_or(0, |counts| counts.messages as u32);
         (0..count).map_while(|number| self.reported_type(number).ok()).map(|(name, _)| name).collect()
@@ -109,7 +109,7 @@ impl Pool {
         Ok(DeclaredFile { name: text(name), package: text(package), imports: file.imports, is_proto2: file.proto2 == 1 })
     }
 
-    /// The full name of the message type of a number, and what it is.
+    /// The full name of the message type of a number, and its report.
     pub(crate) fn reported_type(&self, number: u32) -> Result<(String, TypeReport), Error> {
         let mut report = TypeReport::default();
         let name = written_alone(|out, capacity, size| unsafe {
@@ -179,8 +179,8 @@ impl MessageType {
         Ok(None)
     }
 
-    /// The names of the steps of a fault's path, by the type that the bytes were read as: a field's name, in an entry of a map `key` or `value`, or the
-    /// number where no field has it.
+    /// The names of the steps of a fault's path, by the type that the bytes should have: a field's name; `key` or `value` in an entry of a map; or the
+    /// number if no field has it.
     pub fn path_names(&self, path: &[Step]) -> Result<Vec<String>, Error> {
         let (mut names, mut inside, mut entry) = (Vec::new(), Some(self.clone()), None);
         for Step { number, .. } in path {

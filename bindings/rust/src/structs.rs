@@ -8,7 +8,7 @@ pub struct Fault {
     pub cause: u32,
 }
 
-/// A record, by its field number and by how many whole records of that number come before it in its parent.
+/// A step of a path: the field number of a record, and the count of whole records of this number before it in its parent.
 #[repr(C)]
 #[derive(Clone, Copy, Debug, Default, PartialEq, Eq)]
 pub struct Step {
@@ -22,7 +22,7 @@ pub struct Handle {
     pub full: bool,
 }
 
-/// What a field is: kinds by the numbers of types in descriptor.proto, the shape and the type by the numbers in mabristu.h.
+/// A field: kinds as numbers of types in descriptor.proto, the shape and the type as numbers of mabristu.h.
 #[repr(C)]
 #[derive(Clone, Copy, Debug, Default, PartialEq, Eq)]
 pub struct Field {
@@ -86,7 +86,7 @@ pub struct Difference {
     pub severity: u32,
 }
 
-/// What a path with names comes to: its steps, the strings among them and their bytes; or the byte where it is refused.
+/// The size of a path with names: its steps, the strings among them and their bytes; or the byte where it is refused.
 #[repr(C)]
 #[derive(Clone, Copy, Debug, Default, PartialEq, Eq)]
 pub struct Steps {

@@ -25,7 +25,7 @@ pub enum Value {
     Map(usize),
 }
 
-/// How many bytes of a string or bytes there are, 0 of other values.
+/// The number of bytes of a string or bytes, 0 for other values.
 pub(crate) fn size(value: &Reported) -> usize {
     if matches!(value.kind, calls::STRING | calls::BYTES) {
         value.number as usize
@@ -34,7 +34,7 @@ pub(crate) fn size(value: &Reported) -> usize {
     }
 }
 
-/// A reported value, of a string or bytes with these bytes.
+/// A reported value. The bytes are those of a string or of bytes.
 pub(crate) fn scalar(&Reported { kind, number }: &Reported, bytes: Vec<u8>) -> Option<Value> {
     Some(match kind {
         calls::DOUBLE => Value::Double(f64::from_bits(number)),
@@ -54,7 +54,7 @@ pub(crate) fn scalar(&Reported { kind, number }: &Reported, bytes: Vec<u8>) -> O
     })
 }
 
-/// A value as the library takes it, of a string or bytes with the index that these have among the strings.
+/// A value as the library takes it. The index is that of a string or bytes among the strings.
 pub(crate) fn given(value: &Value, index: usize) -> (Reported, Option<&[u8]>) {
     let (kind, number) = match value {
         Value::Double(value) => (calls::DOUBLE, value.to_bits()),
