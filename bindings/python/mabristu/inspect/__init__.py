@@ -27,7 +27,7 @@ def to_text(data):
 
 
 def reachable(message_type):
-    """The message type and those that its fields lead to, each once."""
+    """The message type and the message types to which its fields lead, each once."""
     found, waiting = {message_type.name: message_type}, [message_type]
     while waiting:
         for field in waiting.pop().fields:
@@ -50,7 +50,7 @@ def described_field(field):
 
 
 def described(message_type):
-    """The schema as the page reads it: of each type its fields by their numbers."""
+    """The schema as the page reads it: the fields of each type by their numbers."""
     if message_type is None:
         return {}
     return {name: {str(field.number): described_field(field) for field in one.fields} for name, one in reachable(message_type).items()}
@@ -61,7 +61,7 @@ def fault_of(refused):
 
 
 def looked_at(message_type, data):
-    """What the library says of bytes: their fault, or their JSON, listing and canonical bytes. Without a type, their fault alone."""
+    """The library's report on bytes: their fault, or their JSON, listing and canonical bytes. Without a type, their fault alone."""
     try:
         if message_type is None:
             raw_check(data)
@@ -78,7 +78,7 @@ def looked_at(message_type, data):
 
 
 def value_of(field, text):
-    """The value of a scalar field that someone wrote."""
+    """The value of a scalar field that a user typed."""
     kind = field.kind
     if kind == "string":
         return text
@@ -96,8 +96,8 @@ def value_of(field, text):
 
 
 def changed(message_type, data, steps, text):
-    """The canonical bytes of a message after a change of one scalar. Steps lead to it: a field's name, then an index or a key where it is a list or a
-    map."""
+    """The canonical bytes of a message after a change of one scalar. Steps lead to the scalar: a field's name, then an index or a key if the field is a
+    list or a map."""
     message = message_type.decode(data)
     part, field = message, None
     for step in steps[:-1]:
@@ -112,7 +112,7 @@ def changed(message_type, data, steps, text):
 
 
 class Stream:
-    """The frames of a file, checked as far as they were asked for."""
+    """The frames of a file, checked up to the last frame that was asked for."""
 
     def __init__(self, message_type, path):
         self.path = path
@@ -125,7 +125,7 @@ class Stream:
         self.found.append({"at": refused.at, "size": refused.size, "fault": fault_of(refused)})
 
     def frames(self, first):
-        """The frames from a number on, some at a time, and whether more follow."""
+        """Some frames from a number on, and whether more follow."""
         while len(self.found) < first + FRAMES_AT_ONCE and not self.is_whole:
             frame = next(self.left, None)
             if frame is None:
@@ -150,7 +150,7 @@ class Stream:
 
 
 def contents(message_type, name, data, stream=None):
-    """What the page is given when it begins."""
+    """The first contents of the page."""
     return {
         "name": name,
         "type": message_type.name if message_type is not None else None,
@@ -166,7 +166,7 @@ def sha256(text):
 
 
 def alone(given):
-    """The page as one file that needs no server: its script and style may run by their hashes, and nothing else may."""
+    """The page as one file that needs no server. Its own script and style are allowed by their hashes, and nothing else is."""
     # A script ends at the first </script, so none is in what is given.
     data = json.dumps(given).replace("<", "\\u003c")
     script, style = read("page.js"), read("page.css")
@@ -177,5 +177,5 @@ def alone(given):
 
 
 def served():
-    """The page as the server gives it, which loads its script and style from the server."""
+    """The page that the server gives. It loads its script and style from the server."""
     return read("page.html").replace("<!-- head -->", '<link rel="stylesheet" href="page.css">').replace("<!-- script -->", '<script src="page.js"></script>')

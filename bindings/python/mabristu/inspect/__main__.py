@@ -1,10 +1,10 @@
 """Shows a message as a page in a browser: its bytes beside the tree of its fields.
 
-  python3 -m mabristu.inspect [--set SET | --proto FOLDER FILE..] [--type TYPE] [MESSAGE | --frames STREAM] [--out PAGE]
+  python3 -m mabristu.inspect [--set SET | --proto FOLDER] [--type TYPE] [MESSAGE | --frames STREAM] [--out PAGE]
 
-SET is a descriptor set, and FOLDER the folder of the .proto files; FILE.. are those to start at, as imports name them. TYPE is the full name of the
-message type. MESSAGE is a file with the bytes of a message, or - for the standard input. Without a type, the fields of the bytes are shown by number.
-The page is served on 127.0.0.1 until Ctrl-C, at an address with a random part; --out writes it as one file instead, to be sent to someone.
+SET is a descriptor set, and FOLDER is a folder of .proto files. TYPE is the full name of the message type. MESSAGE is a file with the bytes of a message,
+or - for the standard input. Without SET and FOLDER, the page shows the fields by number. The page is served on 127.0.0.1 until Ctrl-C, at an address
+with a random part. --out writes the page to a file instead, which you can send to others.
 """
 import argparse
 import hmac
@@ -55,7 +55,7 @@ def type_of(pool, name):
 
 
 class Page(http.server.BaseHTTPRequestHandler):
-    """Answers the page of one token; any other path is not there. `server` has the token, the type, what the page begins with, and the stream."""
+    """Serves the page of one token; any other path is not found. `server` has the token, the type, the first contents of the page, and the stream."""
 
     def log_message(self, *_):
         pass
@@ -72,7 +72,7 @@ class Page(http.server.BaseHTTPRequestHandler):
         self.wfile.write(data)
 
     def is_known(self):
-        """Whether the path begins with the token and the browser asked for this address, and not another name for it."""
+        """Whether the path begins with the token, and the browser asked for this address, and not for another name of it."""
         token = self.path.split("/")[1] if self.path.count("/") >= 2 else ""
         host = self.headers.get("Host", "")
         return hmac.compare_digest(token.encode(), self.server.token.encode()) and host == self.server.host
