@@ -1,6 +1,6 @@
-/* change [--lenient] SET TYPE FILE CHANGE..: decodes the message that a file holds, makes each change, prints what each call answers, and last the bytes
- * of the changed message in hexadecimal digits. A change is as in `set:21,3/22,0/21,2=5,7`: the call, the steps of the place, each a kind and a number, or
- * `s` and a string as a key, and the value, a kind and a number, or `9` or `12`, no number, and a string. */
+/* change [--lenient] SET TYPE FILE CHANGE..: decodes the message in a file, makes each change and prints its answer, and then prints the bytes of the
+ * changed message in hexadecimal digits. A change has the call, the steps of the place and the value, as `set:21,3/22,0/21,2=5,7`. A step is a kind and a
+ * number, or `s` and a string as a key. A value is a kind and a number, or `9` or `12`, no number, and a string. */
 #include "common.h"
 
 #include <inttypes.h>
@@ -16,7 +16,7 @@ struct change {
     size_t steps, count;
 };
 
-/* The kind and the number of a word, as in 5,7 or s,name or 12,,bytes. It is left without its commas. */
+/* The kind and the number of a word, as in 5,7 or s,name or 12,,bytes. The call removes the commas of the word. */
 static struct mb_value parsed(char *word, struct change *it)
 {
     char *number = strchr(word, ',');
@@ -45,7 +45,7 @@ static uint32_t made(const char *call, struct mb_message *message, const struct 
     return mb_message_drop_unknown(message, it->place, it->steps, it->strings, it->count);
 }
 
-/* Makes the change that a word says, and prints the answer. */
+/* Makes the change of a word, and prints the answer. */
 static void change(struct mb_message *message, char *word)
 {
     struct change it = {.steps = 0};

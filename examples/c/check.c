@@ -1,4 +1,4 @@
-/* check [--lenient] SET TYPE FILE: says whether a file is a message of a type in a descriptor set, as `pbtool check` does. */
+/* check [--lenient] SET TYPE FILE: checks that a file is a message of a type in a descriptor set, as `pbtool check` does. */
 #include "common.h"
 
 #include <stdlib.h>

@@ -1,6 +1,6 @@
-/* compat OLD_SET OLD_TYPE NEW_SET NEW_TYPE: prints what happens to messages of an old type that are read as a new one, a line for each difference: the full
- * name of the old type, the field's number, what the difference does, and the full name of the new type. Below one that breaks reading it prints the bytes
- * of a message that shows it. */
+/* compat OLD_SET OLD_TYPE NEW_SET NEW_TYPE: prints what happens to messages of an old type that are read as a new type. A line for each difference has the
+ * full name of the old type, the field's number, the severity, and the full name of the new type. After a difference that breaks reading, the program
+ * prints the bytes of a message that shows the break. */
 #include "common.h"
 
 #include <inttypes.h>
@@ -27,7 +27,7 @@ static void print(struct mb_pool *old, struct mb_pool *new_pool, const struct mb
     printf("\n");
 }
 
-/* Prints the canonical bytes of a message that shows that a difference breaks reading, if there is one. */
+/* Prints the canonical bytes of a message that shows the break, if the difference breaks reading. */
 static uint32_t print_witness(struct mb_pool *pools, const uint32_t *types, const struct mb_difference *it)
 {
     struct mb_message message = {0};
@@ -60,7 +60,7 @@ int main(int argc, char **argv)
     }
     for (int i = 0; i < 2; i++)
         types[i] = find_type(argv[2 * i + 1], argv[2 * i + 2], false, &pools[i]);
-    /* Where there are more differences than the list holds, their number is reported. */
+    /* If there are more differences than the list holds, the call reports how many there are. */
     do {
         len = count + 1;
         if ((found = realloc(found, len * sizeof *found)) == NULL)

@@ -1,10 +1,10 @@
-/* dict SET TYPE FILE: prints the message that a file holds as JSON, a member a line, and fails where the message of this JSON is another than the one
- * that was read. Unknown records are no members, so they are dropped first. */
+/* dict SET TYPE FILE: prints the message in a file as JSON, each member on its own line. It fails if the message that this JSON gives is another message.
+ * JSON has no unknown records, so the program drops them first. */
 #include "common.h"
 
 #include <stdlib.h>
 
-/* The JSON of a message, with names as declared, in a buffer that grows where it was too small. */
+/* The JSON of a message, with declared names. If the buffer is too small, it is made larger. */
 static uint32_t to_json(struct mb_pool *pool, struct mb_message *message, struct buffer *json)
 {
     uint32_t path[MB_MAX_STEPS], answer;

@@ -1,11 +1,11 @@
-/* edit SET IN OUT: changes fields of a shop.Order and writes it back: its state is 2, PAID, its first line has one piece more, and it has another line. */
+/* edit SET IN OUT: changes fields of a shop.Order and writes it to OUT: its state is 2 (PAID), its first line has one piece more, and it has one more line. */
 #include "common.h"
 
 #include <stdlib.h>
 
 enum { LINES = 3, STATE = 7, ARTICLE = 1, PIECES = 2 };
 
-/* Makes the changes; the answer is that of the first call that is refused. */
+/* Makes the changes. Returns the answer of the first refused call, or MB_DONE. */
 static uint32_t edit(struct mb_message *order)
 {
     const struct mb_value state[] = {{MB_FIELD, STATE}}, lines[] = {{MB_FIELD, LINES}};

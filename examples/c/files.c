@@ -87,7 +87,7 @@ void link_set(const char *set_name, bool is_lenient, struct mb_pool *pool)
     size_t left_out;
     uint32_t answer;
 
-    /* Where the names are longer than the buffer, their lengths are reported: link once more with that much. */
+    /* If the names are longer than the buffer, the call reports their lengths: link again with a buffer of this length. */
     do {
         grow(&text, refusal.file_len + refusal.name_len + 256);
         if (is_lenient)

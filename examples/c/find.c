@@ -1,5 +1,5 @@
-/* find [--lenient] SET TYPE FILE PATH: prints the scalar that the message in a file has at a path of field numbers, such as 3.1, as a router reads it:
- * from the bytes, with no message made of them. It prints the kind and the number, or the bytes of a string or bytes in hexadecimal digits. */
+/* find [--lenient] SET TYPE FILE PATH: prints the scalar at a path of field numbers, such as 3.1, of the message in a file. It reads the scalar from the
+ * bytes, and builds no message. It prints the kind and the number, or the bytes of a string or bytes in hexadecimal digits. */
 #include "common.h"
 
 #include <inttypes.h>
@@ -7,7 +7,7 @@
 
 #define MAX_NUMBERS 100
 
-/* The numbers of a path. Returns how many they are. */
+/* The numbers of a path. Returns how many there are. */
 static size_t read_path(const char *word, uint32_t *numbers)
 {
     size_t count = 0;

@@ -1,10 +1,10 @@
-/* message encode|list|decimal|json|empty [--lenient] SET TYPE FILE: decodes the message that a file holds, and prints its canonical bytes in hexadecimal
- * digits, as `pbtool canon` does, or its listing, as `pbtool show` does or `pbtool show --decimal`, or its JSON, as `pbtool json` does; or prints the bytes
- * of an empty message. In between, the library keeps the message, by a handle of its own, and the pool is freed before.
- * message relink [--lenient] SET TYPE FILE: as encode, by the types of the set that the library writes of the pool.
- * message from-json [--lenient] SET TYPE FILE: reads the message that a file holds as JSON, and writes its canonical bytes, as `pbtool from-json` does.
- * message json-bytes [--lenient] SET TYPE FILE: the same, by the call that keeps no message.
- * message field SET TYPE NAME: prints what the field of this name is, by the numbers of struct mb_field. */
+/* message encode|list|decimal|json|empty [--lenient] SET TYPE FILE: decodes the message in a file. `encode` prints its canonical bytes in hexadecimal digits,
+ * as `pbtool canon` does; `list` and `decimal` print its listing, as `pbtool show` and `pbtool show --decimal` do; `json` prints its JSON, as `pbtool json`
+ * does; `empty` prints the bytes of an empty message. A handle holds the message, and the pool is freed before the message is printed.
+ * message relink [--lenient] SET TYPE FILE: as encode, with the types of the set that the library writes for the pool.
+ * message from-json [--lenient] SET TYPE FILE: reads a message from the JSON in a file, and writes its canonical bytes, as `pbtool from-json` does.
+ * message json-bytes [--lenient] SET TYPE FILE: the same, with the call that keeps no message.
+ * message field SET TYPE NAME: prints the field of this name, by the numbers of struct mb_field. */
 #include "common.h"
 
 #include <inttypes.h>
@@ -23,7 +23,7 @@ static int print_field(struct mb_pool *pool, uint32_t type, const char *name)
     return answer == MB_DONE ? 0 : 1;
 }
 
-/* Links the set that the library writes of the pool, in place of it. */
+/* Writes the set of the pool, and links this set into the handle of the pool. */
 static uint32_t relink(struct mb_pool *pool, const char *name, uint32_t *type)
 {
     struct buffer set = {0};
@@ -57,7 +57,7 @@ static uint32_t make_message(const char *word, const char *name, struct mb_pool 
     return answer;
 }
 
-/* Prints the listing, in a buffer that grows where it was too small. */
+/* Prints the listing. If the buffer is too small, it is made larger. */
 static uint32_t list(struct mb_message *message, struct buffer *out, bool is_decimal)
 {
     uint32_t answer;
@@ -71,7 +71,7 @@ static uint32_t list(struct mb_message *message, struct buffer *out, bool is_dec
     return answer;
 }
 
-/* Prints the JSON on one line, or says on standard error which part of the message has none. */
+/* Prints the JSON on one line, or reports on standard error the part of the message that has no JSON form. */
 static uint32_t print_json(struct mb_pool *pool, struct mb_message *message, struct buffer *out)
 {
     uint32_t path[MB_MAX_STEPS], answer;
@@ -90,7 +90,7 @@ static uint32_t print_json(struct mb_pool *pool, struct mb_message *message, str
     return answer;
 }
 
-/* Prints the canonical bytes, in a buffer of just their length. */
+/* Prints the canonical bytes, with a buffer of exactly their length. */
 static uint32_t encode(struct mb_message *message, struct buffer *out)
 {
     uint32_t answer = mb_message_encoded_length(message, &out->len);
@@ -106,7 +106,7 @@ static uint32_t encode(struct mb_message *message, struct buffer *out)
     return answer;
 }
 
-/* Reads the message that a file holds as JSON. Where it is refused, says on standard error at which byte, and why. */
+/* Reads a message from the JSON in a file. If the JSON is refused, reports the byte and the cause on standard error. */
 static uint32_t from_json(const char *name, struct mb_pool *pool, uint32_t type, bool is_lenient, struct mb_message *message)
 {
     struct buffer file = read_file(name);
@@ -133,7 +133,7 @@ static uint32_t write_bytes(struct mb_message *message, struct buffer *out)
     return answer;
 }
 
-/* Writes the canonical bytes of the message that a file holds as JSON, in a buffer that grows where it was too small. */
+/* Writes the canonical bytes of the message in a JSON file. If the buffer is too small, it is made larger. */
 static uint32_t write_json_bytes(const char *name, struct mb_pool *pool, uint32_t type, bool is_lenient, struct buffer *out)
 {
     struct buffer file = read_file(name);
@@ -191,7 +191,7 @@ int main(int argc, char **argv)
         answer = from_json(argv[3], &pool, type, is_lenient, &message);
     else if (answer == MB_DONE)
         answer = make_message(word, argv[3], &pool, type, &message, &report);
-    /* A message keeps its types, but not the names that JSON is written by. */
+    /* A message keeps its types, but not the JSON names of their fields. */
     if (strcmp(word, "json") != 0)
         mb_pool_free(&pool);
     if (answer == MB_DONE && !is_written)

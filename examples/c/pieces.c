@@ -1,6 +1,6 @@
-/* pieces [--pending] SIZE [--lenient] SET TYPE FILE: decodes the message that a file holds as it arrives, in pieces of SIZE bytes, at most 65536, and prints
- * its canonical bytes in hexadecimal digits, as `pbtool canon` does. It refuses bytes with the first piece that settles their fault. With --pending it
- * also prints how many bytes the decoder holds after each piece. The pool is freed before the first one. */
+/* pieces [--pending] SIZE [--lenient] SET TYPE FILE: decodes the message in a file in pieces of SIZE bytes, at most 65536, and prints its canonical bytes in
+ * hexadecimal digits, as `pbtool canon` does. It refuses the bytes at the first piece after which no further bytes can repair their fault. With --pending
+ * it also prints how many bytes the decoder holds after each piece. The pool is freed before the first piece. */
 #include "common.h"
 
 #include <stdlib.h>

@@ -1,6 +1,6 @@
-/* read [--lenient] SET TYPE FILE: decodes the message that a file holds, and prints what it has, one place a line: the place, the kind and the number
- * of the value there, or the bytes of a string or bytes in hexadecimal digits. In a place .3 is the field 3, [0] the first of a list, and {13:9} what a
- * map has under the key 9 of the kind 13. */
+/* read [--lenient] SET TYPE FILE: decodes the message in a file, and prints a line for each place in it: the place, and the kind and the number of the value
+ * there, or the bytes of a string or bytes in hexadecimal digits. In a place, .3 is field 3, [0] is the first element of a list, and {13:9} is the value
+ * under the key 9 of the kind 13 in a map. */
 #include "common.h"
 
 #include <inttypes.h>
@@ -51,7 +51,7 @@ static void print_place(const struct place *place)
     }
 }
 
-/* Prints what is at the place and one step more. */
+/* Prints the value one step after the place. */
 static uint32_t print_after(struct mb_message *message, struct place *place, struct mb_value step)
 {
     place->steps[place->len++] = step;
@@ -86,7 +86,7 @@ static uint32_t print_list(struct mb_message *message, struct place *place, uint
     return answer;
 }
 
-/* Prints what is under a key, of which a string has these bytes. They stay where they are while a place names them. */
+/* Prints the value under a key. If the key is a string, it has these bytes, which stay in memory while a place uses them. */
 static uint32_t print_entry(struct mb_message *message, struct place *place, struct mb_value key, const uint8_t *string)
 {
     if (key.kind != MB_STRING)
@@ -98,7 +98,7 @@ static uint32_t print_entry(struct mb_message *message, struct place *place, str
     return answer;
 }
 
-/* Prints the entries of a map. A first call for its keys reports how many there are, and a second one writes them. */
+/* Prints the entries of a map. A first call for its keys reports how many there are, and a second call writes them. */
 static uint32_t print_map(struct mb_message *message, struct place *place)
 {
     struct mb_keys counts;
@@ -134,7 +134,7 @@ static uint32_t print_bytes(struct mb_message *message, struct place *place, siz
     return answer;
 }
 
-/* Prints what is at a place, and then what is inside. */
+/* Prints the value at a place, and then the values inside it. */
 static uint32_t print_at(struct mb_message *message, struct place *place)
 {
     struct mb_value value;

@@ -3,7 +3,7 @@
 #include <inttypes.h>
 #include <stdio.h>
 
-/* Writes the name of a cause, which the library knows by its number. */
+/* Writes the name that the library gives for the number of a cause. */
 static void print_cause(FILE *out, uint32_t cause)
 {
     uint8_t name[64];
@@ -49,13 +49,13 @@ int print_refusal(uint32_t answer, const struct report *report)
     return 1;
 }
 
-/* A name, or - where it is empty. */
+/* A name, or - if it is empty. */
 static void print_name(const uint8_t *name, size_t len)
 {
     fwrite(len == 0 ? (const uint8_t *)"-" : name, 1, len == 0 ? 1 : len, stderr);
 }
 
-/* Of declarations that do not link, the file and the declaration. */
+/* The file and the declaration that do not link. */
 static void print_names(const struct mb_refusal *refusal, const uint8_t *text)
 {
     fprintf(stderr, "link ");

@@ -1,11 +1,11 @@
-/* route SET TYPE FIELD STREAM: routes the messages of a stream by a field, which is read from the bytes. Prints where each one begins and its value. */
+/* route SET TYPE FIELD STREAM: reads a field from the bytes of each message of a stream. Prints where each message begins, and the value of the field. */
 #include "common.h"
 
 #include <inttypes.h>
 #include <stdlib.h>
 #include <string.h>
 
-/* Prints a value; that of a field that is not set, 0. */
+/* Prints a value, or 0 for a field that is not set. */
 static void print_value(uint32_t answer, const struct mb_value *value, const uint8_t *text)
 {
     if (answer != MB_DONE)

@@ -1,4 +1,4 @@
-/* schema SET TYPE NAME..: says what fields of a message type are, and those of the messages in them, each NAME as lines or lines.price. */
+/* schema SET TYPE NAME..: prints fields of a message type, or of the messages in its fields. A NAME is as lines or lines.price. */
 #include "common.h"
 
 #include <inttypes.h>
@@ -8,7 +8,7 @@ static const char *const kinds[] = {"", "double", "float", "int64", "uint64", "i
                                     "message", "bytes", "uint32", "enum", "sfixed32", "sfixed64", "sint32", "sint64"};
 static const char *const shapes[] = {"implicit", "optional", "oneof", "list", "map"};
 
-/* Finds a field by its name, from the type on, through the messages that it leads through. */
+/* Finds a field by its name, from the type on, through the messages on the way. */
 static bool find_field(struct mb_pool *pool, uint32_t type, const char *name, struct mb_field *field)
 {
     for (;;) {

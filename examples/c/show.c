@@ -1,4 +1,4 @@
-/* show [--decimal] [--lenient] SET TYPE FILE: lists the message that a file holds, as `pbtool show` does, with `--decimal` as `pbtool show --decimal`. */
+/* show [--decimal] [--lenient] SET TYPE FILE: prints the message in a file, as `pbtool show` does, with `--decimal` as `pbtool show --decimal`. */
 #include "common.h"
 
 #include <stdlib.h>
@@ -17,7 +17,7 @@ int main(int argc, char **argv)
     }
     uint32_t type = find_type(argv[1], argv[2], is_lenient, &pool);
     struct buffer file = read_file(argv[3]);
-    /* Where the listing is longer than the buffer, its length is reported: call again with that much. */
+    /* If the listing is longer than the buffer, the call reports its length: call again with a buffer of this length. */
     do {
         grow(&listing, listing.len + 256);
         answer = (is_decimal ? mb_show_decimal : mb_show)(&pool, type, file.bytes, file.len, MB_MAX_BYTES, MB_MAX_DEPTH, listing.bytes, listing.capacity,

@@ -34,7 +34,7 @@ int main(int argc, char **argv)
             return print_refusal(answer, &report);
         printf("frame %zu byte %" PRIu64, kept + skipped++, report.fault.byte);
         print_path(stdout, " path ", &report, " cause ");
-        /* Go on after it, if its length can be read and the stream does not end in it. */
+        /* Go on after the frame, if its length can be read and the stream does not end in it. */
         at += frame.end == 0 || frame.end > left ? left : frame.end;
     }
     free(stream.bytes);

@@ -1,11 +1,11 @@
-/* sources [--lenient] ROOT FILE..: says whether sources of proto3 make types, as `pbtool compile` does, by the strict grammar or leniently. Each FILE is named as imports name it, from ROOT on. What a
- * source imports has to be among them. */
+/* sources [--lenient] ROOT FILE..: checks that sources of proto3 link, as `pbtool compile` does, by the strict grammar or leniently. FILE is a name as in an
+ * import, below ROOT. The files that a source imports have to be among the FILEs. */
 #include "common.h"
 
 #include <stdlib.h>
 #include <string.h>
 
-/* A source, by its name. */
+/* The source with a name. */
 static struct buffer read_source(const char *root, const char *name)
 {
     struct buffer path = {0};
@@ -39,7 +39,7 @@ int main(int argc, char **argv)
         names[i] = (struct mb_bytes){(const uint8_t *)argv[i + 2], strlen(argv[i + 2])};
         texts[i] = (struct mb_bytes){source.bytes, source.len};
     }
-    /* Where the names are longer than the buffer, their lengths are reported: once more with that much. */
+    /* If the names are longer than the buffer, the call reports their lengths: call again with a buffer of this length. */
     do {
         grow(&text, refusal.file_len + refusal.name_len + 256);
         answer = (is_lenient ? mb_pool_compile_lenient : mb_pool_compile)(names, count, texts, count, &pool, &refusal, text.bytes, text.capacity);

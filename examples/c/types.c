@@ -1,20 +1,20 @@
-/* types [--lenient] SET: prints what a set declares, a line each, as `pbtool types` does, but for what lenient reading left out. */
+/* types [--lenient] SET: prints the declarations of a set, a line each, as `pbtool types` does, without the parts that lenient reading left out. */
 #include "common.h"
 
 #include <inttypes.h>
 #include <stdlib.h>
 #include <string.h>
 
-/* The kinds by their numbers, but for messages, groups and enums, which have names of their own. */
+/* The kinds by their numbers. Messages, groups and enums have names of their own. */
 static const char *const kinds[19] = {
     [1] = "double", "float", "int64", "uint64", "int32", "fixed64", "fixed32", "bool", "string",
     [12] = "bytes", "uint32", [15] = "sfixed32", "sfixed64", "sint32", "sint64",
 };
 
-/* A name in a buffer that holds the longest one so far. */
+/* A name, in a buffer that holds the longest name so far. */
 static struct buffer name;
 
-/* Whether a call did not find the buffer large enough for the whole name: then it is made large enough, and the call is to be made again. */
+/* Whether the buffer was too small for the whole name. Then it is made large enough, and the caller has to call again. */
 static bool is_cut(void)
 {
     if (name.len <= name.capacity)
@@ -71,7 +71,7 @@ static struct mb_field field_at(struct mb_pool *pool, uint32_t type, size_t inde
     return report;
 }
 
-/* Prints what the values of a field are. */
+/* Prints the kind of the values of a field. */
 static void print_kind(struct mb_pool *pool, const struct mb_field *field)
 {
     if (field->kind == 10 || field->kind == 11) {

@@ -1,10 +1,10 @@
-/* walk [--lenient] SET TYPE FILE: lists a stream of messages, each after its length, as `pbtool frames` does. FILE is read piece by piece, so it may be a
- * pipe, and not much more of it is held than one frame. */
+/* walk [--lenient] SET TYPE FILE: prints a stream of messages, each after its length, as `pbtool frames` does. The program reads FILE piece by piece. So FILE
+ * may be a pipe, and the program holds not much more than one frame of it. */
 #include "common.h"
 
 #include <stdlib.h>
 
-/* Lists a message one level in. Returns what mb_show answers. */
+/* Prints a message, indented by one level. Returns the answer of mb_show. */
 static uint32_t list(struct mb_pool *pool, uint32_t type, const uint8_t *bytes, size_t len, struct buffer *listing, struct report *report)
 {
     uint32_t answer;
@@ -22,7 +22,7 @@ static uint32_t list(struct mb_pool *pool, uint32_t type, const uint8_t *bytes, 
     return answer;
 }
 
-/* Tells why the bytes begin with no frame, and returns the status to exit with. For MB_PART the file ends in it. */
+/* Reports why the bytes begin with no frame, and returns the exit status. For MB_PART the file ends inside the frame. */
 static int print_frame_refusal(uint32_t answer, struct mb_pool *pool, uint32_t type, const uint8_t *bytes, size_t len, size_t number, struct report *report)
 {
     if (answer == MB_PART) {

@@ -1,6 +1,5 @@
-/* whole SET TYPE FILE MORE: decodes the message that a file holds, copies it, and decodes the bytes of another file onto the copy. Prints whether the copy
- * was equal before and is after, the canonical bytes, the frame and the unknown records of the copy in hexadecimal digits, and which member of each oneof
- * is set. */
+/* whole SET TYPE FILE MORE: decodes the message in FILE, copies it, and decodes the bytes of MORE onto the copy. Prints whether the copy equals the message
+ * before and after this; the canonical bytes, the frame and the unknown records of the copy in hexadecimal digits; and the set member of each oneof. */
 #include "common.h"
 
 #include <inttypes.h>
@@ -34,7 +33,7 @@ static uint32_t frame(uint8_t *out, size_t capacity, size_t *size)
     return mb_message_frame(&copy, out, capacity, size);
 }
 
-/* Prints what a call writes, in a buffer that grows where it was too small. */
+/* Prints the output of a call. If the buffer is too small, it is made larger. */
 static uint32_t print_written(const char *what, uint32_t (*write)(uint8_t *, size_t, size_t *))
 {
     struct buffer out = {0};

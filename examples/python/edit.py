@@ -1,4 +1,4 @@
-"""Changes fields of a shop.Order and writes it back: edit.py SET IN OUT. Its state is 2, PAID, its first line has one piece more, and it has another line."""
+"""Changes fields of a shop.Order and writes it to OUT: edit.py SET IN OUT. Its state is 2 (PAID), its first line has one piece more, and it has one more line."""
 import sys
 
 from mabristu import Pool

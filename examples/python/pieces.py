@@ -1,5 +1,5 @@
-"""Decodes the message that a file holds as it arrives, and prints its canonical bytes in hexadecimal digits: pieces.py SIZE SET TYPE FILE. It refuses bytes
-with the first piece that settles their fault."""
+"""Decodes the message in a file in pieces, and prints its canonical bytes in hexadecimal digits: pieces.py SIZE SET TYPE FILE. It refuses the bytes at the
+first piece after which no further bytes can repair their fault."""
 import sys
 
 from mabristu import Pool, Refused

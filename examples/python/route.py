@@ -1,4 +1,4 @@
-"""Routes the messages of a stream by a field, which is read from the bytes: route.py SET TYPE FIELD STREAM. Prints where each one begins and its value."""
+"""Reads a field from the bytes of each message of a stream: route.py SET TYPE FIELD STREAM. Prints where each message begins, and the value of the field."""
 import sys
 
 from mabristu import Pool

@@ -1,5 +1,5 @@
-"""A message as a dict, and back: to_dict.py SET TYPE FILE prints the dict, and fails where the message of that dict is another than the one that was read.
-Unknown records are no fields, so they are dropped first."""
+"""A message as a dict, and back: to_dict.py SET TYPE FILE prints the dict. It fails if the message that this dict gives is another message. A dict has no
+unknown fields, so the program drops them first."""
 import pprint
 import sys
 

@@ -1,4 +1,4 @@
-//! Changes fields of a shop.Order and writes it back: edit SET IN OUT. Its state is 2, PAID, its first line has one piece more, and it has another line.
+//! Changes fields of a shop.Order and writes it to OUT: edit SET IN OUT. Its state is 2 (PAID), its first line has one piece more, and it has one more line.
 use mabristu::{Pool, Value};
 use std::{env, fs};
 

@@ -1,5 +1,5 @@
-//! Decodes the message that a file holds as it arrives, and prints its canonical bytes in hexadecimal digits: pieces SIZE SET TYPE FILE. It refuses bytes
-//! with the first piece that settles their fault.
+//! Decodes the message in a file in pieces, and prints its canonical bytes in hexadecimal digits: pieces SIZE SET TYPE FILE. It refuses the bytes at the
+//! first piece after which no further bytes can repair their fault.
 use mabristu::{Decoder, Error, Pool};
 use std::{env, error, fs, io::Read, process::ExitCode};
 

@@ -1,4 +1,4 @@
-//! Says what fields of a message type are, and those of the messages in them: schema SET TYPE NAME.., each NAME as lines or lines.price
+//! Prints fields of a message type, or of the messages in its fields: schema SET TYPE NAME.., each NAME as lines or lines.price
 use mabristu::{Error, Pool};
 use std::{env, fs};
 

@@ -1,5 +1,5 @@
-//! A message as maps and lists, and back: to_map SET TYPE FILE prints them, and fails where the message of them is another than the one that was read.
-//! Unknown records are no fields, so they are dropped first.
+//! A message as maps and lists, and back: to_map SET TYPE FILE prints them. It fails if the message that they give is another message. Maps have no unknown
+//! fields, so the program drops them first.
 use mabristu::{Error, Key, Message, Part, PartMut, Pool, Value};
 use std::collections::BTreeMap;
 use std::{env, fs};
