@@ -1,0 +1,3 @@
+pub mod NameHash
+pub mod NameIndex
+pub mod NameSets
