@@ -254,11 +254,26 @@ static bool change(Node *node, Field *field, const struct mb_value *step, PyObje
     return make_change(&act);
 }
 
+/* Puts a value in a whole message that has no parts: the place is the step alone, and the change concerns nothing else. */
+static inline bool put_alone(const struct act *act)
+{
+    struct mb_bytes string = {NULL, 0};
+    bool has_string = act->given->held != NULL;
+
+    if (has_string)
+        string = bytes_in(act->given->held);
+    uint32_t answer = act->put(&act->node->handle, act->step, 1, &string, has_string, &act->given->value);
+    if (answer == MB_DONE)
+        has_changed(act->node);
+    return is_changed(act, answer);
+}
+
 static bool put(Node *node, Field *field, const struct mb_value *step, PyObject *key, putter *call, PyObject *object)
 {
     struct given given = {{0, 0}, NULL};
     struct act act = {node, field, step, key, NULL, call, &given};
-    bool is_done = give(field, object, &given) && make_change(&act);
+    /* To give an object may run code of Python, so it comes first. */
+    bool is_done = give(field, object, &given) && (node->root == NULL && node->parts == NULL ? put_alone(&act) : make_change(&act));
 
     Py_XDECREF(given.held);
     return is_done;

@@ -154,12 +154,15 @@ static bool read_view(Node *node)
     return false;
 }
 
-/* Whether the bytes that were given say what is in a message. */
+/* Whether the bytes that were given say what is in a message. Once they are forgotten, the node no longer asks. */
 static inline bool is_said(Node *node)
 {
-    if (node->view == NO_VIEW || !has_given(node))
+    if (node->view == NO_VIEW)
         return false;
-    return node->view == READ || read_view(node);
+    if (has_given(node))
+        return node->view == READ || read_view(node);
+    drop_view(node);
+    return false;
 }
 
 /* The record of a field that is set. */

@@ -1,5 +1,6 @@
 pub mod Plain
 pub mod Places
+pub mod Steps
 pub mod Answers
 pub mod Keys
 pub mod NewValue

@@ -28,7 +28,7 @@ fn found_at<'a>(
         (IsMissed (IsAt keys.now place.now message.entry None) keys.now place.now) }
 {
     let steps = place_of(alloc, place, keys)?;
-    match at(message, &steps) {
+    match at(message, steps.as_slice()) {
         Some(found) => Ok(found),
         None => Err(Miss::Absent),
     }
@@ -100,7 +100,7 @@ pub fn key_at<'a>(
         place.now) }
 {
     let steps = place_of(alloc, place, keys)?;
-    match key_of(message, &steps, index) {
+    match key_of(message, steps.as_slice(), index) {
         Some(key) => Ok(key),
         None => Err(Miss::Absent),
     }
@@ -122,7 +122,7 @@ pub fn fields_at(
     ensures unwritten { IsErr result → buffer.new ≡ buffer.old }
 {
     let steps = place_of(alloc, place, keys)?;
-    match numbers_at(message, &steps, buffer) {
+    match numbers_at(message, steps.as_slice(), buffer) {
         Some(count) => Ok(count),
         None => Err(Miss::Absent),
     }
@@ -142,7 +142,7 @@ pub fn oneof_at(
         place.now) }
 {
     let steps = place_of(alloc, place, keys)?;
-    match which_oneof_at(message, &steps, oneof) {
+    match which_oneof_at(message, steps.as_slice(), oneof) {
         Some(number) => Ok(number),
         None => Err(Miss::Absent),
     }
@@ -175,7 +175,7 @@ pub fn unknown_at(
         (IsMissed (Answers unknown_in keys.now place.now message.entry None) keys.now place.now) }
 {
     let steps = place_of(alloc, place, keys)?;
-    match records_at(message, &steps) {
+    match records_at(message, steps.as_slice()) {
         Some(records) => shortest_of(alloc, records),
         None => Err(Miss::Absent),
     }

@@ -8,6 +8,7 @@ ghost use Rattle.pb_place.specs.Changed.{set, clear, push, insert, remove, set_e
 ghost use Rattle.pb_place.specs.Changed.{index_place, most_at, target, refusal, IsChangedAt};
 ghost use Rattle.pb_place.specs.declared.error.ChangeError.TheVariants.{Absent};
 ghost use Rattle.pb_c_message.specs.Places.{places};
+ghost use Rattle.pb_c_message.specs.Steps.{steps_held};
 ghost use Rattle.pb_c_message.specs.NewValue.{value_said};
 ghost use Rattle.pb_c_message.specs.Ends.{Ends, FieldEnds, ElementEnds, ByIndex, EntryRemoved, OrElse, Says};
 ghost use Rattle.pb_c_message.specs.Ends.{entry_place, put_ends, ends_at, ends, IsEnded, IsFor};
@@ -17,6 +18,7 @@ ghost use Rattle.pb_c_message.specs.declared.unchanged.Unchanged.TheVariants.{Ba
 use crate::miss::Miss;
 use crate::new_value::value_of;
 use crate::place::place_of;
+use crate::steps::Steps;
 use crate::unchanged::Unchanged;
 use crate::value::PlainValue;
 use pb_place::{
@@ -51,12 +53,8 @@ pub enum PlainChange {
 }
 
 /// The steps of a place.
-fn steps_of(
-    alloc: Global,
-    place: &[PlainValue],
-    given: &[&[u8]],
-) -> Result<Vec<PlaceStep>, Unchanged>
-    ensures { MatchResult result (λ p. Says given.now place.now p.items)
+fn steps_of(alloc: Global, place: &[PlainValue], given: &[&[u8]]) -> Result<Steps, Unchanged>
+    ensures { MatchResult result (λ p. Says given.now place.now (steps_held p))
         (IsFor BadPlace (places given.now place.now ≡ None)) }
 {
     match place_of(alloc, place, given) {
@@ -79,11 +77,11 @@ fn said(alloc: Global, value: PlainValue, given: &[&[u8]]) -> Result<Value, Unch
 }
 
 /// The place of the map and the key of a place that ends at a key.
-fn key_at_end(place: Vec<PlaceStep>) -> Option<(Vec<PlaceStep>, MapKey)>
-    ensures { option_map (λ q. (q.0.items, key_view q.1)) result ≡ entry_place place.items }
+fn key_at_end(alloc: Global, place: Steps) -> Option<(Steps, MapKey)>
+    ensures { option_map (λ q. (steps_held q.0, key_view q.1)) result
+        ≡ entry_place (steps_held place) }
 {
-    let mut parent = place;
-    let last = parent.pop()?;
+    let (parent, last) = place.split_last(alloc)?;
     match last {
         PlaceStep::Key(key) => Some((parent, key)),
         _ => None,
@@ -227,37 +225,37 @@ fn drop_unknown(message: &mut DynamicMessage<'_>, place: &[PlaceStep]) -> Result
 /// Puts a value under the key that a place ends at.
 fn insert_at_end(
     message: &mut DynamicMessage<'_>,
-    place: Vec<PlaceStep>,
+    place: Steps,
     value: Value,
 ) -> Result<(), Unchanged>
-    ensures { IsEnded (OrElse (Refused Absent) (entry_place place.items)
+    ensures { IsEnded (OrElse (Refused Absent) (entry_place (steps_held place))
         (λ q. FieldEnds q.0 (insert q.1 (value_view value)) message.old)) message.old message.new
         result }
 {
-    match key_at_end(place) {
-        Some((parent, key)) => insert(message, &parent, key, value),
+    match key_at_end(message.alloc(), place) {
+        Some((parent, key)) => insert(message, parent.as_slice(), key, value),
         None => Err(Unchanged::Refused(ChangeError::Absent)),
     }
 }
 
 /// Removes the entry of the key that a place ends at.
-fn remove_entry(message: &mut DynamicMessage<'_>, place: Vec<PlaceStep>) -> Result<(), Unchanged>
-    ensures { IsEnded (EntryRemoved place.items message.old) message.old message.new result }
+fn remove_entry(message: &mut DynamicMessage<'_>, place: Steps) -> Result<(), Unchanged>
+    ensures { IsEnded (EntryRemoved (steps_held place) message.old) message.old message.new result }
 {
-    match key_at_end(place) {
-        Some((parent, key)) => remove(message, &parent, key),
+    match key_at_end(message.alloc(), place) {
+        Some((parent, key)) => remove(message, parent.as_slice(), key),
         None => Err(Unchanged::Refused(ChangeError::Absent)),
     }
 }
 
 /// Removes the element or the entry that a place ends at.
-fn remove_at_end(message: &mut DynamicMessage<'_>, place: Vec<PlaceStep>) -> Result<(), Unchanged>
-    ensures { IsEnded (ByIndex (index_place place.items)
-        (ElementEnds place.items remove_element message.old) (EntryRemoved place.items message.old))
+fn remove_at_end(message: &mut DynamicMessage<'_>, place: Steps) -> Result<(), Unchanged>
+    ensures { IsEnded (ByIndex (index_place (steps_held place))
+        (ElementEnds (steps_held place) remove_element message.old) (EntryRemoved (steps_held place) message.old))
         message.old message.new result }
 {
-    if ends_at_index(&place) {
-        remove_element(message, &place)
+    if ends_at_index(place.as_slice()) {
+        remove_element(message, place.as_slice())
     } else {
         remove_entry(message, place)
     }
@@ -266,16 +264,16 @@ fn remove_at_end(message: &mut DynamicMessage<'_>, place: Vec<PlaceStep>) -> Res
 /// Makes a change that brings a value.
 fn put_value(
     message: &mut DynamicMessage<'_>,
-    place: Vec<PlaceStep>,
+    place: Steps,
     how: Put,
     value: Value,
 ) -> Result<(), Unchanged>
-    ensures { IsEnded (put_ends how message.old place.items (value_view value)) message.old
+    ensures { IsEnded (put_ends how message.old (steps_held place) (value_view value)) message.old
         message.new result }
 {
     match how {
-        Put::Set => set(message, &place, value),
-        Put::Push => push(message, &place, value),
+        Put::Set => set(message, place.as_slice(), value),
+        Put::Push => push(message, place.as_slice(), value),
         Put::Insert => insert_at_end(message, place, value),
     }
 }
@@ -284,13 +282,13 @@ fn put_value(
 fn put_said(
     alloc: Global,
     message: &mut DynamicMessage<'_>,
-    place: Vec<PlaceStep>,
+    place: Steps,
     given: &[&[u8]],
     how: Put,
     value: PlainValue,
 ) -> Result<(), Unchanged>
     ensures { IsEnded (OrElse BadValue (value_said given.now value)
-        (put_ends how message.old place.items)) message.old message.new result }
+        (put_ends how message.old (steps_held place))) message.old message.new result }
 {
     match said(alloc, value, given) {
         Ok(value) => put_value(message, place, how, value),
@@ -302,18 +300,18 @@ fn put_said(
 fn change_at(
     alloc: Global,
     message: &mut DynamicMessage<'_>,
-    place: Vec<PlaceStep>,
+    place: Steps,
     given: &[&[u8]],
     change: PlainChange,
 ) -> Result<(), Unchanged>
-    ensures { IsEnded (ends_at given.now change message.old place.items) message.old message.new
+    ensures { IsEnded (ends_at given.now change message.old (steps_held place)) message.old message.new
         result }
 {
     match change {
         PlainChange::Put(how, value) => put_said(alloc, message, place, given, how, value),
-        PlainChange::Clear => clear(message, &place),
+        PlainChange::Clear => clear(message, place.as_slice()),
         PlainChange::Remove => remove_at_end(message, place),
-        PlainChange::DropUnknown => drop_unknown(message, &place),
+        PlainChange::DropUnknown => drop_unknown(message, place.as_slice()),
     }
 }
 

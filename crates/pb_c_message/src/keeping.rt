@@ -64,6 +64,7 @@ fn build(alloc: Global, pool: &Pool, message_type: MessageId, bytes: &[u8]) -> O
 
 /// Takes out the fields of a message, built first where its bytes are held. Where memory runs out for that, there are none, and what is held is
 /// as before. Fields that are held are always given.
+#[inline(always)]
 pub fn take_body(
     alloc: Global,
     pool: &Pool,

@@ -156,7 +156,7 @@ pub fn keys_at(
     ensures unwritten { IsErr result → (buffer.new ≡ buffer.old) × (out.new ≡ out.old) }
 {
     let steps = place_of(alloc, place, keys)?;
-    let Some(entries) = map_at(message, &steps) else {
+    let Some(entries) = map_at(message, steps.as_slice()) else {
         return Err(Miss::Absent);
     };
     match report_keys(entries, first, buffer, out) {

@@ -17,6 +17,7 @@ mod miss;
 mod new_value;
 mod place;
 mod scalar;
+mod steps;
 mod unchanged;
 mod value;
 
@@ -30,6 +31,7 @@ pub use keys::{KeyCounts, keys_at};
 pub use miss::Miss;
 pub use place::{int32_said, key_of, place_of, uint32_said};
 pub use scalar::{scalar_bytes, scalar_value};
+pub use steps::Steps;
 pub use unchanged::Unchanged;
 pub use value::{
     BOOL, BYTES, DOUBLE, ENUM, FIELD, FLOAT, INDEX, INT32, INT64, LIST, MAP, MESSAGE, PlainValue,

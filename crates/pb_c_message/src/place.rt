@@ -5,8 +5,10 @@ ghost use Rattle.std.specs.Int.{cast_signed};
 ghost use Rattle.pb_value.specs.View.{key_view};
 ghost use Rattle.pb_c_message.specs.Places.{bool_said, int32_said, uint32_said, key_kind, number_key_said, text_key_said, key_said, said, places, step_view};
 ghost use Rattle.pb_c_message.specs.Answers.{IsUnsaid};
+ghost use Rattle.pb_c_message.specs.Steps.{steps_held};
 
 use crate::miss::Miss;
+use crate::steps::Steps;
 use crate::value::{
     BOOL, FIELD, INDEX, INT32, INT64, PlainValue, STRING, UINT32, UINT64, all_bits,
 };
@@ -102,6 +104,7 @@ fn text_key(alloc: Global, number: u64, keys: &[&[u8]]) -> Result<MapKey, Miss>
 }
 
 /// The key that a kind and a number say. A string is the one of that index among those that are given, and has to be UTF-8.
+#[inline(always)]
 pub fn key_of(alloc: Global, kind: u32, number: u64, keys: &[&[u8]]) -> Result<MapKey, Miss>
     ensures { MatchResult result (λ k. key_said keys.now kind number ≡ Some (key_view k))
         (IsUnsaid (key_said keys.now kind number ≡ None)) }
@@ -134,8 +137,8 @@ fn step_of(alloc: Global, step: PlainValue, keys: &[&[u8]]) -> Result<PlaceStep,
     Ok(PlaceStep::Key(key))
 }
 
-/// The steps of a place.
-pub fn place_of(alloc: Global, place: &[PlainValue], keys: &[&[u8]]) -> Result<Vec<PlaceStep>, Miss>
+/// The steps of a place, read one after another.
+fn read_steps(alloc: Global, place: &[PlainValue], keys: &[&[u8]]) -> Result<Vec<PlaceStep>, Miss>
     ensures { MatchResult result (λ p. places keys.now place.now ≡ Some (map step_view p.items))
         (IsUnsaid (places keys.now place.now ≡ None)) }
 {
@@ -145,4 +148,27 @@ pub fn place_of(alloc: Global, place: &[PlainValue], keys: &[&[u8]]) -> Result<V
         steps.push(next)?;
     }
     Ok(steps)
+}
+
+/// The steps of a place.
+pub fn place_of(alloc: Global, place: &[PlainValue], keys: &[&[u8]]) -> Result<Steps, Miss>
+    ensures { MatchResult result
+        (λ p. places keys.now place.now ≡ Some (map step_view (steps_held p)))
+        (IsUnsaid (places keys.now place.now ≡ None)) }
+{
+    match place {
+        [step] => {
+            let step = step_of(alloc, *step, keys)?;
+            Ok(Steps::One(step))
+        }
+        [first, second] => {
+            let first = step_of(alloc, *first, keys)?;
+            let second = step_of(alloc, *second, keys)?;
+            Ok(Steps::Two([first, second]))
+        }
+        _ => {
+            let steps = read_steps(alloc, place, keys)?;
+            Ok(Steps::Several(steps))
+        }
+    }
 }

@@ -1,16 +1,14 @@
 //! Changes of one message.
 
-ghost use Rattle.std.specs.Prelude.{◌≡◌, [], ◌↔◌, ◌≤◌, Some, IfOk, OnErr, IsTrue, option_map};
+ghost use Rattle.std.specs.Prelude.{◌≡◌, [], ◌↔◌, ◌≤◌, IfOk, OnErr, IsTrue, option_map};
 ghost use Rattle.pb_value.specs.Change.{push_cause};
-ghost use Rattle.pb_value.specs.Cause.{or_else, FailsWith, IsRefusedBy};
+ghost use Rattle.pb_value.specs.Cause.{IsRefusedBy};
 ghost use Rattle.pb_value.specs.Data.{body, fields_of};
 ghost use Rattle.pb_value.specs.View.{body_view, key_view, value_view};
-ghost use Rattle.pb_value.specs.declared.error.ValueError.TheVariants.{TooDeep};
-ghost use Rattle.pb_place.specs.Changed.{brings, drop_unknown, remove, remove_element, set_element, edit_cause, edited, taken_out, refusal, IsRefused};
+ghost use Rattle.pb_place.specs.Changed.{brings, drop_unknown, remove, remove_element, set_element, edit_cause, edited, taken_out};
 ghost use Rattle.pb_place.specs.Edits.{edit_of};
 
 use crate::element::{judged, put_element, remove_element as take_element};
-use crate::error::ChangeError;
 use crate::removing::remove_entry;
 use crate::walk::into_well_formed;
 use pb_value::bodies::{content_within, entry_within, from_well_formed, value_within};
@@ -89,40 +87,6 @@ impl Change {
                 Ok(None)
             }
         }
-    }
-
-    /// Why the change is refused, which brings more levels than may be added: for what the message refuses anyway, or else the depth.
-    fn too_deep(self, message: &DynamicMessage<'_>) -> ValueError
-        ensures { FailsWith (or_else (edit_cause (edit_of self) message.now.pool message.now.kind)
-            (Some TooDeep)) result }
-    {
-        let mut blank = DynamicMessage::new(
-            message.alloc(),
-            message.pool(),
-            message.message_type(),
-        );
-        match self.make(&mut blank) {
-            Ok(_) => ValueError::TooDeep,
-            Err(cause) => cause,
-        }
-    }
-
-    /// Makes the change in a message below which at most this many levels may be added. The answer is what was taken out of it.
-    pub(crate) fn make_within(
-        self,
-        message: &mut DynamicMessage<'_>,
-        most: u8,
-    ) -> Result<Option<Value>, ChangeError>
-        ensures ok { IfOk result (λ _. message.new ≡ edited (edit_of self) message.old) }
-        ensures out { IfOk result (λ v. option_map value_view v
-            ≡ taken_out (edit_of self) message.old) }
-        ensures err { OnErr result (message.new ≡ message.old) }
-        ensures judged { IsRefused result (refusal most (edit_of self) (Some message.old)) }
-    {
-        if !self.brings_at_most(most) {
-            return Err(ChangeError::Refused(self.too_deep(message)));
-        }
-        Ok(self.make(message)?)
     }
 }
 

@@ -12,8 +12,9 @@ ghost use Rattle.pb_place.specs.Edits.{edit_of};
 use crate::asking::is_set;
 use crate::change::Change;
 use crate::error::ChangeError;
+use crate::pending::Pending;
 use crate::step::PlaceStep;
-use crate::walk::{Pending, Walk, into_well_formed};
+use crate::walk::{Walk, into_well_formed};
 use pb_value::bodies::{MAX_LEVELS, from_well_formed};
 use pb_value::{Content, DynamicMessage, MapKey, Value};
 use std::mem;
@@ -31,56 +32,55 @@ fn most_at(place: &[PlaceStep]) -> u8
     left
 }
 
-/// Makes a change in the message at a place, below which at most this many levels may be added. The answer is what was taken out of it.
+/// Makes a change in the message at a place, below which at most this many levels may be added.
 fn change_inside(
     message: &mut DynamicMessage<'_>,
     place: &[PlaceStep],
     most: u8,
-    change: Change,
-) -> Result<Option<Value>, ChangeError>
+    pending: &mut Pending,
+) -> Result<(), ChangeError>
     requires { most ≡ most_at place.now }
-    ensures ok { IfOk result (λ _. IsChangedAt place.now (edit_of change) message.old message.new) }
-    ensures out { IfOk result (λ v. Some (option_map value_view v)
-        ≡ option_map (taken_out (edit_of change)) (target place.now (message_part message.old))) }
+    ensures ok { OnOk result (IsChangedAt place.now (edit_of pending.old.change) message.old
+        message.new) }
+    ensures out { OnOk result (Some (option_map value_view pending.new.taken)
+        ≡ option_map (taken_out (edit_of pending.old.change))
+        (target place.now (message_part message.old))) }
     ensures err { OnErr result (message.new ≡ message.old) }
     ensures judged { IsRefused result
-        (refusal most (edit_of change) (target place.now (message_part message.old))) }
+        (refusal most (edit_of pending.old.change) (target place.now (message_part message.old))) }
 {
     let alloc = message.alloc();
     let pool = message.pool();
     let message_type = message.message_type();
     let walk = Walk { alloc, pool, most };
-    let mut pending = Pending {
-        change,
-        taken: None,
-    };
     let whole = mem::replace(message, DynamicMessage::new(alloc, pool, message_type));
     let mut body = into_well_formed(whole);
-    let answer = walk.change_in(message_type, &mut body, place, &mut pending);
+    let answer = walk.change_in(message_type, &mut body, place, pending);
     *message = from_well_formed(alloc, pool, message_type, body);
-    answer?;
-    Ok(pending.taken)
+    answer
 }
 
-/// Makes a change in the message at a place. The answer is what was taken out of it.
+/// Makes a change in the message at a place.
 pub(crate) fn change_at(
     message: &mut DynamicMessage<'_>,
     place: &[PlaceStep],
-    change: Change,
-) -> Result<Option<Value>, ChangeError>
-    ensures ok { IfOk result (λ _. IsChangedAt place.now (edit_of change) message.old message.new) }
-    ensures out { IfOk result (λ v. Some (option_map value_view v)
-        ≡ option_map (taken_out (edit_of change)) (target place.now (message_part message.old))) }
+    pending: &mut Pending,
+) -> Result<(), ChangeError>
+    ensures ok { OnOk result (IsChangedAt place.now (edit_of pending.old.change) message.old
+        message.new) }
+    ensures out { OnOk result (Some (option_map value_view pending.new.taken)
+        ≡ option_map (taken_out (edit_of pending.old.change))
+        (target place.now (message_part message.old))) }
     ensures err { OnErr result (message.new ≡ message.old) }
     ensures judged { IsRefused result
-        (refusal (most_at place.now) (edit_of change)
+        (refusal (most_at place.now) (edit_of pending.old.change)
         (target place.now (message_part message.old))) }
 {
     let most = most_at(place);
     if place.is_empty() {
-        return change.make_within(message, most);
+        return pending.make_within(message, most);
     }
-    change_inside(message, place, most, change)
+    change_inside(message, place, most, pending)
 }
 
 /// The place of the message and the number of the field that a place ends at.
@@ -158,8 +158,8 @@ pub fn set_at(
     if parent.is_empty() {
         return set_field(message, number, content);
     }
-    drop(change_at(message, parent, Change::Set(number, content))?);
-    Ok(())
+    let mut pending = Pending::of(Change::Set(number, content));
+    change_at(message, parent, &mut pending)
 }
 
 /// Clears the field that a place ends at, in the message that the steps before it lead to.
@@ -173,8 +173,8 @@ pub fn clear_at(message: &mut DynamicMessage<'_>, place: &[PlaceStep]) -> Result
     let Some((parent, number)) = field_at_end(place) else {
         return Err(ChangeError::Absent);
     };
-    drop(change_at(message, parent, Change::Clear(number))?);
-    Ok(())
+    let mut pending = Pending::of(Change::Clear(number));
+    change_at(message, parent, &mut pending)
 }
 
 /// Puts a value at the end of the list at a place that ends at a field, in the message that the steps before it lead to.
@@ -193,8 +193,8 @@ pub fn push_at(
     let Some((parent, number)) = field_at_end(place) else {
         return Err(ChangeError::Absent);
     };
-    drop(change_at(message, parent, Change::Push(number, value))?);
-    Ok(())
+    let mut pending = Pending::of(Change::Push(number, value));
+    change_at(message, parent, &mut pending)
 }
 
 /// Puts a value under a key of the map at a place that ends at a field, in the message that the steps before it lead to. The answer is
@@ -218,7 +218,9 @@ pub fn insert_at(
     let Some((parent, number)) = field_at_end(place) else {
         return Err(ChangeError::Absent);
     };
-    Ok(change_at(message, parent, Change::Insert(number, key, value))?)
+    let mut pending = Pending::of(Change::Insert(number, key, value));
+    change_at(message, parent, &mut pending)?;
+    Ok(pending.taken)
 }
 
 /// Removes the entry of a key from the map at a place that ends at a field, in the message that the steps before it lead to. The answer is
@@ -240,7 +242,9 @@ pub fn remove_at(
     let Some((parent, number)) = field_at_end(place) else {
         return Err(ChangeError::Absent);
     };
-    Ok(change_at(message, parent, Change::Remove(number, key))?)
+    let mut pending = Pending::of(Change::Remove(number, key));
+    change_at(message, parent, &mut pending)?;
+    Ok(pending.taken)
 }
 
 /// Puts a value in place of the element of a list that a place ends at. The answer is the value that was there.
@@ -263,7 +267,9 @@ pub fn set_element_at(
     let Some(((parent, number), index)) = element_at_end(message, place) else {
         return Err(ChangeError::Absent);
     };
-    Ok(change_at(message, parent, Change::SetElement(number, index, value))?)
+    let mut pending = Pending::of(Change::SetElement(number, index, value));
+    change_at(message, parent, &mut pending)?;
+    Ok(pending.taken)
 }
 
 /// Removes the element of a list that a place ends at, and the elements after it move up. The answer is the value that was there. A list without
@@ -283,7 +289,9 @@ pub fn remove_element_at(
     let Some(((parent, number), index)) = element_at_end(message, place) else {
         return Err(ChangeError::Absent);
     };
-    Ok(change_at(message, parent, Change::RemoveElement(number, index))?)
+    let mut pending = Pending::of(Change::RemoveElement(number, index));
+    change_at(message, parent, &mut pending)?;
+    Ok(pending.taken)
 }
 
 /// Drops the unknown records of the message at a place, and changes nothing else. The call is refused where no message is at the place.
@@ -296,6 +304,6 @@ pub fn drop_unknown_at(
     ensures judged { IsRefused result
         (refusal (most_at place.now) drop_unknown (target place.now (message_part message.old))) }
 {
-    drop(change_at(message, place, Change::DropUnknown)?);
-    Ok(())
+    let mut pending = Pending::of(Change::DropUnknown);
+    change_at(message, place, &mut pending)
 }

@@ -9,6 +9,7 @@ mod change;
 mod changing;
 mod element;
 mod error;
+mod pending;
 mod reading;
 mod removing;
 mod step;

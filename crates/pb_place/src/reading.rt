@@ -1,8 +1,8 @@
 //! What a message has at a place.
 
 ghost use Rattle.std.specs.Prelude.{◌≡◌, ◌∷◌, Some, option_map};
-ghost use Rattle.pb_value.specs.Data.{fields_of, get_field, list, map};
-ghost use Rattle.pb_value.specs.Inner.{type_named};
+ghost use Rattle.pb_value.specs.Data.{fields_of, get_field, list, map, one};
+ghost use Rattle.pb_value.specs.Inner.{inner_message, only_datum, type_named};
 ghost use Rattle.pb_value.specs.View.{entries_view, value_view, values_view};
 ghost use Rattle.pb_place.specs.At.{as_part, at, list_part, map_part, part_at, seen};
 ghost use Rattle.pb_place.specs.Found.{found_view};
@@ -46,9 +46,21 @@ fn at_field<'a>(message: MessageRef<'a>, number: u32, rest: &[PlaceStep]) -> Opt
     ensures { option_map found_view result ≡ at (Field number ∷ rest.now) message.entry }
 {
     match message.get(number)? {
-        Content::One(value) => in_value(value, message.message(number), rest),
+        Content::One(value) => in_value(value, message_alone(message, number, value), rest),
         Content::List(values) => in_list(message, number, values, rest),
         Content::Map(entries) => in_map(message, number, entries, rest),
+    }
+}
+
+/// The message that the field of a number holds, where this value is all that it holds. Only for a value that is a message is the field looked up
+/// again.
+fn message_alone<'a>(message: MessageRef<'a>, number: u32, value: &Value) -> Option<MessageRef<'a>>
+    requires { get_field number (fields_of message.body) ≡ Some (one (value_view value.now)) }
+    ensures { result ≡ inner_message only_datum number message.entry }
+{
+    match value {
+        Value::Message(_) => message.message(number),
+        _ => None,
     }
 }
 

@@ -7,8 +7,8 @@ ghost use Rattle.pb_value.specs.View.{body_view, content_view, entries_view, val
 ghost use Rattle.pb_value.specs.WellFormed.{IsWellFormed};
 ghost use Rattle.pb_place.specs.Edits.{edit_of, HoldsParts, IsWalked};
 
-use crate::change::Change;
 use crate::error::ChangeError;
+use crate::pending::Pending;
 use crate::step::PlaceStep;
 use pb_schema::{MessageId, Pool};
 use pb_value::bodies::{empty_body, from_well_formed};
@@ -24,22 +24,6 @@ pub(crate) struct Walk<'p> {
     pub(crate) pool: &'p Pool,
     /// The most levels that may be added below the message.
     pub(crate) most: u8,
-}
-
-/// A change on the way to its message, and then what it took out there.
-#[derive(Drop)]
-pub(crate) struct Pending {
-    pub(crate) change: Change,
-    pub(crate) taken: Option<Value>,
-}
-
-impl Pending {
-    /// Takes the change out, to be made.
-    fn take_change(&mut self) -> Change
-        ensures { result ≡ self.old.change }
-    {
-        mem::replace(&mut self.change, Change::DropUnknown)
-    }
 }
 
 /// The message type that the kind of the field of a number names.
@@ -74,13 +58,11 @@ impl Walk<'_> {
             (edit_of pending.old.change) (one (message (body_view body.old)))
             (one (message (body_view body.new))) result pending.new.taken }
     {
-        let change = pending.take_change();
         let held = mem::replace(body, empty_body(self.alloc));
         let mut message = from_well_formed(self.alloc, self.pool, message_type, held);
-        let answer = change.make_within(&mut message, self.most);
+        let answer = pending.make_within(&mut message, self.most);
         *body = into_well_formed(message);
-        pending.taken = answer?;
-        Ok(())
+        answer
     }
 
     /// Makes a change in the message at a place in a message.

@@ -1,13 +1,14 @@
 use Rattle.std.proofs.Common.{refl, sym}
 use Rattle.pb_place.specs.At.{at}
+use Rattle.pb_c_message.specs.Steps.{steps_held}
 use Rattle.pb_c_message.proofs.asking.key_at.Goals as goal
 
 pub returns-in-Some : goal.returns-in-Some
 returns-in-Some c =
-    let place = c.in_ok-steps.steps.items in
-    (at place c.args.message, (place, c.in_ok-steps.ensures, refl), sym (rw c.deref.ensures.value at c.in-Some.ensures))
+    let place = steps_held c.in_ok-steps.steps in
+    (at place c.args.message, (place, c.in_ok-steps.ensures, refl), sym (rw c.as_slice.ensures at c.in-Some.ensures))
 
 pub returns : goal.returns
 returns c =
-    let place = c.in_ok-steps.steps.items in
-    (at place c.args.message, (place, c.in_ok-steps.ensures, refl), sym (rw c.deref.ensures.value at c.in-None.ensures))
+    let place = steps_held c.in_ok-steps.steps in
+    (at place c.args.message, (place, c.in_ok-steps.ensures, refl), sym (rw c.as_slice.ensures at c.in-None.ensures))

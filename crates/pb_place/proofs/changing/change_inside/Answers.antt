@@ -9,4 +9,4 @@ from_well_formed-requires-clause-well_formed c =
     let m = c.message_type-message_type.result.0 in
     let old = body_view c.into_well_formed-body.result in
     let good = of_whole c.args.message.now c.replace-whole.result pool m old c.replace-whole.ensures.value c.pool-pool.ensures c.message_type-message_type.ensures.named c.into_well_formed-body.ensures.well_formed in
-    well_after pool c.args.most m c.args.place.now (edit_of c.args.change) old (body_view c.change_in-answer.new.body) c.change_in-answer.result c.change_in-answer.new.pending.taken c.requires good c.change_in-answer.ensures
+    well_after pool c.args.most m c.args.place.now (edit_of c.args.pending.now.change) old (body_view c.change_in-answer.new.body) c.change_in-answer.result c.change_in-answer.new.pending.taken c.requires good c.change_in-answer.ensures

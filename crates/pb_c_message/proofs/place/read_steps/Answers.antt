@@ -2,7 +2,7 @@ use Rattle.std.proofs.Common.{◌+◌, drop, sym, ap, ◌∙◌}
 use Rattle.std.proofs.lemmas.Result.{err_from_is_err_and}
 use Rattle.pb_c_message.specs.Places.{places}
 use Rattle.pb_c_message.proofs.StepLemmas.{after, one_more, all_read, none_said}
-use Rattle.pb_c_message.proofs.place.place_of.Goals as goal
+use Rattle.pb_c_message.proofs.place.read_steps.Goals as goal
 
 pub returns-in_err-next : goal.returns-in_err-next
 returns-in_err-next c =
