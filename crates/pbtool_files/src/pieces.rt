@@ -46,7 +46,8 @@ pub fn read_on<'a, I: Input>(
 
 /// Whether the input ends inside a token, a payload or a group, so that more bytes can mend the fault.
 pub fn is_cut(cause: Cause) -> bool
-    ensures { result ≡ false → cause ≢ Cause.Truncated }
+    ensures cut { result ≡ true → cause ≡ Cause.Truncated }
+    ensures other { result ≡ false → cause ≢ Cause.Truncated }
 {
     match cause {
         Cause::Truncated => true,
