@@ -31,7 +31,8 @@ pub struct Overlay<'t, F: Drop> {
 impl<'t, F: Files + Drop> Overlay<'t, F> {
     /// These files under this table. No failure is counted yet.
     pub fn new(files: F, table: &'t [Given<'t>]) -> Overlay<'t, F>
-        ensures contents { ⟦<Overlay<'static, F> as Files>⟧.contents result ≡ contents_over table.now (F.contents files) }
+        ensures contents { ⟦<Overlay<'static, F> as Files>⟧.contents result
+            ≡ contents_over table.now (F.contents files) }
         ensures steady { ⟦<Overlay<'static, F> as Files>⟧.is_steady result ≡ F.is_steady files }
         ensures failures { ⟦<Overlay<'static, F> as Files>⟧.failures result ≡ F.failures files }
     {

@@ -1,6 +1,9 @@
 //! The sources of protobuf's well-known types, as files of a folder that is built in. Each declares what
 //! protobuf's documents say. `descriptor.proto` is of proto2, so that it is read leniently only.
 
+ghost use Rattle.std.specs.Prelude.{◌≡◌, map, IfOk};
+ghost use Rattle.pbtool_layers.specs.BuiltIn.{built_in, source_summary, summary_of};
+
 use crate::overlay::Given;
 use std::alloc::{AllocError, Global};
 
@@ -62,15 +65,25 @@ const SOURCES: &[Source] = &[
 ];
 
 /// The files of the folder that is built in.
-pub fn built_in_files(alloc: Global) -> Result<Vec<Given<'static>>, AllocError> {
+pub fn built_in_files(alloc: Global) -> Result<Vec<Given<'static>>, AllocError>
+    ensures { IfOk result (λ v. map summary_of v.items ≡ built_in) }
+{
+    let sources = sources();
     let mut table = Vec::new(alloc);
-    for source in SOURCES {
+    for source in sources {
         table.push(Given {
             path: source.path,
             bytes: source.text.as_bytes(),
         })?;
     }
     Ok(table)
+}
+
+/// The sources by their paths.
+fn sources() -> &'static [Source]
+    ensures { map source_summary result.now ≡ built_in }
+{
+    SOURCES
 }
 
 const ANY: &str = "syntax = 'proto3';
