@@ -1,6 +1,6 @@
 -- Tokens, one piece after another.
 use Rattle.std.proofs.Common.{◌≡◌, ℕ, ◌+◌, ◌-◌, ◌≤◌, List, [], ◌∷◌, ◌++◌, length, take, drop, Result, Ok, Err, refl, ap, sym, ◌∙◌, subst, append_assoc, append-nil, drop-drop, drop_of_length-le}
-use Rattle.pb_text_tokens.specs.Tokens.{Begins, Front, Lexes, Lexed, PlacedToken, fault_at, placed, quoted_by, with_token}
+use Rattle.pb_text_tokens.specs.Tokens.{Begins, ByFirst, Lexes, Lexed, PlacedToken, fault_at, placed, quoted_by, with_token}
 use Rattle.pb_text_tokens.specs.Characters.{first_of}
 use Rattle.pb_text_tokens.specs.Strings.{Inside, later, stopped}
 use Rattle.pb_text_tokens.specs.declared.bytes.First.{First}
@@ -65,18 +65,18 @@ inside_one (Inside.stops e r) (Inside.closes f) = absurd (cc (e, f))
 inside_one (Inside.stops e r) (Inside.passes f g s) = absurd (cc (e, f))
 inside_one (Inside.stops {c} e r) (Inside.stops {c = d} f s) = let same : c ≡ d = cc (e, f) in r ∙ ap stopped same ∙ sym s
 
-front_one : (w : First) (c : ℕ) (cs : List ℕ) (o p : Result Piece PieceFault) → Front w c cs o → Front w c cs p → o ≡ p
-front_one first.Blank c cs o p g h = g ∙ sym h
-front_one first.Comment c cs o p g h = g ∙ sym h
-front_one first.Word c cs o p g h = g ∙ sym h
-front_one first.Number c cs o p g h = g ∙ sym h
-front_one first.Quote c cs o p (r, g, e) (s, h, f) = e ∙ ap quoted_by (inside_one g h) ∙ sym f
-front_one first.Mark c cs o p g h = g ∙ sym h
-front_one first.Other c cs o p g h = g ∙ sym h
+by_first_one : (w : First) (c : ℕ) (cs : List ℕ) (o p : Result Piece PieceFault) → ByFirst w c cs o → ByFirst w c cs p → o ≡ p
+by_first_one first.Blank c cs o p g h = g ∙ sym h
+by_first_one first.Comment c cs o p g h = g ∙ sym h
+by_first_one first.Word c cs o p g h = g ∙ sym h
+by_first_one first.Number c cs o p g h = g ∙ sym h
+by_first_one first.Quote c cs o p (r, g, e) (s, h, f) = e ∙ ap quoted_by (inside_one g h) ∙ sym f
+by_first_one first.Mark c cs o p g h = g ∙ sym h
+by_first_one first.Other c cs o p g h = g ∙ sym h
 
 pub begins_one : (bs : List ℕ) (o p : Result Piece PieceFault) → Begins bs o → Begins bs p → o ≡ p
 begins_one [] o p g h = absurd g
-begins_one (c ∷ cs) o p g h = front_one (first_of (c ∷ cs)) c cs o p g h
+begins_one (c ∷ cs) o p g h = by_first_one (first_of (c ∷ cs)) c cs o p g h
 
 pub lexes_one : {x : ℕ} {bs : List ℕ} {o p : Lexed} → Lexes x bs o → Lexes x bs p → o ≡ p
 lexes_one (Lexes.done) (Lexes.done) = refl

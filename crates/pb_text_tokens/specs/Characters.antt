@@ -34,7 +34,7 @@ abbrev pub begins_digit : List ℕ → Bool
 begins_digit [] = false
 begins_digit (c ∷ cs) = is_ascii_digit c
 
--- how many bytes at the front pass the test, one after another
+-- how many bytes at the start pass the test, one after another
 abbrev pub run_len : (ℕ → Bool) → List ℕ → ℕ
 run_len test [] = 0
 run_len test (c ∷ cs) = if test c then suc (run_len test cs) else 0

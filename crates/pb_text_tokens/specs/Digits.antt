@@ -6,7 +6,7 @@ use Rattle.std.specs.Char.{digit_value, is_digit}
 abbrev pub digit_of : ℕ → ℕ → Option ℕ
 digit_of base c = if is_digit c base then Some (digit_value c) else None
 
--- the digits at the front, at most this many: how many they are, and their number after the digits of n
+-- the digits at the start, at most this many: how many they are, and their number after the digits of n
 abbrev pub number_from : ℕ → ℕ → ℕ → List ℕ → ℕ × ℕ
 number_from base n zero bs = (0, n)
 number_from base n (suc k) [] = (0, n)

@@ -72,7 +72,7 @@ abbrev pub letter_escape : Option ℕ → Option Escape → Option Escape
 letter_escape (Some v) other = Some (escape 1 (Byte v))
 letter_escape None other = other
 
--- the escape at the front of the bytes after a `\`
+-- the escape at the start of the bytes after a `\`
 abbrev pub escape_of : List ℕ → Option Escape
 escape_of [] = None
 escape_of (c ∷ cs) =
@@ -93,7 +93,7 @@ abbrev pub escape_step : Option Escape → Step
 escape_step (Some e) = Pass (1 + e.len)
 escape_step None = Stop cause.BadEscape
 
--- What a string with this quote has at the front of the bytes: any byte but its quote, `\`, a line feed and NUL is itself.
+-- What a string with this quote has at the start of the bytes: any byte but its quote, `\`, a line feed and NUL is itself.
 abbrev pub step_at : ℕ → List ℕ → Step
 step_at quote [] = Stop cause.OpenString
 step_at quote (c ∷ cs) =
@@ -129,7 +129,7 @@ abbrev pub escaped_meaning : Option Escape → List ℕ
 escaped_meaning None = []
 escaped_meaning (Some e) = bytes_of e.meant
 
--- what the character or the escape at the front means
+-- what the character or the escape at the start means
 abbrev pub unit_meaning : List ℕ → List ℕ
 unit_meaning [] = []
 unit_meaning (c ∷ cs) = if c == 92 then escaped_meaning (escape_of cs) else c ∷ []

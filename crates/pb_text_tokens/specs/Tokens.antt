@@ -25,7 +25,7 @@ pub record PlacedToken : Type 0 where
 abbrev pub refused : ℕ → TokenCause → Result Piece PieceFault
 refused n c = Err (record { offset = n; cause = c })
 
--- a number of so many bytes
+-- a number of n bytes
 abbrev pub number_by : ℕ → Option TokenKind → Result Piece PieceFault
 number_by n None = refused 0 BadNumber
 number_by n (Some k) = Ok (Token k n)
@@ -41,18 +41,18 @@ quoted_by (Err e) = refused (1 + e.offset) e.cause
 abbrev pub IsQuoted : ℕ → List ℕ → Result Piece PieceFault → Type 0
 IsQuoted quote cs o = (r : Result ℕ PieceFault) × Inside quote cs r × (o ≡ quoted_by r)
 
-abbrev pub Front : First → ℕ → List ℕ → Result Piece PieceFault → Type 0
-Front first.Blank c cs o = o ≡ Ok (Gap (1 + run_len is_blank cs))
-Front first.Comment c cs o = o ≡ Ok (Gap (1 + run_len continues_comment cs))
-Front first.Word c cs o = o ≡ Ok (Token Word (1 + run_len continues_word cs))
-Front first.Number c cs o = o ≡ number_piece (1 + number_rest false cs) (c ∷ cs)
-Front first.Quote c cs o = IsQuoted c cs o
-Front first.Mark c cs o = o ≡ Ok (Token Mark 1)
-Front first.Other c cs o = o ≡ refused 0 UnexpectedByte
+abbrev pub ByFirst : First → ℕ → List ℕ → Result Piece PieceFault → Type 0
+ByFirst first.Blank c cs o = o ≡ Ok (Gap (1 + run_len is_blank cs))
+ByFirst first.Comment c cs o = o ≡ Ok (Gap (1 + run_len continues_comment cs))
+ByFirst first.Word c cs o = o ≡ Ok (Token Word (1 + run_len continues_word cs))
+ByFirst first.Number c cs o = o ≡ number_piece (1 + number_rest false cs) (c ∷ cs)
+ByFirst first.Quote c cs o = IsQuoted c cs o
+ByFirst first.Mark c cs o = o ≡ Ok (Token Mark 1)
+ByFirst first.Other c cs o = o ≡ refused 0 UnexpectedByte
 
 abbrev pub Begins : List ℕ → Result Piece PieceFault → Type 0
 Begins [] o = ⊥
-Begins (c ∷ cs) o = Front (first_of (c ∷ cs)) c cs o
+Begins (c ∷ cs) o = ByFirst (first_of (c ∷ cs)) c cs o
 
 -- ---- a whole text
 

@@ -99,7 +99,7 @@ pub(crate) fn first_of(bytes: &[u8]) -> First
     First::Other
 }
 
-/// How many bytes at the front are blanks.
+/// How many bytes at the start are blanks.
 pub(crate) fn blanks_len(bytes: &[u8]) -> usize
     ensures is { result ≡ run_len is_blank bytes.now }
     ensures within { result ≤ length bytes.now }
@@ -112,7 +112,7 @@ pub(crate) fn blanks_len(bytes: &[u8]) -> usize
     bytes.len()
 }
 
-/// How many bytes at the front go on a comment.
+/// How many bytes at the start go on a comment.
 pub(crate) fn comment_len(bytes: &[u8]) -> usize
     ensures is { result ≡ run_len continues_comment bytes.now }
     ensures within { result ≤ length bytes.now }
@@ -125,7 +125,7 @@ pub(crate) fn comment_len(bytes: &[u8]) -> usize
     bytes.len()
 }
 
-/// How many bytes at the front go on a word.
+/// How many bytes at the start go on a word.
 pub(crate) fn word_len(bytes: &[u8]) -> usize
     ensures is { result ≡ run_len continues_word bytes.now }
     ensures within { result ≤ length bytes.now }

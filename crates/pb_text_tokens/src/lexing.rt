@@ -30,7 +30,7 @@ pub(crate) struct PieceFault {
 }
 
 /// The number that the bytes begin with.
-fn number_at_front(bytes: &[u8]) -> Result<Piece, PieceFault>
+fn number_at_start(bytes: &[u8]) -> Result<Piece, PieceFault>
     requires { 0 < length bytes.now }
     ensures is { result ≡ number_piece (1 + number_rest false (drop 1 bytes.now)) bytes.now }
     ensures within { IfOk result (λ p. IsPieceOf bytes.now p) }
@@ -47,7 +47,7 @@ fn number_at_front(bytes: &[u8]) -> Result<Piece, PieceFault>
 }
 
 /// The string that follows a quote, with that quote.
-fn string_at_front(quote: u8, after: &[u8]) -> Result<Piece, PieceFault>
+fn string_at_start(quote: u8, after: &[u8]) -> Result<Piece, PieceFault>
     ensures is { IsQuoted quote after.now result }
     ensures within { IfOk result (λ p. IsPieceOf (quote ∷ after.now) p) }
     ensures bound { IfErr result (λ e. e.offset ≤ 1 + length after.now) }
@@ -62,7 +62,7 @@ fn string_at_front(quote: u8, after: &[u8]) -> Result<Piece, PieceFault>
 }
 
 /// What the bytes begin with.
-fn piece_at_front(bytes: &[u8]) -> Result<Piece, PieceFault>
+fn piece_at_start(bytes: &[u8]) -> Result<Piece, PieceFault>
     requires { 0 < length bytes.now }
     ensures is { Begins bytes.now result }
     ensures within { IfOk result (λ p. IsPieceOf bytes.now p) }
@@ -73,8 +73,8 @@ fn piece_at_front(bytes: &[u8]) -> Result<Piece, PieceFault>
         First::Blank => Ok(Piece::Gap(1 + blanks_len(after))),
         First::Comment => Ok(Piece::Gap(1 + comment_len(after))),
         First::Word => Ok(Piece::Token(TokenKind::Word, 1 + word_len(after))),
-        First::Number => number_at_front(bytes),
-        First::Quote => string_at_front(bytes[0], after),
+        First::Number => number_at_start(bytes),
+        First::Quote => string_at_start(bytes[0], after),
         First::Mark => Ok(Piece::Token(TokenKind::Mark, 1)),
         First::Other => Err(PieceFault {
             offset: 0,
@@ -99,7 +99,7 @@ pub fn lex<'a>(alloc: Global, bytes: &'a [u8]) -> Result<Vec<Token<'a>>, TokenFa
     let mut tokens = Vec::new(alloc);
     let mut at = 0;
     while at < bytes.len() {
-        match piece_at_front(&bytes[at..]) {
+        match piece_at_start(&bytes[at..]) {
             Ok(Piece::Gap(len)) => at += len,
             Ok(Piece::Token(kind, len)) => {
                 let text = &bytes[at..at + len];

@@ -37,7 +37,7 @@ pub(crate) fn number_rest(bytes: &[u8]) -> usize
     bytes.len()
 }
 
-/// How many digits there are at the front.
+/// How many digits there are at the start.
 fn digits_len(bytes: &[u8]) -> usize
     ensures is { result ≡ digits_len bytes.now }
     ensures within { result ≤ length bytes.now }
@@ -194,8 +194,8 @@ fn is_floating(bytes: &[u8]) -> bool
     if !has_suffix(bytes) {
         return false;
     }
-    let front = &bytes[..bytes.len() - 1];
-    is_float_literal(front) || is_decimal(front)
+    let shorter = &bytes[..bytes.len() - 1];
+    is_float_literal(shorter) || is_decimal(shorter)
 }
 
 /// What number the bytes are.

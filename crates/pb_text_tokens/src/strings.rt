@@ -85,7 +85,7 @@ fn push_meant(into: &mut Vec<u8>, meant: Meant) -> Result<(), AllocError>
     }
 }
 
-/// Appends what the character or the escape at the front means.
+/// Appends what the character or the escape at the start means.
 fn push_unit(into: &mut Vec<u8>, bytes: &[u8]) -> Result<(), AllocError>
     requires { 0 < length bytes.now }
     ensures { OnOk result (into.new.items ≡ into.old.items ++ unit_meaning bytes.now) }
