@@ -45,7 +45,7 @@ extern "C" {
 #endif
 
 /* The version of the calls in this header. A library whose mb_interface returns another number has other calls. */
-#define MB_INTERFACE 9
+#define MB_INTERFACE 10
 uint32_t mb_interface(void);
 
 /* The answers of calls. Numbers from 50 on are causes why a set, a source or declarations are refused; docs/ERRORS.md lists them. */
@@ -411,6 +411,18 @@ uint32_t mb_message_show(struct mb_message *message, uint8_t *out, size_t out_le
 
 /* Writes the listing as mb_message_show does, but with floats in decimal, as mb_show_decimal writes them. */
 uint32_t mb_message_show_decimal(struct mb_message *message, uint8_t *out, size_t out_len, size_t *size);
+
+/* A form of the text format. With all flags false it is the form of `protoc --decode`. `single_line` puts all fields on one line, with a blank after
+ * each. `utf8` writes strings as they are; otherwise each byte that is not ASCII is escaped. `omit_unknown` omits the records that no field of the type
+ * has, also in messages inside. docs/TEXT.md has the format. */
+struct mb_text_form {
+    bool single_line;
+    bool utf8;
+    bool omit_unknown;
+};
+
+/* Writes the message in the text format, in this form. The call writes and reports as mb_message_encode does. */
+uint32_t mb_message_text(struct mb_message *message, const struct mb_text_form *form, uint8_t *out, size_t out_len, size_t *size);
 
 /* Why a part of a message has no JSON form. In this order: a google.protobuf.Value holds nothing; a Value holds a NaN or an infinity; a Timestamp or a
  * Duration is out of range; a path of a FieldMask would not be read back; an Any holds no message of a type of its pool. */

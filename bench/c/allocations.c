@@ -128,6 +128,8 @@ static uint32_t message_frame(struct outputs *outputs) { return mb_message_frame
 static uint32_t message_length(struct outputs *outputs) { return mb_message_encoded_length(&held, &outputs->size); }
 static uint32_t message_show(struct outputs *outputs) { return mb_message_show(&held, OUT); }
 static uint32_t message_show_decimal(struct outputs *outputs) { return mb_message_show_decimal(&held, OUT); }
+static const struct mb_text_form form;
+static uint32_t message_text(struct outputs *outputs) { return mb_message_text(&held, &form, OUT); }
 static uint32_t message_copy(struct outputs *outputs) { (void)outputs; return mb_message_copy(&held, &made); }
 static uint32_t message_equal(struct outputs *outputs) { return mb_message_equal(&held, &second, &outputs->detail); }
 static uint32_t message_unknown(struct outputs *outputs) { return mb_message_unknown(&held, NULL, 0, NULL, 0, OUT); }
@@ -320,7 +322,7 @@ static const struct { const char *name; uint32_t (*call)(struct outputs *outputs
     {"mb_message_decode", message_decode, MB_DONE}, {"mb_message_decode of a cut message", message_decode_cut, MB_FAULT},
     {"mb_message_encode", message_encode, MB_DONE}, {"mb_message_encoded_length", message_length, MB_DONE},
     {"mb_message_frame", message_frame, MB_DONE}, {"mb_message_show", message_show, MB_DONE},
-    {"mb_message_show_decimal", message_show_decimal, MB_DONE}, {"mb_message_copy", message_copy, MB_DONE},
+    {"mb_message_show_decimal", message_show_decimal, MB_DONE}, {"mb_message_text", message_text, MB_DONE}, {"mb_message_copy", message_copy, MB_DONE},
     {"mb_message_equal", message_equal, MB_DONE}, {"mb_message_unknown", message_unknown, MB_DONE},
     {"mb_message_oneof of no oneof", message_no_oneof, MB_ABSENT}, {"mb_compat", compat, MB_DONE},
     {"mb_compat with no type", compat_none, MB_NO_TYPE},

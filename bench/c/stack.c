@@ -69,6 +69,8 @@ static uint32_t message_frame(struct job *job) { return mb_message_frame(&job->m
 static uint32_t encoded_length(struct job *job) { return mb_message_encoded_length(&job->message, &size); }
 static uint32_t message_show(struct job *job) { return mb_message_show(&job->message, WRITTEN); }
 static uint32_t message_show_decimal(struct job *job) { return mb_message_show_decimal(&job->message, WRITTEN); }
+static const struct mb_text_form form;
+static uint32_t message_text(struct job *job) { return mb_message_text(&job->message, &form, WRITTEN); }
 static uint32_t message_json(struct job *job) { return mb_message_json(job->pool, &job->message, false, true, WRITTEN, numbers, 256, &steps); }
 static uint32_t message_copy(struct job *job) { return mb_message_copy(&job->message, &job->second); }
 static uint32_t message_equal(struct job *job) { return mb_message_equal(&job->message, &job->second, &mark); }
@@ -140,7 +142,7 @@ static const struct {
     {"mb_canon", canon}, {"mb_frames", frames}, {"mb_find", find}, {"mb_from_json", from_json}, {"mb_from_json ignoring", from_json_ignoring},
     {"mb_message_from_json", message_from_json}, {"mb_message_decode", decode}, {"mb_message_encode", encode}, {"mb_message_frame", message_frame},
     {"mb_message_encoded_length", encoded_length}, {"mb_message_show", message_show}, {"mb_message_show_decimal", message_show_decimal},
-    {"mb_message_json", message_json}, {"mb_message_copy", message_copy}, {"mb_message_equal", message_equal}, {"mb_message_merge", message_merge},
+    {"mb_message_text", message_text}, {"mb_message_json", message_json}, {"mb_message_copy", message_copy}, {"mb_message_equal", message_equal}, {"mb_message_merge", message_merge},
     {"mb_message_get", message_get}, {"mb_message_read", message_read}, {"mb_message_fields", message_fields}, {"mb_message_key", message_key},
     {"mb_message_keys", message_keys},
     {"mb_message_oneof", message_oneof}, {"mb_message_unknown", message_unknown}, {"mb_message_set", message_set}, {"mb_message_push", message_push},

@@ -1,6 +1,7 @@
-/* message encode|list|decimal|json|empty [--lenient] SET TYPE FILE: decodes the message in a file. `encode` prints its canonical bytes in hexadecimal digits,
- * as `pbtool canon` does; `list` and `decimal` print its listing, as `pbtool show` and `pbtool show --decimal` do; `json` prints its JSON, as `pbtool json`
- * does; `empty` prints the bytes of an empty message. A handle holds the message, and the pool is freed before the message is printed.
+/* message encode|list|decimal|text|json|empty [--lenient] SET TYPE FILE: decodes the message in a file. `encode` prints its canonical bytes in hexadecimal
+ * digits, as `pbtool canon` does; `list` and `decimal` print its listing, as `pbtool show` and `pbtool show --decimal` do; `text` prints its text, as
+ * `pbtool text` does; `json` prints its JSON, as `pbtool json` does; `empty` prints the bytes of an empty message. A handle holds the message, and the
+ * pool is freed before the message is printed.
  * message relink [--lenient] SET TYPE FILE: as encode, with the types of the set that the library writes for the pool.
  * message from-json [--lenient] SET TYPE FILE: reads a message from the JSON in a file, and writes its canonical bytes, as `pbtool from-json` does.
  * message json-bytes [--lenient] SET TYPE FILE: the same, with the call that keeps no message.
@@ -65,6 +66,21 @@ static uint32_t list(struct mb_message *message, struct buffer *out, bool is_dec
     do {
         grow(out, out->len + 256);
         answer = (is_decimal ? mb_message_show_decimal : mb_message_show)(message, out->bytes, out->capacity, &out->len);
+    } while (answer == MB_DONE && out->len > out->capacity);
+    if (answer == MB_DONE)
+        fwrite(out->bytes, 1, out->len, stdout);
+    return answer;
+}
+
+/* Prints the message in the text format. */
+static uint32_t print_text(struct mb_message *message, struct buffer *out)
+{
+    struct mb_text_form form = {0};
+    uint32_t answer;
+
+    do {
+        grow(out, out->len + 256);
+        answer = mb_message_text(message, &form, out->bytes, out->capacity, &out->len);
     } while (answer == MB_DONE && out->len > out->capacity);
     if (answer == MB_DONE)
         fwrite(out->bytes, 1, out->len, stdout);
@@ -158,6 +174,8 @@ static uint32_t print_message(const char *word, struct mb_pool *pool, struct mb_
         return print_json(pool, message, out);
     if (strcmp(word, "from-json") == 0)
         return write_bytes(message, out);
+    if (strcmp(word, "text") == 0)
+        return print_text(message, out);
     if (strcmp(word, "list") == 0 || strcmp(word, "decimal") == 0)
         return list(message, out, word[0] == 'd');
     return encode(message, out);

@@ -1,5 +1,5 @@
 """The words of pbtool, by the package mabristu: tool.py check|show|canon|frames [--lenient] SET TYPE FILE, tool.py short FILE, tool.py compile [--lenient] ROOT FILE..
-Canonical bytes, listing and JSON, of a message that the library holds: tool.py encode|list|decimal|json [--lenient] SET TYPE FILE, and of an empty message:
+Canonical bytes, listing, text and JSON, of a message that the library holds: tool.py encode|list|decimal|text|json [--lenient] SET TYPE FILE, and of an empty message:
 tool.py empty SET TYPE FILE. As encode, by the set that the library writes of the
 pool: tool.py relink [--lenient] SET TYPE FILE. The listing with decimal floats, of bytes: tool.py decimal-bytes SET TYPE FILE. How many parts of a set lenient reading leaves out: tool.py omitted SET. What a
 field is: tool.py field SET TYPE NAME. What a message has, a place a line: tool.py read [--lenient] SET TYPE FILE, as read.c prints it. The
@@ -185,6 +185,8 @@ def printed(command, *words):
             yield found.decode(read(name)).listing(decimal=True)
         elif command == "list":
             yield found.decode(read(name)).listing()
+        elif command == "text":
+            yield found.decode(read(name)).text(unknown=True)
         elif command == "json":
             yield found.decode(read(name)).to_json() + "\n"
         elif command == "from-json":

@@ -1,5 +1,5 @@
 //! The words of pbtool, by the crate mabristu: tool check|show|canon|frames [--lenient] SET TYPE FILE, tool short FILE, tool compile [--lenient] ROOT FILE..
-//! Canonical bytes, listing and JSON, of a message that the library holds: tool encode|list|decimal|json [--lenient] SET TYPE FILE, and of an empty message: tool empty
+//! Canonical bytes, listing, text and JSON, of a message that the library holds: tool encode|list|decimal|text|json [--lenient] SET TYPE FILE, and of an empty message: tool empty
 //! SET TYPE FILE. As encode, by the set that the library writes of the pool: tool relink
 //! [--lenient] SET TYPE FILE. The listing with decimal floats, of bytes: tool decimal-bytes SET TYPE FILE. How many parts of a set lenient reading leaves out: tool omitted SET. What a field is: tool field SET TYPE NAME. What a message has, a
 //! place a line: tool read [--lenient] SET TYPE FILE, as read.c prints it. The scalar at a path of field numbers, such as 3.1: tool find [--lenient] SET TYPE
@@ -13,7 +13,7 @@ mod files;
 mod values;
 
 use files::{failure, hexadecimal, print, read, refused, Failure};
-use mabristu::{raw_check, raw_short, Error, Field, JsonForm, JsonInput, Limits, Message, MessageType, Pool, StreamError};
+use mabristu::{raw_check, raw_short, Error, Field, JsonForm, JsonInput, Limits, Message, MessageType, Pool, StreamError, TextForm};
 use std::process::ExitCode;
 
 /// The messages of a stream, each after its length.
@@ -193,6 +193,7 @@ fn run(words: &[&str]) -> Result<(), Failure> {
             let json = found.decode(&bytes).and_then(|message| message.to_json(JsonForm::default())).map_err(refused)?;
             print(format!("{json}\n").as_bytes())
         }
+        "text" => print(found.decode(&bytes).and_then(|message| message.text(TextForm::default())).map_err(refused)?.as_bytes()),
         "list" => print(found.decode(&bytes).and_then(|message| message.listing()).map_err(refused)?.as_bytes()),
         "decimal" => print(found.decode(&bytes).and_then(|message| message.listing_decimal()).map_err(refused)?.as_bytes()),
         "read" => print(values::places(&found.decode(&bytes).map_err(refused)?.whole(), "").map_err(refused)?.as_bytes()),

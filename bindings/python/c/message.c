@@ -40,8 +40,9 @@ Node *whole_of(PyObject *self)
     return made;
 }
 
-/* JSON: the pool whose names it is written by, its form, and the part of a message that has none. */
-struct json {
+/* How a message is written: the form of a text; of JSON the pool whose names it is written by, its form, and the part of a message that has none. */
+struct form {
+    struct mb_text_form text;
     struct mb_pool *pool;
     bool declared_names, indented;
     uint32_t path[MB_MAX_STEPS];
@@ -49,13 +50,13 @@ struct json {
 };
 
 /* The exception for a part of a message that has no JSON form. */
-static PyObject *refuse_json(uint32_t answer, const struct json *json)
+static PyObject *refuse_json(uint32_t answer, const struct form *form)
 {
-    size_t steps = json->steps < MB_MAX_STEPS ? json->steps : MB_MAX_STEPS;
+    size_t steps = form->steps < MB_MAX_STEPS ? form->steps : MB_MAX_STEPS;
     PyObject *path = PyTuple_New((Py_ssize_t)steps);
 
     for (size_t i = 0; path != NULL && i < steps; i++) {
-        PyObject *number = PyLong_FromUnsignedLong(json->path[i]);
+        PyObject *number = PyLong_FromUnsignedLong(form->path[i]);
         if (number == NULL)
             Py_CLEAR(path);
         else
@@ -64,62 +65,73 @@ static PyObject *refuse_json(uint32_t answer, const struct json *json)
     return path == NULL ? NULL : refuse_path("json", answer, path);
 }
 
-static PyObject *refuse_output(uint32_t answer, const struct json *json)
+static PyObject *refuse_output(uint32_t answer, const struct form *form)
 {
-    return json != NULL && answer >= MB_JSON_NO_KIND && answer <= MB_JSON_UNSUPPORTED ? refuse_json(answer, json) : refuse(answer, NULL);
+    return form != NULL && answer >= MB_JSON_NO_KIND && answer <= MB_JSON_UNSUPPORTED ? refuse_json(answer, form) : refuse(answer, NULL);
 }
 
-static uint32_t write_json(struct mb_message *handle, struct json *json, uint8_t *out, size_t capacity, size_t *size)
+static uint32_t write_json(struct mb_message *handle, struct form *form, uint8_t *out, size_t capacity, size_t *size)
 {
-    return mb_message_json(json->pool, handle, json->declared_names, json->indented, out, capacity, size, json->path, MB_MAX_STEPS, &json->steps);
+    return mb_message_json(form->pool, handle, form->declared_names, form->indented, out, capacity, size, form->path, MB_MAX_STEPS, &form->steps);
 }
 
-static uint32_t write_listing(struct mb_message *handle, struct json *json, uint8_t *out, size_t capacity, size_t *size)
+static uint32_t write_listing(struct mb_message *handle, struct form *form, uint8_t *out, size_t capacity, size_t *size)
 {
-    (void)json;
+    (void)form;
     return mb_message_show(handle, out, capacity, size);
 }
 
-static uint32_t write_decimal(struct mb_message *handle, struct json *json, uint8_t *out, size_t capacity, size_t *size)
+static uint32_t write_decimal(struct mb_message *handle, struct form *form, uint8_t *out, size_t capacity, size_t *size)
 {
-    (void)json;
+    (void)form;
     return mb_message_show_decimal(handle, out, capacity, size);
 }
 
-static uint32_t write_bytes(struct mb_message *handle, struct json *json, uint8_t *out, size_t capacity, size_t *size)
+static uint32_t write_text(struct mb_message *handle, struct form *form, uint8_t *out, size_t capacity, size_t *size)
 {
-    (void)json;
+    return mb_message_text(handle, &form->text, out, capacity, size);
+}
+
+/* A text on one line, without the blank after its last field. */
+static PyObject *as_line(const uint8_t *text, size_t size)
+{
+    return as_str(text, size > 0 ? size - 1 : 0);
+}
+
+static uint32_t write_bytes(struct mb_message *handle, struct form *form, uint8_t *out, size_t capacity, size_t *size)
+{
+    (void)form;
     return mb_message_encode(handle, out, capacity, size);
 }
 
 /* What is written of a handle: to the stack, and once more where it is longer. */
-static PyObject *written_of(struct mb_message *handle, uint32_t (*write)(struct mb_message *, struct json *, uint8_t *, size_t, size_t *), struct json *json,
+static PyObject *written_of(struct mb_message *handle, uint32_t (*write)(struct mb_message *, struct form *, uint8_t *, size_t, size_t *), struct form *form,
                             PyObject *(*made)(const uint8_t *, size_t))
 {
     uint8_t small[SMALL_OUTPUT], *out;
     size_t size = 0;
-    uint32_t answer = write(handle, json, small, sizeof small, &size);
+    uint32_t answer = write(handle, form, small, sizeof small, &size);
     PyObject *result;
 
     if (answer != MB_DONE)
-        return refuse_output(answer, json);
+        return refuse_output(answer, form);
     if (size <= sizeof small)
         return made(small, size);
     out = PyMem_Malloc(size);
     if (out == NULL)
         return PyErr_NoMemory();
-    answer = write(handle, json, out, size, &size);
-    result = answer == MB_DONE ? made(out, size) : refuse_output(answer, json);
+    answer = write(handle, form, out, size, &size);
+    result = answer == MB_DONE ? made(out, size) : refuse_output(answer, form);
     PyMem_Free(out);
     return result;
 }
 
 /* What is written of a message, which may be a part of another. */
-static PyObject *written(PyObject *self, uint32_t (*write)(struct mb_message *, struct json *, uint8_t *, size_t, size_t *), struct json *json,
+static PyObject *written(PyObject *self, uint32_t (*write)(struct mb_message *, struct form *, uint8_t *, size_t, size_t *), struct form *form,
                          PyObject *(*made)(const uint8_t *, size_t))
 {
     Node *node = whole_of(self);
-    PyObject *result = node == NULL ? NULL : written_of(&node->handle, write, json, made);
+    PyObject *result = node == NULL ? NULL : written_of(&node->handle, write, form, made);
 
     Py_XDECREF(node);
     return result;
@@ -177,7 +189,7 @@ static PyObject *message_encoded_length(PyObject *self, PyObject *Py_UNUSED(igno
 PyDoc_STRVAR(listing_doc,
 "listing($self, /, *, decimal=False)\n--\n\n"
 "Returns the listing that `pbtool show` prints, with floats by their bits. With decimal=True floats have the fewest decimal digits that read back as the"
-"\nsame bits, or are nan, inf or -inf. str(message) and repr(message) are the listing in decimal.");
+"\nsame bits, or are nan, inf or -inf. repr(message) is the listing in decimal.");
 
 static PyObject *message_listing(PyObject *self, PyObject *args, PyObject *kwargs)
 {
@@ -189,6 +201,22 @@ static PyObject *message_listing(PyObject *self, PyObject *args, PyObject *kwarg
     return written(self, is_decimal ? write_decimal : write_listing, NULL, as_str);
 }
 
+PyDoc_STRVAR(text_doc,
+"text($self, /, *, single_line=False, utf8=False, unknown=False)\n--\n\n"
+"Returns the message in the text format of protobuf's own tools: a field on each line, or all on one. With utf8=True strings stay as they are; else"
+"\neach byte that is not ASCII is escaped. With unknown=True unknown records follow the fields, under their numbers. str(message) is message.text().");
+
+static PyObject *message_text(PyObject *self, PyObject *args, PyObject *kwargs)
+{
+    static char *names[] = {"single_line", "utf8", "unknown", NULL};
+    int single_line = 0, utf8 = 0, unknown = 0;
+
+    if (!PyArg_ParseTupleAndKeywords(args, kwargs, "|$ppp:text", names, &single_line, &utf8, &unknown))
+        return NULL;
+    struct form form = {.text = {.single_line = single_line, .utf8 = utf8, .omit_unknown = !unknown}};
+    return written(self, write_text, &form, single_line ? as_line : as_str);
+}
+
 PyDoc_STRVAR(to_json_doc,
 "to_json($self, /, *, declared_names=False, indent=False)\n--\n\n"
 "Returns the message as JSON (ProtoJSON), on one line, or indented. Names are the json_name of the set, or else in lowerCamelCase. With"
@@ -198,7 +226,7 @@ static PyObject *message_to_json(PyObject *self, PyObject *args, PyObject *kwarg
 {
     static char *names[] = {"declared_names", "indent", NULL};
     int declared_names = 0, indent = 0;
-    struct json json = {0};
+    struct form json = {0};
 
     if (!PyArg_ParseTupleAndKeywords(args, kwargs, "|$pp:to_json", names, &declared_names, &indent))
         return NULL;
@@ -211,6 +239,13 @@ static PyObject *message_to_json(PyObject *self, PyObject *args, PyObject *kwarg
 static PyObject *message_repr(PyObject *self)
 {
     return ((Node *)self)->is_gone ? part_repr(self) : written(self, write_decimal, NULL, as_str);
+}
+
+static PyObject *message_str(PyObject *self)
+{
+    struct form form = {.text = {.omit_unknown = true}};
+
+    return ((Node *)self)->is_gone ? part_repr(self) : written(self, write_text, &form, as_str);
 }
 
 static PyObject *message_get_type(PyObject *self, void *Py_UNUSED(which))
@@ -516,6 +551,7 @@ static PyObject *made_message_type(void)
         {"__bytes__", message_encode, METH_NOARGS, bytes_doc},
         {"encoded_length", message_encoded_length, METH_NOARGS, encoded_length_doc},
         {"listing", KEYWORDS(message_listing), METH_VARARGS | METH_KEYWORDS, listing_doc},
+        {"text", KEYWORDS(message_text), METH_VARARGS | METH_KEYWORDS, text_doc},
         {"frame", message_frame, METH_NOARGS, frame_doc},
         {"copy", message_copy, METH_NOARGS, copy_doc},
         {"__copy__", message_copy, METH_NOARGS, "__copy__($self, /)\n--\n\nA copy."},
@@ -545,6 +581,7 @@ static PyObject *made_message_type(void)
         {Py_tp_new, no_new},
         {Py_tp_dealloc, node_dealloc},
         {Py_tp_repr, message_repr},
+        {Py_tp_str, message_str},
         {Py_tp_richcompare, message_compare},
         {Py_tp_hash, PyObject_HashNotImplemented},
         {Py_tp_methods, methods},

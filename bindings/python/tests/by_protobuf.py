@@ -1,4 +1,4 @@
-"""Makes random orders of the shop by Python's protobuf, and prints of each a line of JSON: its deterministic encoding, in hexadecimal, and its fields:
+"""Makes random orders of the shop by Python's protobuf, and prints of each a line of JSON: its deterministic encoding, in hexadecimal, its text, and its fields:
 
   by_protobuf.py SET COUNT [SEED]
 
@@ -70,7 +70,7 @@ def main(path, count, seed="1"):
     for _ in range(int(count)):
         order = made()
         fill(order, chosen)
-        print(json.dumps({"bytes": order.SerializeToString(deterministic=True).hex(), **fields(order)}))
+        print(json.dumps({"bytes": order.SerializeToString(deterministic=True).hex(), "text": str(order), **fields(order)}))
 
 
 if __name__ == "__main__":

@@ -1,6 +1,7 @@
 """Random orders of the shop, as Python's protobuf writes and reads them (by_protobuf.py). PROTOBUF names a Python that has it."""
 import json
 import os
+import re
 import struct
 import subprocess
 import tempfile
@@ -53,7 +54,17 @@ class Protobuf(unittest.TestCase):
             invoice = order["invoice"]
             found["invoice"] = {"address": invoice["address"], "signature": invoice["signature"].hex()} if invoice else None
             found["numbers"] = order.numbers()
-            self.assertEqual(found, {name: value for name, value in row.items() if name != "bytes"})
+            self.assertEqual(found, {name: value for name, value in row.items() if name not in ("bytes", "text")})
+
+    def test_text(self):
+        # Python's protobuf prints a double as Python does, with ".0" or another exponent; all else is the same.
+        price = re.compile(r"(?<=price: )\S+")
+        for row in self.rows:
+            order = self.order.decode(bytes.fromhex(row["bytes"]))
+            found, wanted = str(order), row["text"]
+            self.assertEqual(price.sub("0", found), price.sub("0", wanted))
+            self.assertEqual([float(it) for it in price.findall(found)], [float(it) for it in price.findall(wanted)])
+            self.assertEqual(order.text(single_line=True), " ".join(it.strip() for it in found.splitlines()))
 
     def test_find(self):
         for row in self.rows:

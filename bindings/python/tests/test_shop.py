@@ -60,7 +60,27 @@ class Messages(Shop):
         message = self.order.decode(self.data)
         self.assertEqual([message.listing(), self.order.listing(self.data)], [self.listed] * 2)
         decimal = self.listed.replace("0x3fd6666666666666", "0.35").replace("0x4056600000000000", "89.5")
-        self.assertEqual([repr(message), str(message), message.listing(decimal=True), self.order.listing(self.data, decimal=True)], [decimal] * 4)
+        self.assertEqual([repr(message), message.listing(decimal=True), self.order.listing(self.data, decimal=True)], [decimal] * 3)
+
+    def test_text(self):
+        # What protoc --decode prints of the order.
+        text = ('number: 4711\nplaced_on: "2024-05-17"\nlines {\n  article: "bolt M8"\n  pieces: 200\n  price: 0.35\n}\nlines {\n  article: "torque wrench"\n'
+                '  pieces: 1\n  price: 89.5\n}\ndiscounts {\n  key: "loyal"\n  value: 3\n}\ndiscounts {\n  key: "spring"\n  value: 5\n}\n'
+                'invoice {\n  address: "Main Street 1"\n  signature: "\\001\\377"\n}\nstate: SENT\ncorrections: -1\ncorrections: 2\ngift: false\n')
+        message = self.order.decode(self.data)
+        self.assertEqual([str(message), f"{message}", message.text()], [text] * 3)
+        self.assertEqual(message.text(single_line=True), " ".join(text.split()))
+        self.assertEqual([str(message["lines"][1]), message["lines"][1].text(single_line=True)],
+                         ['article: "torque wrench"\npieces: 1\nprice: 89.5\n', 'article: "torque wrench" pieces: 1 price: 89.5'])
+        self.assertEqual([str(self.order.new()), self.order.new().text(single_line=True)], ["", ""])
+        # Field 100 is no field of the type.
+        unknown = self.order.decode(b"\x12\x02\xc3\xa9\xa0\x06\x07")
+        self.assertEqual([str(unknown), unknown.text(utf8=True, unknown=True)], ['placed_on: "\\303\\251"\n', 'placed_on: "é"\n100: 7\n'])
+        for size in (0, 1, 4000, 5000, 70000):
+            unknown["placed_on"] = size * "x"
+            self.assertEqual(unknown.text(single_line=True, unknown=True), (f'placed_on: "{size * "x"}" ' if size else "") + "100: 7")
+        with self.assertRaises(TypeError):
+            message.text(True)
 
     def test_json(self):
         # The fields are those that protoc --decode prints of the order.

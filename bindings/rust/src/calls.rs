@@ -1,9 +1,10 @@
 //! The numbers and calls of mabristu.h.
 use crate::structs::{
-    Bytes, Counts, DecoderHandle, Difference, Enum, Fault, Field, File, Frame, Handle, Keys, MessageHandle, Refusal, Step, Steps, Type, Value,
+    Bytes, Counts, DecoderHandle, Difference, Enum, Fault, Field, File, Frame, Handle, Keys, MessageHandle, Refusal, Step, Steps, TextForm,
+    Type, Value,
 };
 
-pub const INTERFACE: u32 = 9;
+pub const INTERFACE: u32 = 10;
 // What a call answers. Numbers from 50 on are the causes why declarations are refused.
 pub const DONE: u32 = 0;
 pub const BAD_LIMITS: u32 = 1;
@@ -99,6 +100,7 @@ extern "C" {
     pub fn mb_message_encoded_length(message: *mut MessageHandle, size: &mut usize) -> u32;
     pub fn mb_message_show(message: *mut MessageHandle, out: Out, out_len: usize, size: &mut usize) -> u32;
     pub fn mb_message_show_decimal(message: *mut MessageHandle, out: Out, out_len: usize, size: &mut usize) -> u32;
+    pub fn mb_message_text(message: *mut MessageHandle, form: &TextForm, out: Out, out_len: usize, size: &mut usize) -> u32;
     pub fn mb_message_oneof(message: Message, place: *const Value, place_len: usize, keys: *const Bytes, keys_len: usize,
         oneof: u32, number: &mut u32) -> u32;
     pub fn mb_message_unknown(message: Message, place: *const Value, place_len: usize, keys: *const Bytes, keys_len: usize,

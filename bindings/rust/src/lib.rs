@@ -46,4 +46,5 @@ pub use message_type::{raw_check, raw_short, Field, JsonInput, Limits, MessageTy
 pub use part::{Key, Part};
 pub use pool::Pool;
 pub use schema::{DeclaredEnum, DeclaredField, DeclaredFile, DeclaredType, Schema};
+pub use structs::TextForm;
 pub use value::Value;

@@ -2,7 +2,7 @@
 use crate::message_type::text;
 use crate::report::{judged, written_alone, Report};
 use crate::structs::MessageHandle;
-use crate::{calls, Cause, Error, Limits, MessageType};
+use crate::{calls, Cause, Error, Limits, MessageType, TextForm};
 use std::cell::UnsafeCell;
 use std::{fmt, ptr};
 
@@ -71,6 +71,17 @@ impl Message {
     /// The listing with floats in decimal: the fewest digits that read back as the same bits, or `nan`, `inf` or `-inf`.
     pub fn listing_decimal(&self) -> Result<String, Error> {
         Ok(text(written_alone(|out, capacity, size| unsafe { calls::mb_message_show_decimal(self.handle(), out, capacity, size) })?))
+    }
+
+    /// The message in the text format of protobuf's own tools.
+    pub fn text(&self, form: TextForm) -> Result<String, Error> {
+        let mut written =
+            text(written_alone(|out, capacity, size| unsafe { calls::mb_message_text(self.handle(), &form, out, capacity, size) })?);
+        // On one line each field has a blank after it, the last one too.
+        if form.single_line {
+            written.pop();
+        }
+        Ok(written)
     }
 
     /// Decodes bytes onto the message, within the limits of its type, as if the bytes came after its own canonical bytes. If the bytes are refused, the

@@ -41,6 +41,19 @@ pub struct Value {
     pub number: u64,
 }
 
+/// How the text format is written. The default: each field on a line, bytes that are not ASCII escaped, and unknown records under the number of their
+/// field, as `protoc --decode` does.
+#[repr(C)]
+#[derive(Clone, Copy, Debug, Default, PartialEq, Eq)]
+pub struct TextForm {
+    /// All fields on one line.
+    pub single_line: bool,
+    /// Strings as they are, in UTF-8.
+    pub utf8: bool,
+    /// No unknown records.
+    pub omit_unknown: bool,
+}
+
 #[repr(C)]
 #[derive(Clone, Copy, Debug, Default, PartialEq, Eq)]
 pub struct Counts {

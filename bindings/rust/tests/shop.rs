@@ -1,5 +1,5 @@
 //! The order of the shop: its bytes, listing and types are those of examples/, and the records written here are made by hand.
-use mabristu::{raw_check, raw_short, Error, JsonForm, JsonInput, Limits, MessageType, Pool, Shape, Step, StreamError, Value};
+use mabristu::{raw_check, raw_short, Error, JsonForm, JsonInput, Limits, MessageType, Pool, Shape, Step, StreamError, TextForm, Value};
 use std::{fs, thread};
 
 fn example(name: &str) -> Vec<u8> {
@@ -26,6 +26,23 @@ fn lists_as_pbtool_does() {
     let decimal = listing.replace("0x3fd6666666666666", "0.35").replace("0x4056600000000000", "89.5");
     assert_eq!(message.to_string(), decimal);
     assert_eq!(format!("{message:?}"), decimal);
+}
+
+#[test]
+fn writes_text() {
+    // What protoc --decode prints of the order.
+    let message = order().decode(&example("shop_order.bin")).unwrap();
+    let text = message.text(TextForm::default()).unwrap();
+    assert!(text.starts_with("number: 4711\nplaced_on: \"2024-05-17\"\nlines {\n  article: \"bolt M8\"\n  pieces: 200\n  price: 0.35\n}\n"));
+    assert!(text.ends_with("state: SENT\ncorrections: -1\ncorrections: 2\ngift: false\n"));
+    let line = message.text(TextForm { single_line: true, ..TextForm::default() }).unwrap();
+    assert_eq!(line, text.split_whitespace().collect::<Vec<_>>().join(" "));
+    // Field 100 is no field of the type.
+    let message = order().decode(b"\x12\x02\xc3\xa9\xa0\x06\x07").unwrap();
+    assert_eq!(message.text(TextForm::default()).unwrap(), "placed_on: \"\\303\\251\"\n100: 7\n");
+    let form = TextForm { single_line: true, utf8: true, omit_unknown: true };
+    assert_eq!(message.text(form).unwrap(), "placed_on: \"é\"");
+    assert_eq!(order().empty().unwrap().text(form).unwrap(), "");
 }
 
 #[test]

@@ -43,6 +43,7 @@ pub use message::oneof::mb_message_oneof;
 pub use message::read::mb_message_read;
 pub use message::show::mb_message_show;
 pub use message::show_decimal::mb_message_show_decimal;
+pub use message::text::mb_message_text;
 pub use message::unknown::mb_message_unknown;
 pub use pool::compile::{mb_pool_compile, mb_pool_compile_lenient};
 pub use pool::field::{FieldReport, mb_pool_field};

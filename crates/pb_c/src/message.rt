@@ -20,4 +20,5 @@ pub(crate) mod oneof;
 pub(crate) mod read;
 pub(crate) mod show;
 pub(crate) mod show_decimal;
+pub(crate) mod text;
 pub(crate) mod unknown;

@@ -2,3 +2,4 @@ pub mod Reporting
 pub mod Typed
 pub mod Json
 pub mod Decoder
+pub mod Text
