@@ -29,14 +29,14 @@ module _ (pool : Types) (m : ℕ) (limits : Bounds) where
       → IfSome middle (λ l. IsFrameOf pool m limits size l v) → IfSome middle (λ l. new ≡ Some (drop size l))
       → IfSome old (λ left. IsSomeAnd new (Frame pool m limits left v))
   frame_taken None middle new start size v h text after = tt
-  frame_taken (Some left) None new start size v (front, is_varint, counted, taken) text after = absurd taken
-  frame_taken (Some left) (Some l) new start size v (front, is_varint, counted, taken) text after =
+  frame_taken (Some left) None new start size v (prefix, is_varint, counted, taken) text after = absurd taken
+  frame_taken (Some left) (Some l) new start size v (prefix, is_varint, counted, taken) text after =
       subst (λ (z : Option (List ℕ)). IsSomeAnd z (Frame pool m limits left v)) (sym after)
       (record {
-        front = front;
+        front = prefix;
         text = take size l;
-        joined = taken ∙ ap (λ (z : List ℕ). front ++ z) (sym (take-append-drop size l)) ∙ sym (append_assoc front (take size l) (drop size l));
-        counted = subst (λ (n : ℕ). IsVarint n front) (sym (length-take-le size l text.given)) is_varint;
+        joined = taken ∙ ap (λ (z : List ℕ). prefix ++ z) (sym (take-append-drop size l)) ∙ sym (append_assoc prefix (take size l) (drop size l));
+        counted = subst (λ (n : ℕ). IsVarint n prefix) (sym (length-take-le size l text.given)) is_varint;
         derives = text.text;
       })
 
@@ -44,11 +44,11 @@ module _ (pool : Types) (m : ℕ) (limits : Bounds) where
       (old middle : Option (List ℕ)) (start size : ℕ) (f : Fault) → TakesLength start size old middle → size ≤ limits.bytes
       → IfSome middle (λ l. BadFrame pool m limits.depth start size l f) → IfSome old (λ left. FrameFault pool m limits left f)
   fault_of_text None middle start size f h small bad = tt
-  fault_of_text (Some left) None start size f (front, is_varint, counted, taken) small bad = absurd taken
-  fault_of_text (Some left) (Some l) start size f (front, is_varint, counted, taken) small bad =
+  fault_of_text (Some left) None start size f (prefix, is_varint, counted, taken) small bad = absurd taken
+  fault_of_text (Some left) (Some l) start size f (prefix, is_varint, counted, taken) small bad =
       subst (λ (z : List ℕ). FrameFault pool m limits z f) (sym taken)
-      (FrameFault.in_text (reads_first size front l is_varint) small
-      (subst (λ (k : ℕ). BadFrame pool m limits.depth k size l f) (let k : start ≡ 0 + length front = omega arith in k) bad))
+      (FrameFault.in_text (reads_first size prefix l is_varint) small
+      (subst (λ (k : ℕ). BadFrame pool m limits.depth k size l f) (let k : start ≡ 0 + length prefix = omega arith in k) bad))
 
   -- the text has a fault
   pub fault_in_frame :
@@ -77,20 +77,20 @@ module _ (pool : Types) (m : ℕ) (limits : Bounds) where
       (old middle new : Option (List ℕ)) (start size : ℕ) (v : Message) → TakesLength start size old middle → IfSome middle (λ l. IsFrameOf pool m limits size l v)
       → IfSome middle (λ l. new ≡ Some (drop size l)) → Takes (start + size) old new
   frame_counted None middle new start size v h text after = (replicate (start + size) 0, length-replicate (start + size), tt)
-  frame_counted (Some xs) None new start size v (front, is_varint, counted, taken) text after = absurd taken
-  frame_counted (Some xs) (Some l) new start size v (front, is_varint, counted, taken) text after = (
-    front ++ take size l,
-    length-append front (take size l) ∙ (let n = length-take-le size l text.given in omega arith),
-    subst (λ (z : Option (List ℕ)). Consumes (Some xs) z (front ++ take size l)) (sym after)
-        (taken ∙ ap (λ (z : List ℕ). front ++ z) (sym (take-append-drop size l)) ∙ sym (append_assoc front (take size l) (drop size l))),
+  frame_counted (Some xs) None new start size v (prefix, is_varint, counted, taken) text after = absurd taken
+  frame_counted (Some xs) (Some l) new start size v (prefix, is_varint, counted, taken) text after = (
+    prefix ++ take size l,
+    length-append prefix (take size l) ∙ (let n = length-take-le size l text.given in omega arith),
+    subst (λ (z : Option (List ℕ)). Consumes (Some xs) z (prefix ++ take size l)) (sym after)
+        (taken ∙ ap (λ (z : List ℕ). prefix ++ z) (sym (take-append-drop size l)) ∙ sym (append_assoc prefix (take size l) (drop size l))),
   )
 
 -- what is taken after the length stays in the frame
 pub stays_in_text :
     (limits : Bounds) (old middle new : Option (List ℕ)) (start size : ℕ) → TakesLength start size old middle → size ≤ limits.bytes → TakesAtMost size middle new
     → StaysInFrame limits old new
-stays_in_text limits old middle new start size (front, is_varint, counted, taken) small (text, most, more) =
-    (front ++ text, Consumes-trans old middle new front text taken more, taking.in_text text refl is_varint small most)
+stays_in_text limits old middle new start size (prefix, is_varint, counted, taken) small (text, most, more) =
+    (prefix ++ text, Consumes-trans old middle new prefix text taken more, taking.in_text text refl is_varint small most)
 
 pub stays_at_end : (limits : Bounds) (old new : Option (List ℕ)) → TakesNone old new → StaysInFrame limits old new
 stays_at_end limits old new h = ([], h.0, taking.in_length (omega arith) tt)
@@ -98,6 +98,6 @@ stays_at_end limits old new h = ([], h.0, taking.in_length (omega arith) tt)
 -- a length takes a byte
 pub some_for_length : (old new : Option (List ℕ)) (start size : ℕ) → TakesLength start size old new → old ≡ Some [] → ⊥
 some_for_length None new start size h none = cc
-some_for_length (Some xs) None start size (front, is_varint, counted, taken) none = taken
+some_for_length (Some xs) None start size (prefix, is_varint, counted, taken) none = taken
 some_for_length (Some xs) (Some l) start size ([], is_varint, counted, taken) none = is_varint.ends
-some_for_length (Some xs) (Some l) start size (b ∷ front, is_varint, counted, taken) none = let e : [] ≡ (b ∷ front) ++ l = cc in cc
+some_for_length (Some xs) (Some l) start size (b ∷ prefix, is_varint, counted, taken) none = let e : [] ≡ (b ∷ prefix) ++ l = cc in cc

@@ -8,5 +8,7 @@ pub mod FrameLemmas
 pub mod OneFrame
 -- for frames in turn: the bytes of one, as a length and what it counts, and what comes of an input that begins with none
 pub mod SpanLemmas
+-- for frames that are held whole: the length of one, what is left after it, and that more may follow
+pub mod HeldLemmas
 -- small inputs with the frame or the fault that they begin with, worked out by the rules
 mod Rows

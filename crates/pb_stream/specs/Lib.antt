@@ -6,4 +6,5 @@ pub mod Stream
 pub mod Spans
 pub mod Next
 pub mod Passed
+pub mod Held
 pub mod Loops

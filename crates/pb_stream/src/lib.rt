@@ -24,6 +24,7 @@
 //! ```
 #![tactic(auto)]
 
+mod held;
 pub mod laws;
 mod length;
 mod next;
@@ -33,6 +34,7 @@ mod reading;
 mod skipping;
 mod writing;
 
+pub use held::next_held_frame;
 pub use next::{NextFrame, Reason, next_frame};
 pub use reader::DelimitedReader;
 pub use reading::read_delimited;

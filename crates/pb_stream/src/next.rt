@@ -168,7 +168,7 @@ fn take_message<'p, I: Input>(
 }
 
 /// The message of a frame, or why these bytes, which come after a length of `start` bytes that encodes `size`, are none.
-fn read_message<'p>(
+pub(crate) fn read_message<'p>(
     alloc: Global,
     pool: &'p Pool,
     message_type: MessageId,

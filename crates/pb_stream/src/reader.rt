@@ -1,7 +1,9 @@
 //! The messages of one input, in turn.
 
+use crate::held::read_held;
 use crate::reading::read_frame;
 use pb_decode::DecodeError;
+use pb_input::BufferedInput;
 use pb_schema::{MessageId, Pool};
 use pb_value::DynamicMessage;
 use pb_wire::{Input, Limits};
@@ -137,5 +139,66 @@ impl<'p, I: Input + Drop> DelimitedReader<'p, I> {
         ensures { result ≡ self.now.taken }
     {
         self.taken
+    }
+}
+
+impl<'p, I: Drop> DelimitedReader<'p, BufferedInput<I>> {
+    ghost use Rattle.std.specs.Prelude.{◌≡◌, ℕ, List, Option, true, false, Some, Err, IfOk, IfErr};
+    ghost use Rattle.std.specs.Prelude.{IfSome, IfNone, OnOk, OnErr};
+    ghost use Rattle.std.specs.Io.KnownBytes.{prepend_known};
+    ghost use Rattle.pb_decode.specs.declared.error.DecodeError.TheVariants.{Memory, Finished};
+    ghost use Rattle.pb_stream.specs.Answers.{AnswersFrame, AcceptsFrame};
+    ghost use Rattle.pb_stream.specs.Taking.{Counts};
+
+    /// The next message, where the buffer of the input holds all bytes of its frame. Where it does not, or what it holds is no frame of a
+    /// message, nothing is taken: `next` reads the input, and reports why a frame is refused. This call does not read the input.
+    pub fn next_held(&mut self) -> Result<Option<DynamicMessage<'p>>, DecodeError>
+        ensures same { (self.new.pool ≡ self.old.pool) × (self.new.kind ≡ self.old.kind)
+            × (self.new.limits ≡ self.old.limits) }
+        ensures finished { self.old.finished ≡ true
+            → (result ≡ Err Finished) × (self.new ≡ self.old) }
+        ensures closes { OnErr result (self.new.finished ≡ true) }
+        ensures goes_on { OnOk result (self.new.finished ≡ false) }
+        ensures none { IfOk result (λ o. IfNone o (self.new ≡ self.old)) }
+
+        // Whatever follows the bytes that are held.
+        ensures counted { (more : Option (List ℕ)) → OnOk result
+            (Counts self.old.taken self.new.taken
+            (prepend_known self.old.input.held more)
+            (prepend_known self.new.input.held more)) }
+        ensures message { (more : Option (List ℕ))
+            → AnswersFrame (λ m. m.body) self.old.pool self.old.kind self.old.limits
+            (prepend_known self.old.input.held more)
+            (prepend_known self.new.input.held more) result }
+
+        ensures of_type { IfOk result
+            (λ o. IfSome o (λ m. (m.pool ≡ self.old.pool) × (m.kind ≡ self.old.kind))) }
+        ensures accepted { self.old.finished ≡ false
+            → AcceptsFrame (λ m. m.body) self.old.pool self.old.kind self.old.limits
+            (Some self.old.input.held) result }
+        ensures memory { self.old.finished ≡ false → IfErr result (λ e. e ≡ Memory) }
+        ensures unread { self.new.input.input ≡ self.old.input.input }
+    {
+        if self.finished {
+            return Err(DecodeError::Finished);
+        }
+        match read_held(
+            self.alloc,
+            self.pool,
+            self.kind,
+            self.input.held(),
+            self.limits,
+        ) {
+            Ok(None) => Ok(None),
+            Ok(Some(framed)) => {
+                self.input.advance(framed.size as usize);
+                self.taken = self.taken.saturating_add(framed.size);
+                Ok(Some(framed.message))
+            }
+            Err(error) => {
+                self.finished = true;
+                Err(error)
+            }
+        }
     }
 }
