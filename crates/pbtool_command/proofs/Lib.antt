@@ -18,6 +18,8 @@ pub mod FromJsonSteps
 pub mod JsonSteps
 -- for the loop of `frames`: the frames of a stream, one after another
 pub mod Streams
+-- for `frames`: an input with a buffer, and text that is put after what was written
+pub mod Live
 -- for `frames`: refusals that report a failed read
 pub mod ReadFailures
 -- for the loop of `frames --keep-going`: all frames of a stream, also those that are refused

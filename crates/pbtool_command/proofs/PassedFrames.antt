@@ -1,5 +1,5 @@
 -- All frames of a stream, one after another, also those that are refused.
-use Rattle.std.proofs.Common.{◌≡◌, ℕ, zero, suc, ◌+◌, ◌-◌, ◌^◌, ◌<◌, ◌≤◌, min, List, [], ◌∷◌, ◌++◌, length, Bool, true, Option, None, Some, refl, sym, ap, ◌∙◌, subst, arith, length-append, inl}
+use Rattle.std.proofs.Common.{◌≡◌, ℕ, zero, suc, ◌+◌, ◌-◌, ◌^◌, ◌<◌, ◌≤◌, min, List, [], ◌∷◌, ◌++◌, length, Bool, true, Option, None, Some, refl, sym, ap, ◌∙◌, subst, arith, append-nil, length-append, inl}
 use Rattle.std.specs.Prelude.{Result, Ok, Err, IfSome, OnOk}
 use Rattle.std.specs.Borrow.{Bor}
 use Rattle.pb_wire.specs.Fault.{Fault}
@@ -16,6 +16,7 @@ use Rattle.pbtool_files.specs.Answer.{done, stopped, broken}
 use Rattle.pbtool_files.specs.Known.{OfInput}
 use Rattle.pbtool_files.specs.Report.{frame_fault_line, frames_line}
 use Rattle.pb_listing.specs.Putting.{PutsSome}
+use Rattle.pb_output.specs.Sink.{Puts}
 use Rattle.pb_output.specs.declared.sink.Sink.{Sink}
 use Rattle.pb_output.proofs.SinkLemmas.{puts_none, puts_then}
 use Rattle.pbtool_command.specs.AllFrames.{AllBegunBy, AllFramesBy, ArePassed, Passed, Passes, and_refused, and_shown, concluded, none_passed}
@@ -282,6 +283,20 @@ module _
   }
 
   -- no more frames are refused than were read
+  -- and nothing was put after them
+  pub going_after :
+      {old mid new : D} {a b c : Sink} {start now : I} {index : ℕ} {p : Progress} → IsGoing written failures left is_steady old mid a b start now form pool m index p
+      → Puts written failures mid new b c [] → IsGoing written failures left is_steady old new a c start now form pool m index p
+  going_after {old} {mid} {new} {a} {b} {c} h nothing = record {
+    state = h.state;
+    put = subst (Puts written failures old new a c) (append-nil h.state.text) (puts_then h.put nothing);
+    read = h.read;
+    count = h.count;
+    refused = h.refused;
+    offset = h.offset;
+    lines = h.lines;
+  }
+
   pub going_few : {old mid : D} {a b : Sink} {start now : I} {index : ℕ} {p : Progress} → IsGoing written failures left is_steady old mid a b start now form pool m index p → p.refused ≤ index
   going_few h = let few = few_refused h.read.passed in let count = h.count in let refused = h.refused in omega (arith, few, count, refused)
 

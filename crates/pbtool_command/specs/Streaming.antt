@@ -1,5 +1,5 @@
 -- What reading the messages of one input leaves.
-use Rattle.std.specs.Prelude.{◌≡◌, ◌≢◌, ◌⊎◌, ◌-◌, ℕ, List, [], Bool, true, false, Option, None, Some, IfSome, IsSomeAnd}
+use Rattle.std.specs.Prelude.{◌≡◌, ◌≢◌, ◌⊎◌, ◌-◌, ℕ, List, [], Bool, true, false, Option, None, Some, Result, Ok, Err, IfSome, IsSomeAnd}
 use Rattle.std.specs.Borrow.{Bor}
 use Rattle.pb_schema.specs.Types.{Types}
 use Rattle.pb_value.specs.Data.{Message}
@@ -60,6 +60,13 @@ pub record ReadsFrame {I : Type 0} (left : I → Option (List ℕ)) (is_steady :
 pub record RefusesFrame {I : Type 0} (left : I → Option (List ℕ)) (is_steady : I → Bool) (old : Stream I) (error : DecodeError) : Type 0 where
   pub why : IfRefused error (λ f. IfSome (left old.input) (λ rest. FrameFault old.pool old.kind old.limits rest f))
   pub failed : is_steady old.input ≡ true → error ≢ decode.Device
+
+-- what reading the next frame answers: a message of it, or nothing where nothing is left, or why what is left is refused
+abbrev pub ReadsNext :
+    {I : Type 0} (left : I → Option (List ℕ)) (is_steady : I → Bool) (old new : Stream I) → Result (Option Dynamic) DecodeError → Type 0
+ReadsNext left is_steady old new (Ok None) = TakesNone (left old.input) (left new.input)
+ReadsNext left is_steady old new (Ok (Some m)) = (m.pool ≡ old.pool) × (m.kind ≡ old.kind) × ReadsFrame left is_steady old new m.body
+ReadsNext left is_steady old new (Err e) = RefusesFrame left is_steady old e
 
 -- the bytes are the lines of the frame that a reader read
 abbrev pub AreReadLines : {I : Type 0} → Shown → ℕ → Stream I → Stream I → Message → List ℕ → Type 0

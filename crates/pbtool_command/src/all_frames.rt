@@ -1,13 +1,16 @@
 //! All messages of a file, each after its length: those that are refused are reported, and the others shown.
 
-ghost use Rattle.std.specs.Prelude.{◌≡◌, ◌≢◌, ◌+◌, ◌-◌, ◌++◌, ◌<◌, ◌≤◌, ◌⊎◌, ◌^◌, length, min, true, IfErr, OnOk};
+ghost use Rattle.std.specs.Prelude.{◌≡◌, ◌≢◌, ◌+◌, ◌-◌, ◌++◌, ◌<◌, ◌≤◌, ◌⊎◌, ◌^◌, [], length, min, true, Err, IfErr, IfOk, IsErrOf, OnOk};
 ghost use Rattle.pbtool_files.specs.FileMap.{IsSaved, IsUnsaved};
 ghost use Rattle.pbtool_files.specs.Known.{OfInput};
 ghost use Rattle.pbtool_files.specs.Refusal.{KeepsFailures, names_device, refusal_line};
 ghost use Rattle.pbtool_files.specs.Report.{frame_fault_line, frame_json_line};
-ghost use Rattle.pb_stream.specs.Next.{fault_of};
+ghost use Rattle.pb_input.specs.Buffered.{Buffered, left_of, of_input};
+ghost use Rattle.pb_wire.specs.Limits.{full};
+ghost use Rattle.pb_stream.specs.Next.{IsNext, IsOfType, fault_of};
 ghost use Rattle.pb_json.specs.declared.error.Refusal.{Refusal as JsonRefusal};
 ghost use Rattle.pb_output.specs.Sending.{Cut, Sent};
+ghost use Rattle.pb_output.specs.Sink.{Puts};
 ghost use Rattle.pb_output.specs.declared.sink.Sink.{Sink as Sunk};
 ghost use Rattle.pbtool_command.specs.AllFrames.{AllBegunBy, AllFramesBy};
 ghost use Rattle.pbtool_command.specs.PassingOn.{Concludes, IsGoing, PutsAnswer, TurnIs};
@@ -18,11 +21,12 @@ use crate::cleanup::{Cleanup, clean_up};
 use crate::command::{FrameForm, Source};
 use crate::frames::put_frame;
 use crate::shown::Shown;
+use pb_input::BufferedInput;
 use pb_json::JsonError;
 use pb_listing::FloatForm;
 use pb_output::Sink;
 use pb_schema::{MessageId, Pool};
-use pb_stream::{NextFrame, Reason, next_frame};
+use pb_stream::{NextFrame, Reason, next_frame, next_held_frame};
 use pb_wire::{FailurePlan, Input, Limits, MemOutput, Output, ReadFault};
 use pbtool_files::{Files, OUTPUT, Refusal, find_named_type, find_type, open_file};
 use std::alloc::{AllocError, Global};
@@ -169,7 +173,8 @@ fn all_frames_at<'a, F: Files, O: Output>(
     ensures kept { KeepsFailures F.failures files.old files.new result }
     ensures unfailing { F.is_steady files.old ≡ true → F.failures files.new ≡ F.failures files.old }
 {
-    let mut input = open_file(path, files)?;
+    let input = open_file(path, files)?;
+    let mut buffered = BufferedInput::new(input);
     let stream = Stream {
         alloc,
         form,
@@ -177,24 +182,24 @@ fn all_frames_at<'a, F: Files, O: Output>(
         message_type,
         path,
     };
-    write_all_frames(&stream, &mut input, out)
+    write_all_frames(&stream, &mut buffered, out)
 }
 
 /// Writes the lines of the frames of an input, and then reports those that are refused.
-fn write_all_frames<'a, I: Input, O: Output>(
+fn write_all_frames<'a, I: Input + Drop, O: Output>(
     stream: &Stream<'_, 'a>,
-    input: &mut I,
+    input: &mut BufferedInput<I>,
     out: &mut O,
 ) -> Result<(), Refusal<'a>>
     ensures comes { Comes (Sent O.written O.failures out.old out.new)
         (Cut O.written O.failures out.old out.new) NoFile (λ _. ⊥)
-        (AllFramesBy (OfInput I.left I.is_steady input.old) stream.now.form stream.now.path.now
+        (AllFramesBy (OfInput (left_of I.left) (of_input I.is_steady) input.old) stream.now.form stream.now.path.now
         stream.now.pool.now stream.now.message_type.0)
-        (AllBegunBy (OfInput I.left I.is_steady input.old) stream.now.form stream.now.pool.now
+        (AllBegunBy (OfInput (left_of I.left) (of_input I.is_steady) input.old) stream.now.form stream.now.pool.now
         stream.now.message_type.0) result }
-    ensures kept { KeepsFailures I.failures input.old input.new result }
+    ensures kept { KeepsFailures (of_input I.failures) input.old input.new result }
     ensures failed { IfErr result (λ e. names_device e ≡ true
-        → (I.failures input.new ≢ I.failures input.old)
+        → (of_input I.failures input.new ≢ of_input I.failures input.old)
         ⊎ (O.failures out.new ≢ O.failures out.old)) }
 {
     let mut sink = Sink::new();
@@ -206,20 +211,20 @@ fn write_all_frames<'a, I: Input, O: Output>(
 }
 
 /// The lines of the frames of an input, and what is reported of them. Where the output fails, no more is read.
-fn put_all_frames<'a, I: Input, O: Output>(
+fn put_all_frames<'a, I: Input + Drop, O: Output>(
     sink: &mut Sink,
     out: &mut O,
     stream: &Stream<'_, 'a>,
-    input: &mut I,
+    input: &mut BufferedInput<I>,
 ) -> Result<(), Refusal<'a>>
     ensures puts { PutsAnswer O.written O.failures out.old out.new sink.old sink.new
-        (AllFramesBy (OfInput I.left I.is_steady input.old) stream.now.form stream.now.path.now
+        (AllFramesBy (OfInput (left_of I.left) (of_input I.is_steady) input.old) stream.now.form stream.now.path.now
         stream.now.pool.now stream.now.message_type.0)
-        (AllBegunBy (OfInput I.left I.is_steady input.old) stream.now.form stream.now.pool.now
+        (AllBegunBy (OfInput (left_of I.left) (of_input I.is_steady) input.old) stream.now.form stream.now.pool.now
         stream.now.message_type.0) result }
-    ensures kept { KeepsFailures I.failures input.old input.new result }
+    ensures kept { KeepsFailures (of_input I.failures) input.old input.new result }
     ensures failed { IfErr result (λ e. names_device e ≡ true
-        → I.failures input.new ≢ I.failures input.old) }
+        → of_input I.failures input.new ≢ of_input I.failures input.old) }
 {
     let mut progress = Progress {
         offset: 0,
@@ -240,32 +245,26 @@ fn put_all_frames<'a, I: Input, O: Output>(
 }
 
 /// Puts the lines of the next frame, or reports it.
-fn put_turn<'a, I: Input, O: Output>(
+fn put_turn<'a, I: Input + Drop, O: Output>(
     sink: &mut Sink,
     out: &mut O,
     stream: &Stream<'_, 'a>,
-    input: &mut I,
+    input: &mut BufferedInput<I>,
     index: u64,
     progress: &mut Progress,
 ) -> Turn<'a>
     requires more { index < 2 ^ 64 - 1 }
     requires few { progress.old.refused ≤ index }
-    ensures puts { (d : O) (a : Sunk) (i : I)
-        → IsGoing O.written O.failures I.left I.is_steady d out.old a sink.old i input.old
+    ensures puts { (d : O) (a : Sunk) (i : Buffered I)
+        → IsGoing O.written O.failures (left_of I.left) (of_input I.is_steady) d out.old a sink.old i input.old
         stream.now.form stream.now.pool.now stream.now.message_type.0 index progress.old
-        → TurnIs O.written O.failures I.left I.is_steady d out.new a sink.new i input.new
+        → TurnIs O.written O.failures (left_of I.left) (of_input I.is_steady) d out.new a sink.new i input.new
         stream.now.form stream.now.pool.now stream.now.message_type.0 index progress.new
         stream.now.path.now result }
-    ensures reads { TurnCounts (I.failures input.old) (I.failures input.new) result }
+    ensures reads { TurnCounts (of_input I.failures input.old) (of_input I.failures input.new) result }
 {
     let offset = progress.offset;
-    match next_frame(
-        stream.alloc,
-        stream.pool,
-        stream.message_type,
-        input,
-        Limits::FULL,
-    ) {
+    match take_frame(sink, out, stream, input) {
         Err(ReadFault::Device) => Turn::Stops(Refusal::Device(stream.path)),
         Err(ReadFault::Memory) => Turn::Stops(Refusal::Memory),
         Ok(NextFrame::End) => Turn::Ends(index),
@@ -293,6 +292,69 @@ fn put_turn<'a, I: Input, O: Output>(
             Err(refusal) => Turn::Stops(refusal),
         },
     }
+}
+
+/// Takes the next frame. What was put is written before more of the input is waited for.
+fn take_frame<'p, I: Input + Drop, O: Output>(
+    sink: &mut Sink,
+    out: &mut O,
+    stream: &Stream<'p, '_>,
+    input: &mut BufferedInput<I>,
+) -> Result<NextFrame<'p>, ReadFault>
+    ensures puts { Puts O.written O.failures out.old out.new sink.old sink.new [] }
+    ensures live { (input.new.input ≡ input.old.input) ⊎ (sink.new.held ≡ []) }
+    ensures of_type { IfOk result (IsOfType stream.now.pool.now stream.now.message_type.0) }
+    ensures next { IfOk result (IsNext stream.now.pool.now stream.now.message_type.0 full
+        (left_of I.left input.old) (left_of I.left input.new)) }
+    ensures kept { OnOk result (of_input I.failures input.new ≡ of_input I.failures input.old) }
+    ensures failed { IsErrOf result ReadFault.Device
+        → of_input I.failures input.new ≢ of_input I.failures input.old }
+    ensures memory { IsErrOf result ReadFault.Memory
+        → of_input I.failures input.new ≡ of_input I.failures input.old }
+    ensures steady { of_input I.is_steady input.old ≡ true → result ≢ Err ReadFault.Device }
+    ensures stays { of_input I.is_steady input.old ≡ true
+        → of_input I.is_steady input.new ≡ true }
+{
+    let held = next_held_frame(
+        stream.alloc,
+        stream.pool,
+        stream.message_type,
+        input,
+        Limits::FULL,
+    )?;
+    if let Some(next) = held {
+        return Ok(next);
+    }
+    sink.flush(out);
+    wait_for_frame(sink, stream, input)
+}
+
+/// Takes the next frame of an input that may have to be waited for. All that was put is written.
+fn wait_for_frame<'p, I: Input + Drop>(
+    _sink: &Sink,
+    stream: &Stream<'p, '_>,
+    input: &mut BufferedInput<I>,
+) -> Result<NextFrame<'p>, ReadFault>
+    requires { _sink.now.held ≡ [] }
+    ensures of_type { IfOk result (IsOfType stream.now.pool.now stream.now.message_type.0) }
+    ensures next { IfOk result (IsNext stream.now.pool.now stream.now.message_type.0 full
+        (left_of I.left input.old) (left_of I.left input.new)) }
+    ensures kept { OnOk result (of_input I.failures input.new ≡ of_input I.failures input.old) }
+    ensures failed { IsErrOf result ReadFault.Device
+        → of_input I.failures input.new ≢ of_input I.failures input.old }
+    ensures memory { IsErrOf result ReadFault.Memory
+        → of_input I.failures input.new ≡ of_input I.failures input.old }
+    ensures steady { of_input I.is_steady input.old ≡ true → result ≢ Err ReadFault.Device }
+    ensures stays { of_input I.is_steady input.old ≡ true
+        → of_input I.is_steady input.new ≡ true }
+{
+    next_frame(
+        stream.alloc,
+        stream.pool,
+        stream.message_type,
+        input,
+        Limits::FULL,
+    )
 }
 
 impl Progress {

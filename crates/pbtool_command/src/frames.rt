@@ -1,7 +1,9 @@
 //! The messages of a file, each after its length.
 
-ghost use Rattle.std.specs.Prelude.{◌≡◌, ◌≢◌, ◌<◌, ◌⊎◌, false, length, true, IfErr, OnOk};
+ghost use Rattle.std.specs.Prelude.{◌≡◌, ◌≢◌, ◌<◌, ◌⊎◌, [], false, length, true, IfErr, OnOk};
 ghost use Rattle.pb_wire.specs.Limits.{full};
+ghost use Rattle.pb_input.specs.Buffered.{left_of, of_input};
+ghost use Rattle.pb_decode.specs.FromDevice.{TellsFailures};
 ghost use Rattle.pbtool_files.specs.FileMap.{IsSaved, IsUnsaved};
 ghost use Rattle.pbtool_command.specs.FramesAnswer.{AreFrameLines, are_json, frame_line};
 ghost use Rattle.pb_json.specs.Answers.{RefusedAs};
@@ -9,7 +11,7 @@ ghost use Rattle.pb_listing.specs.Putting.{PutsSome};
 ghost use Rattle.pb_output.specs.Sending.{Cut, Sent};
 ghost use Rattle.pb_output.specs.Sink.{Puts};
 ghost use Rattle.pbtool_command.specs.Steps.{Comes, NoFile, StreamAt, StreamBegun, StreamBegunAt, StreamOf};
-ghost use Rattle.pbtool_command.specs.Streaming.{FramesBegunIn, FramesIn, IsToldOfFormless, IsToldOfFrame, PutsFrames, PutsNext};
+ghost use Rattle.pbtool_command.specs.Streaming.{FramesBegunIn, FramesIn, IsToldOfFormless, IsToldOfFrame, PutsFrames, PutsNext, ReadsNext};
 ghost use Rattle.pbtool_command.specs.ReadFailures.{NextCounts, StopCounts};
 ghost use Rattle.pbtool_files.specs.Refusal.{KeepsFailures, names_device};
 
@@ -18,6 +20,7 @@ use crate::command::{FrameForm, Source};
 use crate::form::put_json_line;
 use crate::shown::Shown;
 use pb_decode::DecodeError;
+use pb_input::BufferedInput;
 use pb_json::{JsonError, Layout};
 use pb_listing::{FloatForm, put_listing_as};
 use pb_output::Sink;
@@ -144,14 +147,15 @@ fn frames_at<'a, F: Files, O: Output>(
     ensures unfailing { F.is_steady files.old ≡ true → F.failures files.new ≡ F.failures files.old }
 {
     let input = open_file(path, files)?;
-    let mut reader = DelimitedReader::new(alloc, pool, message_type, input, Limits::FULL);
+    let buffered = BufferedInput::new(input);
+    let mut reader = DelimitedReader::new(alloc, pool, message_type, buffered, Limits::FULL);
     write_frames(form, &mut reader, path, out)
 }
 
 /// Writes the lines of the frames that are left, and then reports why what follows them is refused, if it is.
 fn write_frames<'a, I: Input + Drop, O: Output>(
     form: Shown<'_>,
-    reader: &mut DelimitedReader<'_, I>,
+    reader: &mut DelimitedReader<'_, BufferedInput<I>>,
     path: &'a str,
     out: &mut O,
 ) -> Result<(), Refusal<'a>>
@@ -160,13 +164,13 @@ fn write_frames<'a, I: Input + Drop, O: Output>(
     requires full { reader.old.limits ≡ full }
     ensures comes { Comes (Sent O.written O.failures out.old out.new)
         (Cut O.written O.failures out.old out.new) NoFile (λ _. ⊥)
-        (FramesIn I.left I.is_steady reader.old.input form.entry path.entry.now reader.old.pool
-        reader.old.kind)
-        (FramesBegunIn I.left I.is_steady reader.old.input form.entry reader.old.pool
-        reader.old.kind) result }
-    ensures kept { KeepsFailures (λ r. I.failures r.input) reader.old reader.new result }
+        (FramesIn (left_of I.left) (of_input I.is_steady) reader.old.input form.entry
+        path.entry.now reader.old.pool reader.old.kind)
+        (FramesBegunIn (left_of I.left) (of_input I.is_steady) reader.old.input form.entry
+        reader.old.pool reader.old.kind) result }
+    ensures kept { KeepsFailures (λ r. of_input I.failures r.input) reader.old reader.new result }
     ensures failed { IfErr result (λ e. names_device e ≡ true
-        → (I.failures reader.new.input ≢ I.failures reader.old.input)
+        → (of_input I.failures reader.new.input ≢ of_input I.failures reader.old.input)
         ⊎ (O.failures out.new ≢ O.failures out.old)) }
 {
     let mut sink = Sink::new();
@@ -185,16 +189,17 @@ fn put_frames<'a, I: Input + Drop, O: Output>(
     sink: &mut Sink,
     out: &mut O,
     form: Shown<'_>,
-    reader: &mut DelimitedReader<'_, I>,
+    reader: &mut DelimitedReader<'_, BufferedInput<I>>,
     path: &'a str,
 ) -> Option<Refusal<'a>>
     requires first { reader.old.taken ≡ 0 }
     requires open { reader.old.finished ≡ false }
     requires full { reader.old.limits ≡ full }
-    ensures puts { PutsFrames I.left I.is_steady reader.old.input O.written O.failures out.old
-        out.new sink.old sink.new
+    ensures puts { PutsFrames (left_of I.left) (of_input I.is_steady) reader.old.input
+        O.written O.failures out.old out.new sink.old sink.new
         form.entry path.entry.now reader.old.pool reader.old.kind result }
-    ensures reads { StopCounts (I.failures reader.old.input) (I.failures reader.new.input) result }
+    ensures reads { StopCounts (of_input I.failures reader.old.input)
+        (of_input I.failures reader.new.input) result }
 {
     for index in 0..u64::MAX {
         if sink.has_failed() {
@@ -215,20 +220,20 @@ fn put_next<'a, I: Input + Drop, O: Output>(
     out: &mut O,
     form: Shown<'_>,
     index: u64,
-    reader: &mut DelimitedReader<'_, I>,
+    reader: &mut DelimitedReader<'_, BufferedInput<I>>,
     path: &'a str,
 ) -> Next<'a>
     requires { reader.old.finished ≡ false }
-    ensures puts { PutsNext O.written O.failures I.left I.is_steady out.old out.new
-        sink.old sink.new
+    ensures puts { PutsNext O.written O.failures (left_of I.left) (of_input I.is_steady)
+        out.old out.new sink.old sink.new
         reader.old reader.new form.entry index path.entry result }
-    ensures reads { NextCounts (I.failures reader.old.input) (I.failures reader.new.input) result }
+    ensures reads { NextCounts (of_input I.failures reader.old.input)
+        (of_input I.failures reader.new.input) result }
 {
     let offset = reader.taken();
-    match reader.next() {
+    match next_message(sink, out, reader) {
         Ok(None) => Next::End,
         Ok(Some(message)) => {
-            let _body = message.body();
             let size = reader.taken() - offset;
             match put_frame(sink, out, form, index, offset, size, &message) {
                 Ok(()) => Next::Put,
@@ -236,6 +241,50 @@ fn put_next<'a, I: Input + Drop, O: Output>(
             }
         }
         Err(error) => Next::Refused(refusal_at(index, path, error)),
+    }
+}
+
+/// The next message. What was put is written before more of the input is waited for.
+fn next_message<'p, I: Input + Drop, O: Output>(
+    sink: &mut Sink,
+    out: &mut O,
+    reader: &mut DelimitedReader<'p, BufferedInput<I>>,
+) -> Result<Option<DynamicMessage<'p>>, DecodeError>
+    requires { reader.old.finished ≡ false }
+    ensures puts { Puts O.written O.failures out.old out.new sink.old sink.new [] }
+    ensures live { (reader.new.input.input ≡ reader.old.input.input) ⊎ (sink.new.held ≡ []) }
+    ensures reads { ReadsNext (left_of I.left) (of_input I.is_steady) reader.old reader.new
+        result }
+    ensures failures { TellsFailures result (of_input I.failures reader.old.input)
+        (of_input I.failures reader.new.input) }
+{
+    if let Some(message) = reader.next_held()? {
+        let _body = message.body();
+        return Ok(Some(message));
+    }
+    sink.flush(out);
+    wait_for_message(sink, reader)
+}
+
+/// The next message of an input that may have to be waited for. All that was put is written.
+fn wait_for_message<'p, I: Input + Drop>(
+    _sink: &Sink,
+    reader: &mut DelimitedReader<'p, BufferedInput<I>>,
+) -> Result<Option<DynamicMessage<'p>>, DecodeError>
+    requires live { _sink.now.held ≡ [] }
+    requires open { reader.old.finished ≡ false }
+    ensures reads { ReadsNext (left_of I.left) (of_input I.is_steady) reader.old reader.new
+        result }
+    ensures failures { TellsFailures result (of_input I.failures reader.old.input)
+        (of_input I.failures reader.new.input) }
+{
+    match reader.next() {
+        Ok(None) => Ok(None),
+        Ok(Some(message)) => {
+            let _body = message.body();
+            Ok(Some(message))
+        }
+        Err(error) => Err(error),
     }
 }
 

@@ -1,4 +1,5 @@
 use Rattle.std.proofs.Common.{◌≡◌, ◌-◌, ◌^◌, ◌∙◌, arith, inr, refl, sym}
+use Rattle.pb_input.specs.Buffered.{of_input}
 use Rattle.pbtool_command.proofs.ReadFailures.{concluded_none, counts_from, keeps_same}
 use Rattle.pbtool_command.proofs.PassedFrames.{going_few, going_start, over_answered, passed_begun, turn_most}
 use Rattle.pbtool_command.proofs.all_frames.put_all_frames.Goals as goal
@@ -33,7 +34,7 @@ returns-clause-puts g c =
 pub returns-in-Ends-clause-kept : goal.returns-in-Ends-clause-kept
 returns-in-Ends-clause-kept g c =
     let same = rw c.in-Ends.is at c.put_turn.ensures.reads in
-    keeps_same g.I.Input.failures c.args.input.now c.put_turn.new.input c.conclude.result (same ∙ c.loop-index.invariant.1)
+    keeps_same (of_input g.I.Input.failures) c.args.input.now c.put_turn.new.input c.conclude.result (same ∙ c.loop-index.invariant.1)
 
 pub returns-in-Ends-clause-failed : goal.returns-in-Ends-clause-failed
 returns-in-Ends-clause-failed g c = concluded_none _ _ _ c.conclude.result _ c.conclude.ensures
@@ -47,7 +48,7 @@ returns-in-Stops-clause-failed g c =
     let counts = counts_from _ _ _ c.in-Stops.refusal c.loop-index.invariant.1 (rw c.in-Stops.is at c.put_turn.ensures.reads) in counts.1
 
 pub returns-clause-kept : goal.returns-clause-kept
-returns-clause-kept g c = keeps_same g.I.Input.failures c.args.input.now c.loop-index.input c.conclude-2.result c.loop-index.invariant.1
+returns-clause-kept g c = keeps_same (of_input g.I.Input.failures) c.args.input.now c.loop-index.input c.conclude-2.result c.loop-index.invariant.1
 
 pub returns-clause-failed : goal.returns-clause-failed
 returns-clause-failed g c = concluded_none _ _ _ c.conclude-2.result _ c.conclude-2.ensures

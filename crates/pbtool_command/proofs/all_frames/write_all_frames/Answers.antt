@@ -1,4 +1,5 @@
 use Rattle.std.proofs.Common.{inr, refl}
+use Rattle.pb_input.specs.Buffered.{left_of, of_input}
 use Rattle.pbtool_files.specs.Known.{OfInput}
 use Rattle.pbtool_command.specs.AllFrames.{AllBegunBy, AllFramesBy}
 use Rattle.pbtool_command.proofs.ReadFailures.{failed_input}
@@ -7,7 +8,7 @@ use Rattle.pbtool_command.proofs.all_frames.write_all_frames.Goals as goal
 
 pub returns-in_default-clause-comes : goal.returns-in_default-clause-comes
 returns-in_default-clause-comes g c =
-    let known = OfInput g.I.Input.left g.I.Input.is_steady c.args.input.now in
+    let known = OfInput (left_of g.I.Input.left) (of_input g.I.Input.is_steady) c.args.input.now in
     let stream = c.args.stream.now in
     answer_cut g.O.Output.written g.O.Output.failures (AllFramesBy known stream.form stream.path.now stream.pool.now stream.message_type.0)
     (AllBegunBy known stream.form stream.pool.now stream.message_type.0) c.in_default.field-0 c.put_all_frames-outcome.result _ refl c.new-sink.ensures
@@ -15,7 +16,7 @@ returns-in_default-clause-comes g c =
 
 pub returns-clause-comes : goal.returns-clause-comes
 returns-clause-comes g c =
-    let known = OfInput g.I.Input.left g.I.Input.is_steady c.args.input.now in
+    let known = OfInput (left_of g.I.Input.left) (of_input g.I.Input.is_steady) c.args.input.now in
     let stream = c.args.stream.now in
     answer_sent g.O.Output.written g.O.Output.failures (AllFramesBy known stream.form stream.path.now stream.pool.now stream.message_type.0)
     (AllBegunBy known stream.form stream.pool.now stream.message_type.0) _ _ _ c.put_all_frames-outcome.result
@@ -23,7 +24,7 @@ returns-clause-comes g c =
 
 pub returns-in_default-clause-failed : goal.returns-in_default-clause-failed
 returns-in_default-clause-failed g c = λ named.
-    let known = OfInput g.I.Input.left g.I.Input.is_steady c.args.input.now in
+    let known = OfInput (left_of g.I.Input.left) (of_input g.I.Input.is_steady) c.args.input.now in
     let stream = c.args.stream.now in
     inr (answer_unsent g.O.Output.written g.O.Output.failures (AllFramesBy known stream.form stream.path.now stream.pool.now stream.message_type.0)
     (AllBegunBy known stream.form stream.pool.now stream.message_type.0) c.in_default.field-0 c.put_all_frames-outcome.result c.new-sink.ensures

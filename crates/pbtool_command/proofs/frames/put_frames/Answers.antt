@@ -1,4 +1,5 @@
 use Rattle.std.proofs.Common.{◌-◌, ◌^◌, ◌≤◌, ◌∙◌, arith, append-nil, inl, inr, refl, sym}
+use Rattle.pb_input.specs.Buffered.{left_of}
 use Rattle.pb_output.proofs.SinkLemmas.{puts_then}
 use Rattle.pbtool_command.proofs.ReadFailures.{counts_from}
 use Rattle.pbtool_command.proofs.Streams.{read_begun, read_most, read_next, read_to_end, read_unshown, streaming_start}
@@ -28,7 +29,7 @@ pub returns-in-End-clause-puts : goal.returns-in-End-clause-puts
 returns-in-End-clause-puts g c =
     let before = c.loop-index.invariant.0 in
     let step = rw c.in-End.is at c.put_next.ensures.puts in
-    (before.text, rw append-nil at (puts_then before.put step.1), inl (read_to_end c.args.path.now (g.I.Input.left c.put_next.new.reader.input) before.read step.0))
+    (before.text, rw append-nil at (puts_then before.put step.1), inl (read_to_end c.args.path.now (left_of g.I.Input.left c.put_next.new.reader.input) before.read step.0))
 
 pub returns-in-Refused-clause-puts : goal.returns-in-Refused-clause-puts
 returns-in-Refused-clause-puts g c =
