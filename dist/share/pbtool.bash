@@ -3,7 +3,7 @@ _pbtool() {
     local current=${COMP_WORDS[COMP_CWORD]} before=${COMP_WORDS[COMP_CWORD - 1]} command=${COMP_WORDS[1]} words=() flags names at
     COMPREPLY=()
     if [ "$COMP_CWORD" -eq 1 ]; then
-        COMPREPLY=($(compgen -W "raw check show canon json frames types compile compat from-json help version --help --version -h -V" -- "$current"))
+        COMPREPLY=($(compgen -W "raw check show canon json text frames types compile compat from-json help version --help --version -h -V" -- "$current"))
         return
     fi
     case $command in
@@ -15,6 +15,7 @@ _pbtool() {
         types) flags="--lenient --help -h" ;;
         canon) flags="--out --explain --lenient --help -h" ;;
         json) flags="--pretty --explain --lenient --help -h" ;;
+        text) flags="--single-line --explain --lenient --help -h" ;;
         compile) flags="-I -o --descriptor_set_out --explain --lenient --help -h" ;;
         compat) flags="--lenient --both --help -h" ;;
         help | version) flags="--help -h" ;;
@@ -45,8 +46,8 @@ _pbtool() {
         esac
     done
     case $command,${#words[@]} in
-        help,0) COMPREPLY=($(compgen -W "raw check show canon json frames types compile compat from-json help version" -- "$current")) ;;
-        check,1 | show,1 | canon,1 | json,1 | frames,1 | from-json,1)
+        help,0) COMPREPLY=($(compgen -W "raw check show canon json text frames types compile compat from-json help version" -- "$current")) ;;
+        check,1 | show,1 | canon,1 | json,1 | text,1 | frames,1 | from-json,1)
             names=$("${COMP_WORDS[0]}" types --lenient "${words[0]}" 2>/dev/null | awk '$1 == "message" { print $2 }')
             COMPREPLY=($(compgen -W "$names" -- "$current"))
             ;;

@@ -44,7 +44,8 @@ by_name name (inr (inr (inr (inr (inr (inr (inr (inr (inl e))))))))) = subst IsA
 by_name name (inr (inr (inr (inr (inr (inr (inr (inr (inr (inl e)))))))))) = subst IsAnswered (sym e) refl
 by_name name (inr (inr (inr (inr (inr (inr (inr (inr (inr (inr (inl e))))))))))) = subst IsAnswered (sym e) refl
 by_name name (inr (inr (inr (inr (inr (inr (inr (inr (inr (inr (inr (inl e)))))))))))) = subst IsAnswered (sym e) refl
-by_name name (inr (inr (inr (inr (inr (inr (inr (inr (inr (inr (inr (inr none)))))))))))) = absurd none
+by_name name (inr (inr (inr (inr (inr (inr (inr (inr (inr (inr (inr (inr (inl e))))))))))))) = subst IsAnswered (sym e) refl
+by_name name (inr (inr (inr (inr (inr (inr (inr (inr (inr (inr (inr (inr (inr none))))))))))))) = absurd none
 
 -- of a command
 pub page_of : (name : Text) → is_topic name ≡ true → fault_of tool (codes "pbtool" ∷ name ∷ codes "--help" ∷ []) ≢ []

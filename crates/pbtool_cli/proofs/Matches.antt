@@ -101,10 +101,12 @@ never e = cc
 -- a name of the tool's was met, and none of them in turn
 pub no_name_left :
     (s : Option Text) → (s ≡ Some (codes "raw") → false ≡ true) → (s ≡ Some (codes "check") → false ≡ true) → (s ≡ Some (codes "show") → false ≡ true)
-    → (s ≡ Some (codes "canon") → false ≡ true) → (s ≡ Some (codes "json") → false ≡ true) → (s ≡ Some (codes "frames") → false ≡ true)
-    → (s ≡ Some (codes "types") → false ≡ true) → (s ≡ Some (codes "compile") → false ≡ true) → (s ≡ Some (codes "from-json") → false ≡ true)
-    → (s ≡ Some (codes "compat") → false ≡ true) → s ≢ Some (codes "help") → s ≢ Some (codes "version") → Any (λ n. s ≡ Some n) tool_names → ⊥
-no_name_left s raw check show canon json frames types compile from_json compat help version has = by (at_index s tool_names has.0 has.1 has.2 has.3 has.4)
+    → (s ≡ Some (codes "canon") → false ≡ true) → (s ≡ Some (codes "json") → false ≡ true) → (s ≡ Some (codes "text") → false ≡ true)
+    → (s ≡ Some (codes "frames") → false ≡ true) → (s ≡ Some (codes "types") → false ≡ true) → (s ≡ Some (codes "compile") → false ≡ true)
+    → (s ≡ Some (codes "from-json") → false ≡ true) → (s ≡ Some (codes "compat") → false ≡ true) → s ≢ Some (codes "help") → s ≢ Some (codes "version")
+    → Any (λ n. s ≡ Some n) tool_names → ⊥
+no_name_left s raw check show canon json text frames types compile from_json compat help version has =
+    by (at_index s tool_names has.0 has.1 has.2 has.3 has.4)
   where
     by : IsOneOf s tool_names → ⊥
     by (inl is) = never (raw is)
@@ -112,11 +114,12 @@ no_name_left s raw check show canon json frames types compile from_json compat h
     by (inr (inr (inl is))) = never (show is)
     by (inr (inr (inr (inl is)))) = never (canon is)
     by (inr (inr (inr (inr (inl is))))) = never (json is)
-    by (inr (inr (inr (inr (inr (inl is)))))) = never (frames is)
-    by (inr (inr (inr (inr (inr (inr (inl is))))))) = never (types is)
-    by (inr (inr (inr (inr (inr (inr (inr (inl is)))))))) = never (compile is)
-    by (inr (inr (inr (inr (inr (inr (inr (inr (inl is))))))))) = never (compat is)
-    by (inr (inr (inr (inr (inr (inr (inr (inr (inr (inl is)))))))))) = never (from_json is)
-    by (inr (inr (inr (inr (inr (inr (inr (inr (inr (inr (inl is))))))))))) = help is
-    by (inr (inr (inr (inr (inr (inr (inr (inr (inr (inr (inr (inl is)))))))))))) = version is
-    by (inr (inr (inr (inr (inr (inr (inr (inr (inr (inr (inr (inr nothing)))))))))))) = nothing
+    by (inr (inr (inr (inr (inr (inl is)))))) = never (text is)
+    by (inr (inr (inr (inr (inr (inr (inl is))))))) = never (frames is)
+    by (inr (inr (inr (inr (inr (inr (inr (inl is)))))))) = never (types is)
+    by (inr (inr (inr (inr (inr (inr (inr (inr (inl is))))))))) = never (compile is)
+    by (inr (inr (inr (inr (inr (inr (inr (inr (inr (inl is)))))))))) = never (compat is)
+    by (inr (inr (inr (inr (inr (inr (inr (inr (inr (inr (inl is))))))))))) = never (from_json is)
+    by (inr (inr (inr (inr (inr (inr (inr (inr (inr (inr (inr (inl is)))))))))))) = help is
+    by (inr (inr (inr (inr (inr (inr (inr (inr (inr (inr (inr (inr (inl is))))))))))))) = version is
+    by (inr (inr (inr (inr (inr (inr (inr (inr (inr (inr (inr (inr (inr nothing))))))))))))) = nothing

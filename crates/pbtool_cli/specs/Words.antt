@@ -11,6 +11,7 @@ use Rattle.clap.specs.declared.builder.ArgAction.TheVariants.{Append, Set, SetTr
 use Rattle.pbtool_command.specs.declared.command.Command.{Command}
 use Rattle.pbtool_command.specs.declared.command.Command.TheVariants.{Raw, Check, Show, Canon, Json, Frames, AllFrames, Types, Compile}
 use Rattle.pbtool_command.specs.declared.command.Command.TheVariants.{Compat, FromJson}
+use Rattle.pbtool_command.specs.declared.command.Command.TheVariants as command
 use Rattle.pbtool_command.specs.declared.command.Comparison.{Comparison}
 use Rattle.pb_compat_lines.specs.declared.verdict.Readers.{Readers}
 use Rattle.pb_compat_lines.specs.declared.verdict.Readers.TheVariants.{Both, New}
@@ -27,6 +28,10 @@ use Rattle.pb_json_read.specs.declared.rules.JsonRules.{JsonRules}
 use Rattle.pb_json_read.specs.declared.rules.JsonRules.TheVariants as json_rules
 use Rattle.pb_json.specs.declared.form.Layout.{Layout}
 use Rattle.pb_json.specs.declared.form.Layout.TheVariants.{Compact, Indented}
+use Rattle.pb_text.specs.declared.form.TextForm.{TextForm}
+use Rattle.pb_text.specs.declared.form.Layout.TheVariants.{Lines, OneLine}
+use Rattle.pb_text.specs.declared.form.Characters.TheVariants.{Escaped}
+use Rattle.pb_text.specs.declared.form.UnknownRecords.TheVariants.{ByNumber}
 use Rattle.pbtool_files.specs.declared.set_file.Reading.{Reading}
 use Rattle.pbtool_files.specs.declared.set_file.Reading.TheVariants.{Lenient, Strict}
 
@@ -80,6 +85,13 @@ pretty_rule = record (new_rule (codes "pretty")) { long = Some (codes "pretty");
 -- `json [--pretty] [--explain] [--lenient] SET TYPE FILE`
 abbrev pub json_command : App
 json_command = of_source (with_rule (new_app (codes "json")) pretty_rule)
+
+abbrev pub single_line_rule : Rule
+single_line_rule = record (new_rule (codes "single-line")) { long = Some (codes "single-line"); action = Some SetTrue }
+
+-- `text [--single-line] [--explain] [--lenient] SET TYPE FILE`
+abbrev pub text_command : App
+text_command = of_source (with_rule (new_app (codes "text")) single_line_rule)
 
 abbrev pub keep_going_rule : Rule
 keep_going_rule = record (new_rule (codes "keep-going")) { long = Some (codes "keep-going"); action = Some SetTrue }
@@ -141,8 +153,9 @@ tool_top = on_top wants_subcommand (on_top with_version (new_app (codes "pbtool"
 -- all commands but `compat` and `from-json`
 abbrev pub other_tool : App
 other_tool =
-    with_subcommand (with_subcommand (with_subcommand (with_subcommand (with_subcommand (with_subcommand (with_subcommand (with_subcommand tool_top raw_command.top)
-    check_command.top) show_command.top) canon_command.top) json_command.top) frames_command.top) types_command.top) compile_command.top
+    with_subcommand (with_subcommand (with_subcommand (with_subcommand (with_subcommand (with_subcommand (with_subcommand (with_subcommand (with_subcommand
+    tool_top raw_command.top) check_command.top) show_command.top) canon_command.top) json_command.top) text_command.top) frames_command.top)
+    types_command.top) compile_command.top
 
 -- all commands over files
 abbrev pub commands_tool : App
@@ -162,8 +175,8 @@ tool = with_subcommand (with_subcommand commands_tool help_command.top) version_
 
 abbrev pub tool_names : List Text
 tool_names =
-    codes "raw" ∷ codes "check" ∷ codes "show" ∷ codes "canon" ∷ codes "json" ∷ codes "frames" ∷ codes "types" ∷ codes "compile" ∷ codes "compat"
-    ∷ codes "from-json" ∷ codes "help" ∷ codes "version" ∷ []
+    codes "raw" ∷ codes "check" ∷ codes "show" ∷ codes "canon" ∷ codes "json" ∷ codes "text" ∷ codes "frames" ∷ codes "types" ∷ codes "compile"
+    ∷ codes "compat" ∷ codes "from-json" ∷ codes "help" ∷ codes "version" ∷ []
 
 abbrev pub words_of : List (String Global) → List Text
 words_of = map string_bytes
@@ -250,6 +263,10 @@ abbrev pub layout_of : Bool → Layout
 layout_of true = Indented
 layout_of false = Compact
 
+-- the text format of `protoc --decode`, laid out so by whether the flag is given
+abbrev pub text_form_of : Bool → TextForm
+text_form_of single = record { layout = if single then OneLine else Lines; characters = Escaped; unknown = ByNumber }
+
 -- the values that name a message and its type
 abbrev pub IsSource : List Row → Source → Type 0
 IsSource rows s =
@@ -279,6 +296,8 @@ IsNamed name rows (Canon to source) =
     (name ≡ codes "canon") × (option_map (λ path. path.now) to ≡ option_of (codes "out") rows) × IsSource rows source
 IsNamed name rows (Json layout source) =
     (name ≡ codes "json") × (layout ≡ layout_of (flag_of (codes "pretty") rows)) × IsSource rows source
+IsNamed name rows (command.Text form source) =
+    (name ≡ codes "text") × (form ≡ text_form_of (flag_of (codes "single-line") rows)) × IsSource rows source
 IsNamed name rows (Frames form source) =
     (name ≡ codes "frames") × (flag_of (codes "keep-going") rows ≡ false) × IsFrameForm rows form × IsSource rows source
 IsNamed name rows (AllFrames form source) =

@@ -10,7 +10,7 @@ ghost use Rattle.pb_output.specs.Sending.{Cut, Sent, SentOrCut};
 ghost use Rattle.pbtool_cli.specs.Misuse.{report_of};
 ghost use Rattle.pbtool_cli.specs.Running.{DoesBy, DoesNamed, IsNoCommand, RefusesWords, ReportsMisuse};
 ghost use Rattle.pbtool_cli.specs.Explained.{DoesExplained};
-ghost use Rattle.pbtool_cli.specs.Words.{AreJsonRules, AreRoots, IsFrameForm, IsMatched, IsRawForm, IsSource, ShowsFrames, flag_of, floats_of, layout_of, output_of, reading_of, sources_of};
+ghost use Rattle.pbtool_cli.specs.Words.{AreJsonRules, AreRoots, IsFrameForm, IsMatched, IsRawForm, IsSource, ShowsFrames, flag_of, floats_of, layout_of, output_of, reading_of, sources_of, text_form_of};
 ghost use Rattle.pbtool_cli.specs.Words.{IsComparison, is_explained, readers_of, value_of, values_of, tool, tool_names, words_of};
 
 use crate::explaining::execute_explained;
@@ -19,6 +19,7 @@ use crate::pages::{print_page, print_version};
 use crate::words::definition;
 use clap::error::ErrorKind;
 use clap::{ArgMatches, Error};
+use pb_text::{Characters, Layout as TextLayout, TextForm, UnknownRecords};
 use pb_wire::{Output, write_all};
 use pbtool_command::{
     Cleanup, Command, Comparison, Files, FloatForm, FrameForm, JsonRules, Layout, RawForm, Readers,
@@ -263,6 +264,12 @@ fn command_of<'m>(matches: &'m ArgMatches<'_>) -> Command<'m>
             source: source(inner),
         };
     }
+    if let Some(inner) = matches.subcommand_matches("text") {
+        return Command::Text {
+            form: text_form(inner),
+            source: source(inner),
+        };
+    }
     if let Some(inner) = matches.subcommand_matches("frames") {
         return stream(inner);
     }
@@ -410,6 +417,21 @@ fn layout(matches: &ArgMatches<'_>) -> Layout
         Layout::Indented
     } else {
         Layout::Compact
+    }
+}
+
+/// The form of a text.
+fn text_form(matches: &ArgMatches<'_>) -> TextForm
+    ensures { result ≡ text_form_of (flag_of (codes "single-line") (rows_of (found_of matches.now))) }
+{
+    TextForm {
+        layout: if flag(matches, "single-line") {
+            TextLayout::OneLine
+        } else {
+            TextLayout::Lines
+        },
+        characters: Characters::Escaped,
+        unknown: UnknownRecords::ByNumber,
     }
 }
 

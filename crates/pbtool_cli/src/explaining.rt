@@ -122,6 +122,7 @@ fn subject_of<'a>(command: &Command<'a>) -> Subject<'a> {
         | Command::Show { floats: _, source }
         | Command::Canon { out: _, source }
         | Command::Json { layout: _, source }
+        | Command::Text { form: _, source }
         | Command::FromJson {
             rules: _,
             out: _,

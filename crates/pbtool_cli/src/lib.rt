@@ -67,6 +67,6 @@ pub use command_line::{run, run_then};
 pub use explaining::execute_explained;
 pub use pbtool_command::{
     Cleanup, Command, Comparison, Files, FloatForm, FrameForm, HostFiles, JsonRules, Layout,
-    MemFiles, RawForm, Readers, Reading, Refusal, Roots, Source, execute, execute_then,
+    MemFiles, RawForm, Readers, Reading, Refusal, Roots, Source, TextForm, execute, execute_then,
 };
 pub use standard_files::{StandardFiles, StandardInput};

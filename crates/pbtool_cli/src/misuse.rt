@@ -19,6 +19,7 @@ const TOPICS: &[&str] = &[
     "show",
     "canon",
     "json",
+    "text",
     "frames",
     "types",
     "compile",

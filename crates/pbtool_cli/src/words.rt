@@ -5,7 +5,7 @@ ghost use Rattle.clap.specs.declared.builder.command.Command.TheViews.{out-Comma
 ghost use Rattle.pbtool_cli.specs.Words.{both_rule, commands_tool, compat_command, from_json_command, help_command, ignore_unknown_rule, other_tool, output_rule, version_command};
 ghost use Rattle.pbtool_cli.specs.Words.{canon_command, check_command, compile_command, frames_command, json_command, raw_command, show_command, types_command};
 ghost use Rattle.pbtool_cli.specs.Words.{decimal_rule, directory_rule, explain_rule, json_rule, keep_going_rule, lenient_rule, nested_rule, of_source, wanted};
-ghost use Rattle.pbtool_cli.specs.Words.{tool, tool_top};
+ghost use Rattle.pbtool_cli.specs.Words.{single_line_rule, text_command, tool, tool_top};
 
 use clap::{Arg, ArgAction, Command};
 use std::alloc::{AllocError, Global};
@@ -68,7 +68,8 @@ fn other_commands<'a>(alloc: Global) -> Result<Command<'a>, AllocError>
     let with_show = with_check.subcommand(show(alloc)?)?;
     let with_canon = with_show.subcommand(canon(alloc)?)?;
     let with_json = with_canon.subcommand(json(alloc)?)?;
-    let with_frames = with_json.subcommand(frames(alloc)?)?;
+    let with_text = with_json.subcommand(text(alloc)?)?;
+    let with_frames = with_text.subcommand(frames(alloc)?)?;
     let with_types = with_frames.subcommand(types(alloc)?)?;
     let whole = with_types.subcommand(compile(alloc)?)?;
     Ok(whole)
@@ -163,6 +164,19 @@ fn json<'a>(alloc: Global) -> Result<Command<'a>, AllocError>
         .after_help("Example: pbtool json shop.set shop.Order order.bin");
     let with_pretty = command.arg(pretty)?;
     let whole = with_source(alloc, with_pretty, BYTES)?;
+    Ok(whole)
+}
+
+fn text<'a>(alloc: Global) -> Result<Command<'a>, AllocError>
+    ensures app { IfOk result (λ c. app_of c ≡ text_command) }
+    ensures local { IfOk result (λ c. (out-Command c).has_globals ≡ false) }
+{
+    let command = Command::new(alloc, "text")
+        .about("Print a message in the text format, as protoc --decode does")
+        .after_help("Example: pbtool text shop.set shop.Order order.bin");
+    let single_line = single_line_option(alloc);
+    let with_single_line = command.arg(single_line)?;
+    let whole = with_source(alloc, with_single_line, BYTES)?;
     Ok(whole)
 }
 
@@ -353,6 +367,17 @@ fn decimal_option<'a>(alloc: Global) -> Arg<'a>
         .long("decimal")
         .action(ArgAction::SetTrue)
         .help("Print floats in decimal, and not by their bits")
+}
+
+/// The flag for a text on one line.
+fn single_line_option<'a>(alloc: Global) -> Arg<'a>
+    ensures rule { rule_of result ≡ single_line_rule }
+    ensures local { result.global ≡ false }
+{
+    Arg::new(alloc, "single-line")
+        .long("single-line")
+        .action(ArgAction::SetTrue)
+        .help("Print all fields on one line")
 }
 
 /// The flag for messages that are printed as JSON.

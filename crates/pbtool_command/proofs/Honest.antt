@@ -122,6 +122,9 @@ module _ {F : Type 0} (contents : F → Option FileMap) (is_steady : F → Bool)
           names_of_map source pool m x.0.now x.1,
           message_map _ _ _ _ (form.Json layout x.0) pool m a (λ f known. known map honest) (λ v known. known.1 map honest) x.2,
         )) h
+    right_of_map (command.Text text_form source) a h =
+        type_of_map _ _ source.reading source.type_name.now source.set.now source.file.now a
+        (λ pool m. message_map _ _ _ _ (form.Text text_form) pool m a (λ f known. known map honest) (λ v known. known.1 map honest)) h
     right_of_map (FromJson rules out source) a h =
         type_of_map _ _ source.reading source.type_name.now source.set.now source.file.now a
         (λ pool m x. (
@@ -154,6 +157,7 @@ module _ {F : Type 0} (contents : F → Option FileMap) (is_steady : F → Bool)
     begun_of_map (Show floats source) text h = h
     begun_of_map (Canon to source) text h = h
     begun_of_map (Json layout source) text h = h
+    begun_of_map (command.Text text_form source) text h = h
     begun_of_map (FromJson rules out source) text h = h
     begun_of_map (command.Types reading set name) text h = h
     begun_of_map (Compile roots out names) text h = h
@@ -189,6 +193,9 @@ module _ {F : Type 0} (contents : F → Option FileMap) (is_steady : F → Bool)
         names_any (IsReadOf contents is_steady files (full.bytes + 1) source.set.now) source pool m x.0.now x.1,
         message_map _ _ _ _ (form.Json layout x.0) pool m a (λ f known. tt) (λ v known. known.0) x.2,
       )) h
+  right_of_any (command.Text text_form source) a h =
+      type_any _ _ _ _ source.reading source.type_name.now source.set.now source.file.now a
+      (λ pool m. message_map _ _ _ _ (form.Text text_form) pool m a (λ f known. tt) (λ v known. known.0)) h
   right_of_any (FromJson rules out source) a h =
       type_any _ _ _ _ source.reading source.type_name.now source.set.now source.file.now a
       (λ pool m x. (x.0, names_any (IsReadOf contents is_steady files (full.bytes + 1) source.set.now) source pool m x.0 x.1, json_any _ rules x.0 out.now pool m a x.2)) h
@@ -217,6 +224,7 @@ module _ {F : Type 0} (contents : F → Option FileMap) (is_steady : F → Bool)
   begun_of_any (Show floats source) text h = h
   begun_of_any (Canon to source) text h = h
   begun_of_any (Json layout source) text h = h
+  begun_of_any (command.Text text_form source) text h = h
   begun_of_any (FromJson rules out source) text h = h
   begun_of_any (command.Types reading set name) text h = h
   begun_of_any (Compile roots out names) text h = h

@@ -3,6 +3,7 @@ pub mod RawAnswer
 pub mod TypeAnswer
 pub mod TypesAnswer
 pub mod JsonAnswer
+pub mod TextAnswer
 pub mod SetNames
 pub mod MessageAnswer
 pub mod FromJsonAnswer

@@ -12,8 +12,9 @@ use Rattle.pb_listing.specs.ListingAs.{IsListing}
 use Rattle.pb_listing.specs.RawListing.{line_feed}
 use Rattle.pbtool_files.specs.Report.{fault_line, too_large_line}
 use Rattle.pbtool_command.specs.JsonAnswer.{JsonAnswer}
+use Rattle.pbtool_command.specs.TextAnswer.{TextAnswer}
 use Rattle.pbtool_command.specs.declared.form.Form.{Form}
-use Rattle.pbtool_command.specs.declared.form.Form.TheVariants.{Check, Listing, Json, Canonical, CanonicalFile}
+use Rattle.pbtool_command.specs.declared.form.Form.TheVariants.{Check, Listing, Json, Text, Canonical, CanonicalFile}
 
 -- an encoding has at most 2^31 - 1 bytes, or none is made
 pub data CanonAnswer (bytes : List ℕ) (made answer : Answer) : Type 0 where
@@ -29,6 +30,7 @@ abbrev pub FormAnswer : Form → Dynamic → Answer → Type 0
 FormAnswer Check m answer = answer ≡ done (codes "ok\n")
 FormAnswer (Listing floats) m answer = ListingAnswer floats m answer
 FormAnswer (Json layout names) m answer = JsonAnswer layout names m answer
+FormAnswer (Text text_form) m answer = TextAnswer text_form m answer
 FormAnswer Canonical m answer = CanonAnswer (bytes_of m) (done (encode_lower (bytes_of m) ++ line_feed)) answer
 FormAnswer (CanonicalFile path) m answer = CanonAnswer (bytes_of m) (saves path.now (bytes_of m)) answer
 

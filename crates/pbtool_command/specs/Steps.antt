@@ -253,6 +253,7 @@ module _ {F : Type 0} (contents : F → Option FileMap) (is_steady : F → Bool)
   RightOf (Show floats source) a = MessageOf (form.Listing floats) source a
   RightOf (Canon to source) a = MessageOf (canonical_form to) source a
   RightOf (Json layout source) a = JsonOf layout source a
+  RightOf (command.Text text_form source) a = MessageOf (form.Text text_form) source a
   RightOf (FromJson rules out source) a = JsonReadOf rules out.now source a
   RightOf (Frames form source) a = StreamOf form source a
   RightOf (AllFrames form source) a = AllFramesOf form source a
@@ -266,6 +267,7 @@ module _ {F : Type 0} (contents : F → Option FileMap) (is_steady : F → Bool)
   BegunOf (Show floats source) text = IsNothing text
   BegunOf (Canon to source) text = IsNothing text
   BegunOf (Json layout source) text = IsNothing text
+  BegunOf (command.Text text_form source) text = IsNothing text
   BegunOf (FromJson rules out source) text = IsNothing text
   BegunOf (Frames form source) text = StreamBegun form source text
   BegunOf (AllFrames form source) text = AllBegunOf form source text

@@ -4,6 +4,7 @@ use pb_compat_lines::Readers;
 use pb_json::Layout;
 use pb_json_read::JsonRules;
 use pb_listing::FloatForm;
+use pb_text::TextForm;
 use pbtool_files::Reading;
 
 /// Where messages and their type are read: the file of the messages, and the type's name in the descriptor set of another
@@ -81,6 +82,11 @@ pub enum Command<'a> {
     /// Writes the message of a file as JSON.
     Json {
         layout: Layout,
+        source: Source<'a>,
+    },
+    /// Writes the message of a file in a form of the text format.
+    Text {
+        form: TextForm,
         source: Source<'a>,
     },
     /// Writes the canonical bytes of the message that a file holds as JSON, by rules, to the file `out`.

@@ -132,6 +132,9 @@ pub fn perform<'a, F: Files, O: Output>(
             out,
         ),
         Command::Json { layout, source } => json(alloc, cleanup, *layout, source, files, out),
+        Command::Text { form, source } => {
+            message(alloc, cleanup, Form::Text(*form), source, files, out)
+        }
         Command::FromJson {
             rules,
             out: to,

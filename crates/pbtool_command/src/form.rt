@@ -8,7 +8,8 @@ ghost use Rattle.pbtool_files.specs.FileMap.{IsSaved, IsUnsaved};
 ghost use Rattle.pb_json.specs.Answers.{RefusedAs};
 ghost use Rattle.pbtool_command.specs.JsonAnswer.{IsJsonLine, JsonAnswer};
 ghost use Rattle.pbtool_command.specs.MessageAnswer.{CanonAnswer, FormAnswer, ListingAnswer};
-ghost use Rattle.pb_listing.specs.Putting.{PutsSome};
+ghost use Rattle.pbtool_command.specs.TextAnswer.{AreTextLines, TextAnswer, text_end};
+ghost use Rattle.pb_listing.specs.Putting.{CutSome, PutsSome, SentSome};
 ghost use Rattle.pb_listing.specs.RawListing.{line_feed};
 ghost use Rattle.pbtool_files.specs.Refusal.{KeepsFailures, Refuses};
 ghost use Rattle.pbtool_files.specs.Report.{too_large_line};
@@ -19,6 +20,7 @@ use pb_encode::{EncodeError, encode};
 use pb_json::{JsonError, JsonForm, JsonNames, Layout, Names, put_json};
 use pb_listing::{FloatForm, write_message_as};
 use pb_output::Sink;
+use pb_text::{Layout as TextLayout, TextForm, put_text};
 use pb_value::DynamicMessage;
 use pb_wire::{DeviceFault, Output, write_all};
 use pbtool_files::{Files, OUTPUT, Refusal};
@@ -32,6 +34,8 @@ pub enum Form<'a, 'n> {
     Listing(FloatForm),
     /// Its JSON text, with these names of fields, and a line feed.
     Json(Layout, &'n JsonNames),
+    /// Its text in a form of the text format, as whole lines.
+    Text(TextForm),
     /// Its canonical bytes, as a line of hexadecimal.
     Canonical,
     /// Its canonical bytes, in the file of a path.
@@ -58,6 +62,7 @@ pub fn make<'a, F: Files, O: Output>(
         Form::Check => print_ok(out),
         Form::Listing(floats) => print_listing(floats, message, out),
         Form::Json(layout, names) => print_json(layout, names, message, out),
+        Form::Text(text_form) => print_text(text_form, message, out),
         Form::Canonical => print_canonical(message, out),
         Form::CanonicalFile(path) => save_canonical(message, path, files),
     }
@@ -154,6 +159,47 @@ pub(crate) fn put_json_line<O: Output>(
             Ok(())
         }
         Err(error) => Err(error),
+    }
+}
+
+fn print_text<'a, O: Output>(
+    form: TextForm,
+    message: &DynamicMessage<'_>,
+    out: &mut O,
+) -> Result<(), Refusal<'a>>
+    ensures { Comes (Sent O.written O.failures out.old out.new)
+        (Cut O.written O.failures out.old out.new) NoFile (λ _. ⊥)
+        (TextAnswer form message.now) IsNothing result }
+{
+    match write_text_lines(form, message, out) {
+        Ok(()) => Ok(()),
+        Err(_) => Err(Refusal::Device(OUTPUT)),
+    }
+}
+
+/// Writes the text of a message as whole lines: a text on one line has none of its own.
+fn write_text_lines<O: Output>(
+    form: TextForm,
+    message: &DynamicMessage<'_>,
+    out: &mut O,
+) -> Result<(), DeviceFault>
+    ensures { MatchResult result
+        (λ _. SentSome O.written O.failures out.old out.new (AreTextLines form message.now))
+        (λ _. CutSome O.written O.failures out.old out.new (AreTextLines form message.now)) }
+{
+    let mut sink = Sink::new();
+    put_text(&mut sink, out, &message.view(), form);
+    sink.put(out, text_end(form.layout));
+    sink.finish(out)
+}
+
+/// What follows a text, so that its last line ends.
+fn text_end(layout: TextLayout) -> &'static [u8]
+    ensures { result.now ≡ text_end layout }
+{
+    match layout {
+        TextLayout::Lines => b"",
+        TextLayout::OneLine => b"\n",
     }
 }
 

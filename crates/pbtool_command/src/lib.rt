@@ -27,4 +27,5 @@ pub use pb_compat_lines::Readers;
 pub use pb_json::Layout;
 pub use pb_json_read::JsonRules;
 pub use pb_listing::FloatForm;
+pub use pb_text::TextForm;
 pub use pbtool_files::{Files, HostFiles, MemFiles, Reading, Refusal};

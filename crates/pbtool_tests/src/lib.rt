@@ -31,4 +31,6 @@ mod reasons;
 #[cfg(test)]
 mod runs;
 #[cfg(test)]
+mod text;
+#[cfg(test)]
 mod typed;

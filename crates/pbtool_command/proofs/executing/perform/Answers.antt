@@ -19,6 +19,9 @@ returns-in-Canon-clause-comes g c = rw c.in-Canon.is (rw c.form_of.ensures at c.
 pub returns-in-Json-clause-comes : goal.returns-in-Json-clause-comes
 returns-in-Json-clause-comes g c = rw c.in-Json.is c.json.ensures.comes
 
+pub returns-in-Text-clause-comes : goal.returns-in-Text-clause-comes
+returns-in-Text-clause-comes g c = rw c.in-Text.is c.message-in-Text.ensures.comes
+
 pub returns-in-Frames-clause-comes : goal.returns-in-Frames-clause-comes
 returns-in-Frames-clause-comes g c = rw c.in-Frames.is c.frames.ensures.comes
 
