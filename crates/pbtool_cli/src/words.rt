@@ -16,22 +16,22 @@ pub(crate) const PROGRAM: &str = "pbtool";
 /// Its version.
 pub(crate) const VERSION: &str = "0.1.0";
 
-/// What the help says of a file with a message.
+/// The help of a file with a message.
 const BYTES: &str = "The file with the bytes of the message";
 
-/// What the help says of a file with a stream.
+/// The help of a file with a stream.
 const STREAM: &str = "The file with the bytes of the stream";
 
-/// What the help says of a file with a message as JSON.
+/// The help of a file with a message as JSON.
 const JSON: &str = "The file with the JSON of the message";
 
 /// How `compile` is used.
 const COMPILE_USAGE: &str =
     "pbtool compile [OPTIONS] <ROOT> <OUT> <FILE>...\n       pbtool compile [OPTIONS] -o <OUT> <ROOT> <FILE>...";
 
-/// What the help says of the words after the root of sources.
+/// The help of the words after the root of sources.
 const COMPILED: &str =
-    "The file to write, unless -o names it, and then the sources, by their names below the folder";
+    "The file to write, unless -o names it, and then the sources, by their names below ROOT";
 
 /// The definition of the command line.
 pub fn definition<'a>(alloc: Global) -> Result<Command<'a>, AllocError>
@@ -57,7 +57,7 @@ fn commands<'a>(alloc: Global) -> Result<Command<'a>, AllocError>
     Ok(whole)
 }
 
-/// Of them all but `compat` and `from-json`.
+/// All of these commands but `compat` and `from-json`.
 fn other_commands<'a>(alloc: Global) -> Result<Command<'a>, AllocError>
     ensures app { IfOk result (λ c. app_of c ≡ other_tool) }
     ensures local { IfOk result (λ c. (out-Command c).has_globals ≡ false) }
@@ -82,8 +82,8 @@ fn top<'a>(alloc: Global) -> Command<'a>
 {
     Command::new(alloc, PROGRAM)
         .version(VERSION)
-        .about("Reads and shows Protocol Buffers messages")
-        .after_help("Of a command, with an example: pbtool help COMMAND")
+        .about("Read, check, print and write Protocol Buffers messages")
+        .after_help("The flags of a command, with an example: pbtool help COMMAND")
         .subcommand_required(true)
         .disable_help_subcommand(true)
 }
@@ -95,12 +95,12 @@ fn raw<'a>(alloc: Global) -> Result<Command<'a>, AllocError>
     let short = Arg::new(alloc, "short")
         .long("short")
         .action(ArgAction::SetTrue)
-        .help("Print the shortest spelling as one line of hexadecimal instead");
+        .help("Print the shortest encoding in hexadecimal instead");
     let file = Arg::new(alloc, "FILE")
         .required(true)
-        .help("The file with the bytes of one message");
+        .help("The file with the bytes of the message");
     let command = Command::new(alloc, "raw")
-        .about("Print the records of a message, without its schema")
+        .about("Print the records of a message without its schema")
         .after_help("Example: pbtool raw order.bin");
     let with_short = command.arg(short)?;
     let nested = nested_option(alloc);
@@ -116,7 +116,7 @@ fn check<'a>(alloc: Global) -> Result<Command<'a>, AllocError>
     ensures local { IfOk result (λ c. (out-Command c).has_globals ≡ false) }
 {
     let command = Command::new(alloc, "check")
-        .about("Say that a file is a message of a type")
+        .about("Check that a file is a message of a type")
         .after_help("Example: pbtool check shop.set shop.Order order.bin");
     let whole = with_source(alloc, command, BYTES)?;
     Ok(whole)
@@ -144,7 +144,7 @@ fn canon<'a>(alloc: Global) -> Result<Command<'a>, AllocError>
         .action(ArgAction::Set)
         .help("Write the bytes to this file instead");
     let command = Command::new(alloc, "canon")
-        .about("Print the canonical bytes of a message as one line of hexadecimal")
+        .about("Print the canonical bytes of a message in hexadecimal")
         .after_help("Example: pbtool canon shop.set shop.Order order.bin");
     let with_out = command.arg(out)?;
     let whole = with_source(alloc, with_out, BYTES)?;
@@ -202,7 +202,7 @@ fn types<'a>(alloc: Global) -> Result<Command<'a>, AllocError>
     ensures local { IfOk result (λ c. (out-Command c).has_globals ≡ false) }
 {
     let command = Command::new(alloc, "types")
-        .about("Print what a descriptor set declares, a line each")
+        .about("Print the declarations of a descriptor set, a line each")
         .after_help("Example: pbtool types shop.set shop.Order");
     let lenient = lenient_option(alloc);
     let with_lenient = command.arg(lenient)?;
@@ -218,7 +218,7 @@ fn compile<'a>(alloc: Global) -> Result<Command<'a>, AllocError>
     ensures local { IfOk result (λ c. (out-Command c).has_globals ≡ false) }
 {
     let command = Command::new(alloc, "compile")
-        .about("Write the descriptor set of sources and their imports")
+        .about("Make a descriptor set from sources and their imports")
         .override_usage(COMPILE_USAGE)
         .after_help("Example: pbtool compile -o shop.set . shop.proto");
     let explain = explain_option(alloc);
@@ -241,7 +241,7 @@ fn compat<'a>(alloc: Global) -> Result<Command<'a>, AllocError>
     ensures local { IfOk result (λ c. (out-Command c).has_globals ≡ false) }
 {
     let command = Command::new(alloc, "compat")
-        .about("Print what a change of a schema does to messages, a line for each field")
+        .about("Print how a new schema reads messages of an old schema, a line for each field")
         .after_help("Example: pbtool compat old.set new.set shop.Order");
     let lenient = lenient_option(alloc);
     let with_lenient = command.arg(lenient)?;
@@ -269,7 +269,7 @@ fn from_json<'a>(alloc: Global) -> Result<Command<'a>, AllocError>
     ensures local { IfOk result (λ c. (out-Command c).has_globals ≡ false) }
 {
     let command = Command::new(alloc, "from-json")
-        .about("Write the canonical bytes of a message that is given as JSON")
+        .about("Make a message from JSON, and write its canonical bytes")
         .after_help("Example: pbtool from-json shop.set shop.Order order.json order.bin");
     let ignore_unknown = ignore_unknown_option(alloc);
     let with_ignore_unknown = command.arg(ignore_unknown)?;
@@ -284,7 +284,7 @@ fn help<'a>(alloc: Global) -> Result<Command<'a>, AllocError>
     ensures local { IfOk result (λ c. (out-Command c).has_globals ≡ false) }
 {
     let command = Command::new(alloc, "help")
-        .about("Print the page of the program or of a command")
+        .about("Print the help of the program or of a command")
         .after_help("Example: pbtool help compile");
     let topic = Arg::new(alloc, "COMMAND").help("The command");
     let whole = command.arg(topic)?;
@@ -308,7 +308,7 @@ fn both_option<'a>(alloc: Global) -> Arg<'a>
     Arg::new(alloc, "both")
         .long("both")
         .action(ArgAction::SetTrue)
-        .help("Ask also how the old types read messages of the new ones")
+        .help("Also print how the old types read messages of the new types")
 }
 
 /// The flag for members of JSON that no field has.
@@ -319,7 +319,7 @@ fn ignore_unknown_option<'a>(alloc: Global) -> Arg<'a>
     Arg::new(alloc, "ignore-unknown")
         .long("ignore-unknown")
         .action(ArgAction::SetTrue)
-        .help("Pass over members and enum names that the type does not have")
+        .help("Skip members and enum names that the type does not have")
 }
 
 /// A directory where sources are looked for after the root.
@@ -330,7 +330,7 @@ fn directory_option<'a>(alloc: Global) -> Arg<'a>
     Arg::new(alloc, "DIR")
         .short('I')
         .action(ArgAction::Append)
-        .help("Look here for a source or an import that is not under ROOT; may be repeated")
+        .help("Search this folder for files that ROOT does not have; may be repeated")
 }
 
 /// The file that is written, by an option.
@@ -343,7 +343,7 @@ fn output_option<'a>(alloc: Global) -> Arg<'a>
         .long("descriptor_set_out")
         .action(ArgAction::Set)
         .value_name("OUT")
-        .help("Write this file, so that all words after ROOT are sources")
+        .help("Write the set to this file; all words after ROOT are then sources")
 }
 
 /// The flag for payloads that are listed as messages.
@@ -354,7 +354,7 @@ fn nested_option<'a>(alloc: Global) -> Arg<'a>
     Arg::new(alloc, "nested")
         .long("nested")
         .action(ArgAction::SetTrue)
-        .help("Print a payload that is a list of records itself as a message")
+        .help("Print each payload that could be a message as a message")
 }
 
 /// The flag for floats in decimal.
@@ -366,7 +366,7 @@ fn decimal_option<'a>(alloc: Global) -> Arg<'a>
         .short('d')
         .long("decimal")
         .action(ArgAction::SetTrue)
-        .help("Print floats in decimal, and not by their bits")
+        .help("Print floats in decimal, not by their bits")
 }
 
 /// The flag for a text on one line.
@@ -391,7 +391,7 @@ fn json_option<'a>(alloc: Global) -> Arg<'a>
         .help("Print each message as JSON, on one line")
 }
 
-/// The flag for frames that are refused and passed over.
+/// The flag for refused frames that are skipped.
 fn keep_going_option<'a>(alloc: Global) -> Arg<'a>
     ensures rule { rule_of result ≡ keep_going_rule }
     ensures local { result.global ≡ false }
@@ -399,7 +399,7 @@ fn keep_going_option<'a>(alloc: Global) -> Arg<'a>
     Arg::new(alloc, "keep-going")
         .long("keep-going")
         .action(ArgAction::SetTrue)
-        .help("Pass over frames that are refused, and report them all at the end")
+        .help("Skip refused frames, and report them at the end")
 }
 
 /// The command with the arguments that name a type and a file of its messages. `help` says what the file holds.
@@ -434,9 +434,7 @@ fn explain_option<'a>(alloc: Global) -> Arg<'a>
     Arg::new(alloc, "explain")
         .long("explain")
         .action(ArgAction::SetTrue)
-        .help(
-            "After the line of a refusal print where it is, what was expected and the bytes around",
-        )
+        .help("Explain a refusal: its position, the expected input and the bytes nearby")
 }
 
 /// The flag for lenient reading of the set.
@@ -447,7 +445,7 @@ fn lenient_option<'a>(alloc: Global) -> Arg<'a>
     Arg::new(alloc, "lenient")
         .long("lenient")
         .action(ArgAction::SetTrue)
-        .help("Leave out the extensions, required labels and default values of the set")
+        .help("Accept extensions, required labels and default values in the set, and ignore them")
 }
 
 /// The flag for lenient reading of sources.
@@ -458,7 +456,7 @@ fn lenient_sources_option<'a>(alloc: Global) -> Arg<'a>
     Arg::new(alloc, "lenient")
         .long("lenient")
         .action(ArgAction::SetTrue)
-        .help("Leave out the extensions and custom options of the sources")
+        .help("Accept proto2, extensions and custom options, and leave extensions and options out")
 }
 
 /// An argument that is required.
