@@ -31,6 +31,4 @@ mod reasons;
 #[cfg(test)]
 mod runs;
 #[cfg(test)]
-mod text;
-#[cfg(test)]
 mod typed;
