@@ -150,12 +150,15 @@ with_version s = record s { has_version = true }
 abbrev pub tool_top : App
 tool_top = on_top wants_subcommand (on_top with_version (new_app (codes "pbtool")))
 
+-- the commands that read one message
+abbrev pub message_tool : App
+message_tool =
+    with_subcommand (with_subcommand (with_subcommand (with_subcommand (with_subcommand (with_subcommand
+    tool_top raw_command.top) check_command.top) show_command.top) canon_command.top) json_command.top) text_command.top
+
 -- all commands but `compat` and `from-json`
 abbrev pub other_tool : App
-other_tool =
-    with_subcommand (with_subcommand (with_subcommand (with_subcommand (with_subcommand (with_subcommand (with_subcommand (with_subcommand (with_subcommand
-    tool_top raw_command.top) check_command.top) show_command.top) canon_command.top) json_command.top) text_command.top) frames_command.top)
-    types_command.top) compile_command.top
+other_tool = with_subcommand (with_subcommand (with_subcommand message_tool frames_command.top) types_command.top) compile_command.top
 
 -- all commands over files
 abbrev pub commands_tool : App

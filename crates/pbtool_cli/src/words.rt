@@ -2,7 +2,7 @@
 ghost use Rattle.std.specs.Prelude.{◌≡◌, false, IfOk};
 ghost use Rattle.clap.specs.Words.{app_of, rule_of};
 ghost use Rattle.clap.specs.declared.builder.command.Command.TheViews.{out-Command};
-ghost use Rattle.pbtool_cli.specs.Words.{both_rule, commands_tool, compat_command, from_json_command, help_command, ignore_unknown_rule, other_tool, output_rule, version_command};
+ghost use Rattle.pbtool_cli.specs.Words.{both_rule, commands_tool, compat_command, from_json_command, help_command, ignore_unknown_rule, message_tool, other_tool, output_rule, version_command};
 ghost use Rattle.pbtool_cli.specs.Words.{canon_command, check_command, compile_command, frames_command, json_command, raw_command, show_command, types_command};
 ghost use Rattle.pbtool_cli.specs.Words.{decimal_rule, directory_rule, explain_rule, json_rule, keep_going_rule, lenient_rule, nested_rule, of_source, wanted};
 ghost use Rattle.pbtool_cli.specs.Words.{single_line_rule, text_command, tool, tool_top};
@@ -63,15 +63,25 @@ fn other_commands<'a>(alloc: Global) -> Result<Command<'a>, AllocError>
     ensures local { IfOk result (λ c. (out-Command c).has_globals ≡ false) }
     ensures closed { IfOk result (λ c. (out-Command c).allow_external_subcommands ≡ false) }
 {
+    let messages = message_commands(alloc)?;
+    let with_frames = messages.subcommand(frames(alloc)?)?;
+    let with_types = with_frames.subcommand(types(alloc)?)?;
+    let whole = with_types.subcommand(compile(alloc)?)?;
+    Ok(whole)
+}
+
+/// The commands that read one message.
+fn message_commands<'a>(alloc: Global) -> Result<Command<'a>, AllocError>
+    ensures app { IfOk result (λ c. app_of c ≡ message_tool) }
+    ensures local { IfOk result (λ c. (out-Command c).has_globals ≡ false) }
+    ensures closed { IfOk result (λ c. (out-Command c).allow_external_subcommands ≡ false) }
+{
     let with_raw = top(alloc).subcommand(raw(alloc)?)?;
     let with_check = with_raw.subcommand(check(alloc)?)?;
     let with_show = with_check.subcommand(show(alloc)?)?;
     let with_canon = with_show.subcommand(canon(alloc)?)?;
     let with_json = with_canon.subcommand(json(alloc)?)?;
-    let with_text = with_json.subcommand(text(alloc)?)?;
-    let with_frames = with_text.subcommand(frames(alloc)?)?;
-    let with_types = with_frames.subcommand(types(alloc)?)?;
-    let whole = with_types.subcommand(compile(alloc)?)?;
+    let whole = with_json.subcommand(text(alloc)?)?;
     Ok(whole)
 }
 
