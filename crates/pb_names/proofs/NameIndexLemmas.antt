@@ -32,7 +32,7 @@ bytes_eq-sym = nat_list_eq_equiv.symm
 
 -- POSITIONS
 
--- the position so far, or that of one more element
+-- the position among the elements before, or that of one more element
 abbrev or_last : Option ℕ → Bool → ℕ → Option ℕ
 or_last (Some i) here n = Some i
 or_last None here n = cond here (Some n) None
