@@ -12,7 +12,7 @@ fn encoded(alloc: Global, pool: &Pool) -> Result<Vec<u8>, Fail> {
     let message_type = pool.message_by_name("T").ok_or("no type T")?;
     let mut message = DynamicMessage::new(alloc, pool, message_type);
     message.set(1, Content::One(Value::I32(150)))?;
-    let bytes = encode(&message)?; // or that they are too many, or out of memory
+    let bytes = encode(&message)?; // or the error TooLarge or Memory
     Ok(bytes)
 }
 
