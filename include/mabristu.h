@@ -295,8 +295,8 @@ enum {
  *
  * The number of a step is: the number of a field, after a message (MB_FIELD); an index, counted from 0, after a list (MB_INDEX); a key, after a map. A
  * key has the kind of the map's keys, here or in struct mb_field. A string is in the list of keys beside the steps, and the number is its index
- * there. For example, {MB_FIELD, 3}, {MB_INDEX, 2}, {MB_FIELD, 1} is the price of lines[2]. {MB_FIELD, 4}, {MB_STRING, 0}, with the one key "pen",
- * is stock["pen"]. */
+ * there. For example, {MB_FIELD, 3}, {MB_INDEX, 2}, {MB_FIELD, 3} is the price of lines[2]. {MB_FIELD, 4}, {MB_STRING, 0}, with the one key "may",
+ * is discounts["may"]. */
 struct mb_value {
     uint32_t kind;
     uint64_t number;
@@ -312,7 +312,7 @@ struct mb_steps {
 
 /* Turns a path with the names of fields into the steps of a place in messages of the type: lines[2].article into {MB_FIELD, 3}, {MB_INDEX, 2},
  * {MB_FIELD, 1}. A path has the names of fields, with dots between them. After a list there is an index in brackets, as lines[2], or the path ends.
- * After a map there is a key in brackets, or the path ends. A key is a number, true, false, or a string in double quotes, as stock["pen"]. In a
+ * After a map there is a key in brackets, or the path ends. A key is a number, true, false, or a string in double quotes, as discounts["may"]. In a
  * string, \", \\ and \x with two digits stand for a byte. The empty path is the message itself.
  *
  * For MB_DONE the call writes the steps, the lengths of the strings among them, and the strings one after another, as far as the buffers hold them.
@@ -503,9 +503,9 @@ uint32_t mb_message_unknown(struct mb_message *message, const struct mb_value *p
 
 /* Changes at a place. A value has the form that mb_message_get reports: the kind of the field's values, here or in struct mb_field, and a number. The
  * number of a string or of bytes is an index in the list of strings, which also has the strings of the place. MB_MESSAGE is an empty message; its
- * number is not read. Set, push or insert it, and then change the fields in it. For example, lines[2].price = 9 is the place {MB_FIELD, 3},
- * {MB_INDEX, 2}, {MB_FIELD, 1} with the value {MB_INT32, 9}. And name = "pen" is the place {MB_FIELD, 2} with the value {MB_STRING, 0} and the one
- * string "pen".
+ * number is not read. Set, push or insert it, and then change the fields in it. For example, lines[2].pieces = 9 is the place {MB_FIELD, 3},
+ * {MB_INDEX, 2}, {MB_FIELD, 2} with the value {MB_INT32, 9}. And card = "12" is the place {MB_FIELD, 5} with the value {MB_STRING, 0} and the one
+ * string "12".
  *
  * MB_ABSENT: the message whose field the call changes is not there, or the place does not end as the call needs. MB_BAD_PLACE: as for mb_message_get.
  * MB_BAD_VALUE: the value has an unknown kind, a number that is too large, or a string that is not among the strings or not UTF-8. The other answers
