@@ -20,8 +20,8 @@ use Rattle.pb_tries.specs.Tries.{node_of, last_node, IsTrie, ByteAdded}
 use Rattle.pb_tries.proofs.TrieLemmas.{same_name, node_within, node_more, node_grown, node_shrunk, grown_size}
 use Rattle.pb_tries.specs.declared.trie.NameTrie.{NameTrie}
 use Rattle.pb_link_names.specs.PackageSets.{package_at, package_if, has_package, IsPackageSet, AddsNames, Marks}
-use Rattle.pb_graphs.specs.declared.name_set.NameSet.{NameSet}
-use Rattle.pb_graphs.specs.NameSets.{names_in, with_name}
+use Rattle.pb_names.specs.NameSets.{NameSet}
+use Rattle.pb_names.specs.NameSets.{names_in, with_name}
 use Rattle.pb_link_names.specs.NameSets.{is_in_set, packages_at, own_index, ArePackagesAt, AddsPackages, ArePackages}
 use Rattle.pb_link_names.specs.declared.package_set.PackageSet.{PackageSet}
 use Rattle.pb_link_names.specs.declared.sight.Sight.{Sight}

@@ -8,8 +8,8 @@ use Rattle.pb_link_names.specs.Declarations.{Declaration}
 use Rattle.pb_link_names.specs.Lookup.{Seen, is_package_name}
 use Rattle.pb_link_names.specs.declared.package_set.PackageSet.{PackageSet}
 use Rattle.pb_link_names.specs.PackageSets.{has_package, IsPackageSet}
-use Rattle.pb_graphs.specs.declared.name_set.NameSet.{NameSet}
-use Rattle.pb_graphs.specs.NameSets.{names_in}
+use Rattle.pb_names.specs.NameSets.{NameSet}
+use Rattle.pb_names.specs.NameSets.{names_in}
 
 -- the name is in a set
 abbrev pub is_in_set : NameSet → List ℕ → Bool

@@ -1,6 +1,6 @@
 //! Sets of names, each name once, in which a name is found by its hash in sorted tables: whoever picks the names cannot make look-ups slow.
 //!
-//! An inner crate: it is to take the place of the hash tables with a fixed seed in which `pb_schema` and `pb_link_names` find names.
+//! An inner crate: `pb_schema`, `pb_link_names` and `pbtool_command` use it.
 #![tactic(auto)]
 
 pub mod name_hash;

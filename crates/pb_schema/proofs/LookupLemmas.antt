@@ -1,16 +1,16 @@
 -- What the proofs of look-ups use.
-use Rattle.std.proofs.Common.{◌≡◌, ◌≢◌, ℕ, zero, suc, ◌<◌, ◌≤◌, get_or, MatchOption, List, [], ◌∷◌, Bool, true, false, cond, map, length, refl, sym, ◌∙◌, ap, subst, arith, nat_lt, eqb, Option, Some, None, option_map, IfSome, find, position, Bor}
+use Rattle.std.proofs.Common.{◌≡◌, ◌≢◌, ℕ, zero, suc, ◌+◌, ◌<◌, ◌≤◌, get_or, MatchOption, List, [], ◌∷◌, Bool, true, false, cond, map, length, refl, sym, ◌∙◌, ap, subst, arith, nat_lt, eqb, Option, Some, None, option_map, IfSome, find, position, Bor}
 use Rattle.std.specs.Prelude.{slice_get}
-use Rattle.std.specs.List.{AllByRecursion, flat_map, position_or_len, HoldsAt}
+use Rattle.std.specs.List.{AllByRecursion, flat_map, position_or_len, prefix_len, HoldsAt}
 use Rattle.std.specs.Str.{bytes_eq}
 use Rattle.std.proofs.lemmas.Bool.Decides.{Decides-eqb}
 use Rattle.std.proofs.lemmas.Slice.Eq.{bytes_eq-Decides}
+use Rattle.std.proofs.lemmas.List.{length-map}
 use Rattle.std.proofs.lemmas.List.Folds.{find_at}
 use Rattle.pb_schema.specs.declared.types.Field.{Field}
 use Rattle.pb_schema.specs.View.{field_view}
 use Rattle.pb_schema.specs.Types.{FieldView, MessageView, EnumView, Types, message_fields, fields_of_message, field_numbered}
-use Rattle.pb_graphs.specs.NameSets.{names_in}
-use Rattle.pb_graphs.proofs.NameSetLemmas.{position-map}
+use Rattle.pb_names.specs.NameSets.{names_in}
 use Rattle.pb_schema.specs.declared.names.set.AddedNames.{AddedNames}
 use Rattle.pb_schema.specs.Nesting.{ParentsStandBefore}
 use Rattle.pb_schema.specs.Names.{AllDiffer, in_scope, scope_of, scope_by_names, message_name, enum_name, message_names, enum_names, names_in_message, declared_by_message, declared_by_enum}
@@ -196,6 +196,13 @@ place_none t xs e = by_test (nat_lt (position_or_len t xs) (length xs)) refl e
 pub read_named : (name : List ℕ) (fs : List Field) (n : ℕ) (r : Option (Bor Field)) → position_or_len (λ f. bytes_eq name f.name) (map field_view fs) ≡ n → MatchOption r (length fs ≤ n) (λ x. (n < length fs) × (x.now ≡ get_or fs n x.now)) → option_map (λ f. field_view f.now) r ≡ field_named name (map field_view fs)
 read_named name fs n None at past = sym (named_at name (map field_view fs) ∙ ap (slice_get (map field_view fs)) at ∙ get_past fs n past)
 read_named name fs n (Some x) at here = sym (named_at name (map field_view fs) ∙ ap (slice_get (map field_view fs)) at ∙ get_map fs n x.now here.0 here.1)
+
+prefix_len-map : {A B : Type 0} (t : B → Bool) (f : A → B) (xs : List A) → prefix_len t (map f xs) ≡ prefix_len (λ x. t (f x)) xs
+prefix_len-map t f [] = refl
+prefix_len-map t f (x ∷ xs) = ap (λ n. cond (t (f x)) (1 + n) 0) (prefix_len-map t f xs)
+
+position-map : {A B : Type 0} (t : B → Bool) (f : A → B) (xs : List A) → position t (map f xs) ≡ position (λ x. t (f x)) xs
+position-map t f xs = simp (prefix_len-map, length-map)
 
 -- the place of a name is that of its field
 pub place_by_name : (name : List ℕ) (fs : List FieldView) (names : List (List ℕ)) → names ≡ map (λ f. f.name) fs → position (bytes_eq name) names ≡ position (λ (f : FieldView). bytes_eq name f.name) fs

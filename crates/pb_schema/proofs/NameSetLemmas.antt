@@ -1,16 +1,31 @@
 -- Sets of names.
-use Rattle.std.proofs.Common.{◌≡◌, ◌≢◌, ℕ, List, [], ◌∷◌, ◌++◌, Bool, true, false, not, ◌&&◌, IsTrue, ⊎_elim, refl, sym, ◌∙◌, ap, subst, Contains, if◌then◌else◌, Vec, Global}
+use Rattle.std.proofs.Common.{◌≡◌, ◌≢◌, ℕ, List, [], ◌∷◌, ◌++◌, Bool, true, false, not, ◌&&◌, ◌||◌, IsTrue, ◌↔◌, ⊎_elim, refl, sym, ◌∙◌, ap, subst, Contains, if◌then◌else◌, Vec, Global}
 use Rattle.std.specs.List.{AllByRecursion, list_any}
 use Rattle.std.specs.Str.{bytes_eq}
+use Rattle.std.proofs.Math.Bool.{or-true}
 use Rattle.std.proofs.lemmas.Bool.{false≢true}
+use Rattle.std.proofs.lemmas.Map.Views.{Contains-from_any}
+use Rattle.std.proofs.lemmas.Slice.Eq.{bytes_eq-Decides}
 use Rattle.std.proofs.lemmas.List.Elements.{Contains-push, Contains-push_cases, Contains-append_left}
-use Rattle.pb_graphs.specs.NameSets.{names_in, with_name}
+use Rattle.pb_names.specs.NameSets.{names_in, with_name}
 use Rattle.pb_graphs.proofs.ContainsLemmas.{Contains-none, Contains-first, Contains-later, Contains-cases}
-use Rattle.pb_graphs.proofs.NameSetLemmas.{has_name}
 use Rattle.pb_schema.specs.declared.names.set.AddedNames.{AddedNames}
 use Rattle.pb_schema.specs.View.{bytes_of}
 use Rattle.pb_schema.specs.Names.{AllDiffer}
 use Rattle.pb_schema.specs.Names.Set.{IsSetOf}
+
+-- a test that finds a name
+name_there : (x : List ℕ) (names : List (List ℕ)) → IsTrue (list_any (bytes_eq x) names) → Contains names x
+name_there x names h = Contains-from_any (λ y z e. (bytes_eq-Decides y z).0 e) x names h
+
+there_name : (x : List ℕ) (names : List (List ℕ)) → Contains names x → IsTrue (list_any (bytes_eq x) names)
+there_name x [] h = Contains-none x h
+there_name x (k ∷ ks) h =
+    ⊎_elim (λ e. ap (λ b. b || list_any (bytes_eq x) ks) ((bytes_eq-Decides x k).1 (sym e))) (λ later. ap (λ b. bytes_eq x k || b) (there_name x ks later) ∙ or-true (bytes_eq x k))
+    (Contains-cases x k ks h)
+
+pub has_name : (x : List ℕ) (names : List (List ℕ)) → IsTrue (list_any (bytes_eq x) names) ↔ Contains names x
+has_name x names = (name_there x names, there_name x names)
 
 pub All-at : {X : Type 0} (P : X → Type 0) (xs : List X) (x : X) → AllByRecursion P xs → Contains xs x → P x
 All-at P [] x all h = Contains-none x h

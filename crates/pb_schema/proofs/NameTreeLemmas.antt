@@ -1,23 +1,22 @@
 -- Names as words in scopes.
-use Rattle.std.proofs.Common.{◌≡◌, ◌≢◌, ℕ, zero, suc, ◌<◌, ◌≤◌, List, [], ◌∷◌, ◌++◌, Bool, true, false, not, ◌&&◌, ◌||◌, if◌then◌else◌, IsTrue, ◌⊎◌, inl, inr, ⊎_elim, length, refl, sym, ◌∙◌, ap, subst, arith, Contains, Option, Some, None, option_map, eqb, Vec, Global, append_assoc, length-append}
+use Rattle.std.proofs.Common.{◌≡◌, ◌≢◌, ℕ, zero, suc, ◌<◌, ◌≤◌, List, [], ◌∷◌, ◌++◌, Bool, true, false, not, ◌&&◌, ◌||◌, if◌then◌else◌, IsTrue, ◌⊎◌, inl, inr, ⊎_elim, length, refl, sym, ◌∙◌, ap, subst, arith, Contains, Option, Some, None, eqb, position, append_assoc, length-append}
 use Rattle.std.specs.Prelude.{slice_get}
 use Rattle.std.specs.List.{AllByRecursion, list_all, list_any}
 use Rattle.std.specs.Option.{option_eq}
 use Rattle.std.specs.Str.{bytes_eq}
 use Rattle.std.proofs.lemmas.Bool.Decides.{Decides-eqb}
-use Rattle.std.proofs.lemmas.Slice.Eq.{bytes_eq-Decides}
 use Rattle.std.proofs.lemmas.Bool.{false≢true}
 use Rattle.std.proofs.lemmas.List.{append_cancel_left, append_cancel_right}
-use Rattle.std.proofs.lemmas.Option.{slice_get-map, slice_get_within}
+use Rattle.std.proofs.lemmas.Option.{slice_get_within}
 use Rattle.std.proofs.lemmas.List.Elements.{Contains-append_left}
 use Rattle.pb_schema.specs.Names.{begins_word, continues_word, is_word, in_scope, name_at, AllDiffer}
 use Rattle.pb_schema.specs.declared.names.tree.NameTree.{NameTree}
-use Rattle.pb_schema.specs.View.{bytes_of}
 use Rattle.pb_schema.specs.Names.Tree.{scope_name, names_behind, full_names, full_names_of, IsScope, AreNamed, IsTree, IsInTree, NameAdded}
 use Rattle.std.proofs.Math.Bool.{or-true}
 use Rattle.pb_graphs.proofs.ContainsLemmas.{Contains-none, Contains-first, Contains-later, Contains-cases}
-use Rattle.pb_graphs.proofs.NameSetLemmas.{has_text}
-use Rattle.pb_schema.proofs.NameSetLemmas.{All-at, AllDiffer-push, bytes_of-append}
+use Rattle.pb_names.specs.NameSets.{with_name}
+use Rattle.pb_names.proofs.NameIndexLemmas.{named_at}
+use Rattle.pb_schema.proofs.NameSetLemmas.{has_name, All-at, AllDiffer-push}
 
 -- ELEMENTS BY INDEX
 
@@ -305,11 +304,11 @@ module _ (W : List (List ℕ)) (N : List (Option ℕ × ℕ)) (F : List (List �
           let last : i ≡ length F = at ∙ sym are.size in
           subst (λ k. slice_get (F ++ x ∷ []) k ≡ Some (in_scope (scope_name (F ++ x ∷ []) m.0) (name_at W m.1))) (sym last) (get-push F x ∙ ap (λ s. Some (in_scope s (name_at W n.1))) (sym (scope_name-front F (x ∷ []) n.0 hs)) ∙ ap (λ (k : Option ℕ × ℕ). Some (in_scope (scope_name (F ++ x ∷ []) k.0) (name_at W k.1))) same)
 
-pub tree-none : (t : NameTree) → t.words.keys ≡ [] → t.names.keys ≡ [] → IsTree t
+pub tree-none : (t : NameTree) → t.words ≡ [] → t.names.keys ≡ [] → IsTree t
 tree-none t words names =
-    let none : AreNamed (bytes_of t.words.keys) t.names.keys [] = rw (words, names) named-none in
-    let empty : full_names_of t ≡ [] = ap (full_names (bytes_of t.words.keys)) names ∙ full_names-none (bytes_of t.words.keys) in
-    record { named = subst (AreNamed (bytes_of t.words.keys) t.names.keys) (sym empty) none }
+    let none : AreNamed t.words t.names.keys [] = rw (words, names) named-none in
+    let empty : full_names_of t ≡ [] = ap (full_names t.words) names ∙ full_names-none t.words in
+    record { named = subst (AreNamed t.words t.names.keys) (sym empty) none }
 
 -- A WORD AND A NAME ARE PUT INTO THEIR SETS
 
@@ -343,16 +342,16 @@ any_true t (y ∷ ys) x e h =
 
 module _ (a b : NameTree) (scope : Option ℕ) (text : List ℕ) (w i : ℕ) (is_new : Bool) (tree : IsTree a) (hs : IsInTree a scope) where
   -- the words with the new one
-  module _ (are : AreNamed (bytes_of b.words.keys) a.names.keys (full_names (bytes_of b.words.keys) a.names.keys)) (same : full_names (bytes_of b.words.keys) a.names.keys ≡ full_names_of a) (word : slice_get (bytes_of b.words.keys) w ≡ Some text) where
-    word_is : name_at (bytes_of b.words.keys) w ≡ text
-    word_is = name_at-get (bytes_of b.words.keys) w text word
+  module _ (are : AreNamed b.words a.names.keys (full_names b.words a.names.keys)) (same : full_names b.words a.names.keys ≡ full_names_of a) (word : slice_get b.words w ≡ Some text) where
+    word_is : name_at b.words w ≡ text
+    word_is = name_at-get b.words w text word
 
-    are_old : AreNamed (bytes_of b.words.keys) a.names.keys (full_names_of a)
-    are_old = subst (AreNamed (bytes_of b.words.keys) a.names.keys) same are
+    are_old : AreNamed b.words a.names.keys (full_names_of a)
+    are_old = subst (AreNamed b.words a.names.keys) same are
 
     new_name : list_any (is_name scope w) a.names.keys ≡ false → b.names.keys ≡ a.names.keys ++ (scope, w) ∷ [] → (n : Option ℕ × ℕ) → slice_get b.names.keys i ≡ Some n → is_name scope w n ≡ true → NameAdded a b (in_scope (scope_name (full_names_of a) scope) text) i true
     new_name none keys n at is =
-        let W = bytes_of b.words.keys in
+        let W = b.words in
         let N = a.names.keys in
         let F = full_names_of a in
         let x = in_scope (scope_name F scope) text in
@@ -368,7 +367,7 @@ module _ (a b : NameTree) (scope : Option ℕ) (text : List ℕ) (w i : ℕ) (is
 
     old_name : b.names.keys ≡ a.names.keys → (n : Option ℕ × ℕ) → slice_get b.names.keys i ≡ Some n → is_name scope w n ≡ true → NameAdded a b (in_scope (scope_name (full_names_of a) scope) text) i false
     old_name keys n at is =
-        let W = bytes_of b.words.keys in
+        let W = b.words in
         let F = full_names_of a in
         let full : full_names_of b ≡ F = ap (full_names W) keys ∙ same in
         let at' : slice_get a.names.keys i ≡ Some (scope, w) = subst (λ l. slice_get l i ≡ Some n) keys at ∙ ap Some (same_name scope w n is) in
@@ -381,29 +380,20 @@ module _ (a b : NameTree) (scope : Option ℕ) (text : List ℕ) (w i : ℕ) (is
     by_name true e keys n at is = old_name keys n at is
     by_name false e keys n at is = new_name e keys n at is
 
-  name_added : (word : Vec ℕ Global) → word.items ≡ text → IsTrue (is_word text) → (has : Bool) → list_any (λ k. bytes_eq word.items k.items) a.words.keys ≡ has → b.words.keys ≡ (if has then a.words.keys else a.words.keys ++ word ∷ []) → (v : Vec ℕ Global) → slice_get b.words.keys w ≡ Some v → bytes_eq word.items v.items ≡ true → b.names.keys ≡ (if list_any (is_name scope w) a.names.keys then a.names.keys else a.names.keys ++ (scope, w) ∷ []) → (n : Option ℕ × ℕ) → slice_get b.names.keys i ≡ Some n → is_name scope w n ≡ true → NameAdded a b (in_scope (scope_name (full_names_of a) scope) text) i (not (list_any (is_name scope w) a.names.keys))
-  name_added word same ok has e words v at is names n at' is' =
-      let W = bytes_of a.words.keys in
-      let here : slice_get (bytes_of b.words.keys) w ≡ Some text = slice_get-map (λ (u : Vec ℕ Global). u.items) b.words.keys w ∙ ap (option_map (λ (u : Vec ℕ Global). u.items)) at ∙ ap Some (sym ((bytes_eq-Decides word.items v.items).0 is) ∙ same) in
-      both has e words here
-    where
-      both : (has : Bool) → list_any (λ k. bytes_eq word.items k.items) a.words.keys ≡ has → b.words.keys ≡ (if has then a.words.keys else a.words.keys ++ word ∷ []) → slice_get (bytes_of b.words.keys) w ≡ Some text → NameAdded a b (in_scope (scope_name (full_names_of a) scope) text) i (not (list_any (is_name scope w) a.names.keys))
-      both true e words here =
-          let W = bytes_of a.words.keys in
-          let same_words : bytes_of b.words.keys ≡ W = ap bytes_of words in
-          let full : full_names (bytes_of b.words.keys) a.names.keys ≡ full_names_of a = ap (λ l. full_names l a.names.keys) same_words in
-          let are = subst (λ l. AreNamed l a.names.keys (full_names l a.names.keys)) (sym same_words) tree.named in
-          by_name are full here (list_any (is_name scope w) a.names.keys) refl names n at' is'
-      both false e words here =
-          let W = bytes_of a.words.keys in
-          let more : bytes_of b.words.keys ≡ W ++ text ∷ [] = ap bytes_of words ∙ bytes_of-append a.words.keys (word ∷ []) ∙ ap (λ l. W ++ l ∷ []) same in
-          let kept : full_names (W ++ text ∷ []) a.names.keys ≡ full_names_of a = full_names-words W (text ∷ []) a.names.keys tree.named.words_within in
-          let full : full_names (bytes_of b.words.keys) a.names.keys ≡ full_names_of a = ap (λ l. full_names l a.names.keys) more ∙ kept in
-          let unknown : ¬ Contains W text = λ h. false≢true (sym e ∙ (has_text word.items a.words.keys).1 (subst (Contains W) (sym same) h)) in
-          let are : AreNamed (W ++ text ∷ []) a.names.keys (full_names_of a) = named-word W a.names.keys (full_names_of a) text tree.named ok unknown in
-          let are' = subst (λ l. AreNamed l a.names.keys (full_names l a.names.keys)) (sym more) (subst (AreNamed (W ++ text ∷ []) a.names.keys) (sym kept) are) in
-          by_name are' full here (list_any (is_name scope w) a.names.keys) refl names n at' is'
+  name_added : IsTrue (is_word text) → (has : Bool) → list_any (bytes_eq text) a.words ≡ has → b.words ≡ (if has then a.words else a.words ++ text ∷ []) → slice_get b.words w ≡ Some text → b.names.keys ≡ (if list_any (is_name scope w) a.names.keys then a.names.keys else a.names.keys ++ (scope, w) ∷ []) → (n : Option ℕ × ℕ) → slice_get b.names.keys i ≡ Some n → is_name scope w n ≡ true → NameAdded a b (in_scope (scope_name (full_names_of a) scope) text) i (not (list_any (is_name scope w) a.names.keys))
+  name_added ok true e words here names n at is =
+      let full : full_names b.words a.names.keys ≡ full_names_of a = ap (λ l. full_names l a.names.keys) words in
+      let are = subst (λ l. AreNamed l a.names.keys (full_names l a.names.keys)) (sym words) tree.named in
+      by_name are full here (list_any (is_name scope w) a.names.keys) refl names n at is
+  name_added ok false e words here names n at is =
+      let W = a.words in
+      let kept : full_names (W ++ text ∷ []) a.names.keys ≡ full_names_of a = full_names-words W (text ∷ []) a.names.keys tree.named.words_within in
+      let full : full_names b.words a.names.keys ≡ full_names_of a = ap (λ l. full_names l a.names.keys) words ∙ kept in
+      let unknown : ¬ Contains W text = λ h. false≢true (sym e ∙ (has_name text W).1 h) in
+      let are : AreNamed (W ++ text ∷ []) a.names.keys (full_names_of a) = named-word W a.names.keys (full_names_of a) text tree.named ok unknown in
+      let are' = subst (λ l. AreNamed l a.names.keys (full_names l a.names.keys)) (sym words) (subst (AreNamed (W ++ text ∷ []) a.names.keys) (sym kept) are) in
+      by_name are' full here (list_any (is_name scope w) a.names.keys) refl names n at is
 
-  pub tree_added : (word : Vec ℕ Global) → word.items ≡ text → IsTrue (is_word text) → b.words.keys ≡ (if list_any (λ k. bytes_eq word.items k.items) a.words.keys then a.words.keys else a.words.keys ++ word ∷ []) → (v : Vec ℕ Global) → slice_get b.words.keys w ≡ Some v → bytes_eq word.items v.items ≡ true → b.names.keys ≡ (if list_any (is_name scope w) a.names.keys then a.names.keys else a.names.keys ++ (scope, w) ∷ []) → (n : Option ℕ × ℕ) → slice_get b.names.keys i ≡ Some n → is_name scope w n ≡ true → is_new ≡ not (list_any (is_name scope w) a.names.keys) → NameAdded a b (in_scope (scope_name (full_names_of a) scope) text) i is_new
-  tree_added word same ok words v at is names n at' is' new =
-      subst (NameAdded a b (in_scope (scope_name (full_names_of a) scope) text) i) (sym new) (name_added word same ok (list_any (λ k. bytes_eq word.items k.items) a.words.keys) refl words v at is names n at' is')
+  pub tree_added : IsTrue (is_word text) → b.words ≡ with_name text a.words → position (bytes_eq text) b.words ≡ Some w → b.names.keys ≡ (if list_any (is_name scope w) a.names.keys then a.names.keys else a.names.keys ++ (scope, w) ∷ []) → (n : Option ℕ × ℕ) → slice_get b.names.keys i ≡ Some n → is_name scope w n ≡ true → is_new ≡ not (list_any (is_name scope w) a.names.keys) → NameAdded a b (in_scope (scope_name (full_names_of a) scope) text) i is_new
+  tree_added ok words at names n here is new =
+      subst (NameAdded a b (in_scope (scope_name (full_names_of a) scope) text) i) (sym new) (name_added ok (list_any (bytes_eq text) a.words) refl words (named_at text w b.words at) names n here is)

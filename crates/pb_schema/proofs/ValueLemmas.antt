@@ -1,5 +1,5 @@
 -- The numbers of an enum's values.
-use Rattle.std.proofs.Common.{pos, ◌-ℤ◌, ◌+ℤ◌, ◌+◌, ◌⊎◌, inl, inr, String, Global, string_bytes, map, replicate, set, ◌≡◌, ℕ, ℤ, zero, suc, ◌<◌, ◌≤◌, Bool, true, false, ◌||◌, if◌then◌else◌, List, [], ◌∷◌, ◌++◌, length, get_or, refl, sym, ◌∙◌, ap, subst, arith, Option, Some, None, cond, find, option_map}
+use Rattle.std.proofs.Common.{pos, ◌-ℤ◌, ◌+ℤ◌, ◌+◌, ◌⊎◌, inl, inr, String, Global, string_bytes, map, replicate, set, ◌≡◌, ℕ, ℤ, zero, suc, ◌<◌, ◌≤◌, Bool, true, false, ◌||◌, List, [], ◌∷◌, ◌++◌, length, get_or, refl, sym, ◌∙◌, ap, subst, arith, Option, Some, None, cond, find, option_map}
 use Rattle.std.specs.Prelude.{IfSome, MatchOption, slice_get, IsTrue}
 use Rattle.std.proofs.Math.IntN.{ -ℤ-+ℤ_cancel}
 use Rattle.std.specs.List.{list_any, position_from}

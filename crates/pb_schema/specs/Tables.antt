@@ -9,8 +9,8 @@ pub use Rattle.pb_schema.specs.Tables.Names.{IsNameTable, place_of, field_named}
 pub use Rattle.pb_schema.specs.Tables.Values.{or_first, IsNoted, AreFirstsOf, AreMarksOf, IsValueTable}
 use Rattle.std.specs.Prelude.{◌≡◌, ℕ, length, List, [], ◌∷◌, Option, Vec}
 use Rattle.std.specs.declared.alloc.Global.{Global}
-use Rattle.pb_graphs.specs.declared.name_set.NameSet.{NameSet}
-use Rattle.pb_graphs.specs.NameSets.{names_in}
+use Rattle.pb_names.specs.NameSets.{NameSet}
+use Rattle.pb_names.specs.NameSets.{names_in}
 use Rattle.pb_schema.specs.declared.tables.Tables.{Tables}
 use Rattle.pb_schema.specs.declared.tables.numbers.NumberTable.{NumberTable}
 use Rattle.pb_schema.specs.declared.tables.values.ValueTable.{ValueTable}

@@ -17,7 +17,7 @@ use crate::tables::names::{NameTable, name_tables};
 use crate::tables::numbers::{NumberTable, number_tables};
 use crate::tables::values::{ValueTable, value_tables};
 use crate::types::{EnumType, FileInfo, MessageType};
-use pb_graphs::name_set::NameSet;
+use pb_names::name_set::NameSet;
 use std::alloc::{AllocError, Global};
 
 /// The full names of messages and enums in their order, of each message the numbers of its fields, the members of its oneofs and the

@@ -6,7 +6,7 @@ use Rattle.pb_declarations.specs.declared.decl.FileDecl.{FileDecl}
 use Rattle.pbtool_files.specs.Answer.{Answer}
 use Rattle.pbtool_command.specs.CompileAnswer.{told_of}
 use Rattle.pbtool_command.specs.Gathering.{Gathered, Trouble, Origin, imported, IsTaken, IsLeftOut, is_known, with_name, with_file}
-use Rattle.pb_graphs.specs.NameSets.{names_in}
+use Rattle.pb_names.specs.NameSets.{names_in}
 use Rattle.pbtool_command.specs.declared.gathering.Gathering.{Gathering}
 use Rattle.pbtool_command.specs.declared.gathering.Open.{Open}
 

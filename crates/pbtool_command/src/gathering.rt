@@ -3,7 +3,7 @@
 ghost use Rattle.std.specs.Prelude.{◌≡◌, ◌++◌, [], ◌∷◌, map, true, false, option_map, IfOk, IfErr, OnOk};
 ghost use Rattle.std.specs.List.{list_any};
 ghost use Rattle.std.specs.Str.{bytes_eq};
-ghost use Rattle.pb_graphs.specs.NameSets.{names_in};
+ghost use Rattle.pb_names.specs.NameSets.{names_in};
 ghost use Rattle.pb_declarations.specs.View.{file_view};
 ghost use Rattle.pbtool_command.specs.CompileAnswer.{places_of, texts_of, told_of};
 ghost use Rattle.pbtool_files.specs.FileMap.{KeepsMap};
@@ -15,7 +15,7 @@ ghost use Rattle.pbtool_command.specs.Steps.{AbsentOf, DeclaredOf, GathersOf, St
 use crate::command::Roots;
 use crate::sources::{leaves_root, read_given, read_source};
 use pb_descr::FileDecl;
-use pb_graphs::name_set::NameSet;
+use pb_names::name_set::NameSet;
 use pbtool_files::{Files, Refusal};
 use std::alloc::{AllocError, Global};
 

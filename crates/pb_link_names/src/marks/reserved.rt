@@ -11,7 +11,7 @@ ghost use Rattle.pb_link_names.specs.Reserved.{with_end_behind, is_filled, Rises
 ghost use Rattle.pb_link_names.specs.MarkRules.{is_in_message_range, message_ranges_overlap, none_overlap};
 
 use pb_declarations::{EnumDecl, MessageDecl};
-use pb_graphs::name_set::NameSet;
+use pb_names::name_set::NameSet;
 use std::alloc::{AllocError, Global};
 
 /// The ranges and names that a message or an enum reserves.

@@ -2,7 +2,7 @@
 use Rattle.std.specs.Prelude.{◌≡◌, ◌<◌, ◌↔◌, ◌⊎◌, ℕ, List, [], ◌∷◌, ◌++◌, length, Bool, true, false, IsTrue, Option, Some, None, slice_get, Contains}
 use Rattle.std.specs.List.{AllByRecursion, AllZip, flat_map}
 use Rattle.pb_schema.specs.declared.names.tree.NameTree.{NameTree}
-use Rattle.pb_schema.specs.View.{bytes_of}
+use Rattle.pb_names.specs.NameSets.{names_in}
 use Rattle.pb_schema.specs.Types.{FileView}
 use Rattle.pb_schema.specs.Rules.{PackagesAreWords}
 use Rattle.pb_schema.specs.Names.{is_word, is_package, packages_of, in_scope, name_at, AllDiffer}
@@ -23,7 +23,7 @@ full_names words names = names_behind words [] names
 
 -- the full names of a tree; the index of a name is that of its full name
 abbrev pub full_names_of : NameTree → List (List ℕ)
-full_names_of t = full_names (bytes_of t.words.keys) t.names.keys
+full_names_of t = full_names (names_in t.words) t.names.keys
 
 -- the scope is none, or one of the full names
 abbrev pub IsScope : List (List ℕ) → Option ℕ → Type 0
@@ -44,7 +44,7 @@ pub record AreNamed (words : List (List ℕ)) (names : List (Option ℕ × ℕ))
   pub named : (i : ℕ) (n : Option ℕ × ℕ) → slice_get names i ≡ Some n → slice_get full i ≡ Some (in_scope (scope_name full n.0) (name_at words n.1))
 
 pub record IsTree (t : NameTree) : Type 0 where
-  pub named : AreNamed (bytes_of t.words.keys) t.names.keys (full_names_of t)
+  pub named : AreNamed (names_in t.words) t.names.keys (full_names_of t)
 
 -- each name keeps its index
 abbrev pub Keeps : List (List ℕ) → List (List ℕ) → Type 0

@@ -1,8 +1,8 @@
 -- The tables of names.
 use Rattle.std.specs.Prelude.{◌≡◌, ℕ, map, List, Option, IfSome, position, find}
 use Rattle.std.specs.Str.{bytes_eq}
-use Rattle.pb_graphs.specs.declared.name_set.NameSet.{NameSet}
-use Rattle.pb_graphs.specs.NameSets.{names_in}
+use Rattle.pb_names.specs.NameSets.{NameSet}
+use Rattle.pb_names.specs.NameSets.{names_in}
 use Rattle.pb_schema.specs.Types.{FieldView}
 
 -- where there is a table it has the simple names of the fields in their order

@@ -5,7 +5,7 @@ ghost use Rattle.pb_schema.specs.View.{bytes_of};
 ghost use Rattle.pb_schema.specs.Names.{in_scope};
 ghost use Rattle.pb_schema.specs.Names.Set.{IsSetOf, Adds};
 
-use pb_graphs::name_set::NameSet;
+use pb_names::name_set::NameSet;
 use std::alloc::{AllocError, Global};
 
 #[derive(Drop)]

@@ -6,12 +6,13 @@ ghost use Rattle.pb_schema.specs.Names.Tree.{IsTree, AddsName, AddsPackage, Adds
 
 use crate::types::FileInfo;
 use indexmap::IndexSet;
+use pb_names::name_set::NameSet;
 use std::alloc::{AllocError, Global};
 
 /// Names with no scope or in a scope, which is the index of another name.
 #[derive(Drop)]
 pub(crate) struct NameTree {
-    pub(crate) words: IndexSet<Vec<u8>>,
+    pub(crate) words: NameSet,
     /// Of each name the scope and the index of its last word.
     pub(crate) names: IndexSet<(Option<usize>, usize)>,
 }
@@ -22,7 +23,7 @@ impl NameTree {
         ensures empty { full_names_of result ≡ [] }
     {
         NameTree {
-            words: IndexSet::new(alloc),
+            words: NameSet::new(alloc),
             names: IndexSet::new(alloc),
         }
     }
@@ -36,7 +37,7 @@ impl NameTree {
     ) -> Result<(usize, bool), AllocError>
         ensures { IfOk result (AddsName self.old self.new scope word.now) }
     {
-        let (word, _) = self.words.insert_full(word.to_vec(alloc)?)?;
+        let (word, _) = self.words.add_full(word.to_vec(alloc)?)?;
         Ok(self.names.insert_full((scope, word))?)
     }
 

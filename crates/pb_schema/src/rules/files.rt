@@ -7,7 +7,7 @@ ghost use Rattle.pb_schema.specs.Rules.{FilesAreNamed, FileNamesDiffer, Packages
 
 use crate::names::words::is_package;
 use crate::types::FileInfo;
-use indexmap::IndexSet;
+use pb_names::name_set::NameSet;
 use std::alloc::{AllocError, Global};
 
 /// The most imports that a file has.
@@ -27,10 +27,9 @@ pub(crate) fn files_are_named(files: &[FileInfo]) -> bool
 pub(crate) fn file_names_differ(alloc: Global, files: &[FileInfo]) -> Result<bool, AllocError>
     ensures { IfOk result (λ holds. IsTrue holds ↔ FileNamesDiffer (map file_view files.now)) }
 {
-    // The names are borrowed: no name is copied.
-    let mut names: IndexSet<&[u8]> = IndexSet::with_capacity(alloc, files.len())?;
+    let mut names = NameSet::new(alloc);
     for file in files {
-        let is_new = names.insert(file.name.as_str().as_bytes())?;
+        let is_new = names.add_copy(alloc, file.name.as_str().as_bytes())?;
         if !is_new {
             return Ok(false);
         }

@@ -7,7 +7,7 @@ ghost use Rattle.pb_schema.specs.Tables.{IsNameTable, AreNameTables, field_named
 
 use crate::names::set::AddedNames;
 use crate::types::{Field, MessageType};
-use pb_graphs::name_set::NameSet;
+use pb_names::name_set::NameSet;
 use std::alloc::{AllocError, Global};
 
 /// From this many fields on a message has a table of their names; fewer are searched one by one.

@@ -5,7 +5,7 @@ use Rattle.std.proofs.lemmas.Result.{err_from_is_err_and}
 use Rattle.pb_declarations.specs.View.{file_view}
 use Rattle.pb_declarations.specs.declared.decl.FileDecl.{FileDecl}
 use Rattle.pbtool_command.specs.CompileAnswer.{places_of, texts_of}
-use Rattle.pb_graphs.specs.NameSets.{names_in}
+use Rattle.pb_names.specs.NameSets.{names_in}
 use Rattle.pbtool_command.specs.Gathering.{Gathered, gathered, given, none_left, nothing_yet}
 use Rattle.pbtool_command.specs.Reaching.{reached}
 use Rattle.pbtool_command.specs.Steps.{GathersOf}

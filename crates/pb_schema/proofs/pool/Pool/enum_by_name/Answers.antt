@@ -1,5 +1,5 @@
 use Rattle.std.proofs.Common.{sym, ap, ◌∙◌}
-use Rattle.pb_graphs.specs.NameSets.{names_in}
+use Rattle.pb_names.specs.NameSets.{names_in}
 use Rattle.pb_schema.specs.Types.{Types}
 use Rattle.pb_schema.specs.Names.{enum_names}
 use Rattle.pb_schema.specs.Tables.{place_of}

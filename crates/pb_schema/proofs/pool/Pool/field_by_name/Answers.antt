@@ -4,7 +4,7 @@ use Rattle.std.proofs.lemmas.List.{length-map}
 use Rattle.pb_schema.specs.declared.types.Field.{Field}
 use Rattle.pb_schema.specs.Types.{Types, MessageView, message_fields, fields_of_message}
 use Rattle.pb_schema.specs.View.{field_view, message_view}
-use Rattle.pb_graphs.specs.declared.name_set.NameSet.{NameSet}
+use Rattle.pb_names.specs.NameSets.{NameSet}
 use Rattle.pb_schema.specs.Tables.{field_named, IsNameTable}
 use Rattle.pb_schema.specs.Rules.{IsPool}
 use Rattle.pb_schema.proofs.AddLemmas.{get_or-map}

@@ -1,9 +1,9 @@
 use Rattle.std.proofs.Common.{◌≡◌, ◌∙◌, Option, map, sym, ap, subst, position}
 use Rattle.std.specs.Prelude.{IfSome}
 use Rattle.std.specs.Str.{bytes_eq}
-use Rattle.pb_graphs.specs.declared.name_set.NameSet.{NameSet}
+use Rattle.pb_names.specs.NameSets.{NameSet}
 use Rattle.pb_schema.specs.Types.{FieldView}
-use Rattle.pb_graphs.specs.NameSets.{names_in}
+use Rattle.pb_names.specs.NameSets.{names_in}
 use Rattle.pb_schema.specs.View.{field_view}
 use Rattle.pb_schema.proofs.LookupLemmas.{place_by_name, place_read, place_some, read_named, unnamed}
 use Rattle.pb_schema.proofs.tables.names.field_named.Goals as goal

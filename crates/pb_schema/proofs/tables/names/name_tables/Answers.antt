@@ -1,6 +1,6 @@
 use Rattle.std.proofs.Common.{List, Option, map, subst, arith}
 use Rattle.pb_schema.specs.declared.types.Field.{Field}
-use Rattle.pb_graphs.specs.declared.name_set.NameSet.{NameSet}
+use Rattle.pb_names.specs.NameSets.{NameSet}
 use Rattle.pb_schema.specs.Types.{MessageView}
 use Rattle.pb_schema.specs.View.{field_view, message_view}
 use Rattle.pb_schema.specs.Tables.{IsNameTable}

@@ -1,7 +1,6 @@
-use Rattle.std.proofs.Common.{◌≡◌, ℕ, ℤ, List, Option, Some, None, String, Global, Bor, option_copied, map, subst, sym, ap, ◌∙◌, arith, string_bytes}
+use Rattle.std.proofs.Common.{◌≡◌, ℤ, Some, None, map, subst, ap, ◌∙◌, arith, string_bytes}
 use Rattle.std.specs.Int.{w32}
-use Rattle.std.specs.List.{position_from}
-use Rattle.std.specs.Ordering.{int_eq, int_cmp}
+use Rattle.std.specs.Ordering.{int_cmp}
 use Rattle.std.specs.BTreeMap.{get}
 use Rattle.std.proofs.lemmas.Int.{to_z-of_z}
 use Rattle.pb_schema.proofs.ValueLemmas.{place_found, place_within, named_there, named_nowhere}

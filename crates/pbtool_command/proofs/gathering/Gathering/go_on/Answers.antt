@@ -6,7 +6,7 @@ use Rattle.pb_declarations.specs.View.{file_view}
 use Rattle.pbtool_files.specs.Answer.{Answer}
 use Rattle.pbtool_command.specs.CompileAnswer.{places_of, told_of}
 use Rattle.pbtool_command.specs.Gathering.{Trouble}
-use Rattle.pb_graphs.specs.NameSets.{names_in}
+use Rattle.pb_names.specs.NameSets.{names_in}
 use Rattle.pbtool_command.specs.Reaching.{RefusesImport, StopsInside, open_view, reached}
 use Rattle.pbtool_command.specs.Steps.{AbsentOf, DeclaredOf, TroubleOf}
 use Rattle.pbtool_files.proofs.RefusalLemmas.{refuses_map}

@@ -4,7 +4,7 @@ use Rattle.pb_declarations.specs.View.{file_view}
 use Rattle.std.proofs.Common.{map}
 use Rattle.pbtool_command.specs.CompileAnswer.{places_of}
 use Rattle.pbtool_command.specs.Gathering.{is_known}
-use Rattle.pb_graphs.specs.NameSets.{names_in}
+use Rattle.pb_names.specs.NameSets.{names_in}
 use Rattle.pbtool_command.specs.Reaching.{reached}
 use Rattle.pbtool_files.proofs.KnownLemmas.{keeps_then}
 use Rattle.pbtool_command.proofs.GatherSteps.{given_inside, given_known, given_read, given_refused, name_reached}
