@@ -33,6 +33,14 @@ pub mod NameOrder
 pub mod PartViews
 -- for `push` and `insert`: one more element and one more entry keep a message well formed
 pub mod PartLemmas
+-- for contents that are changed in place, and that a message stays well formed then
+pub mod InPlace
+-- for `remove`: an entry less of a map
+pub mod Removed
+-- for `set_element` and `remove_element`: another element in a list, or one less
+pub mod Elements
+-- for `Change`: what it makes of a message of a type
+pub mod Edits
 -- ---- small cases, worked out by the rules
 -- the types that they are of
 mod Table

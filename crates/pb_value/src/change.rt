@@ -1,8 +1,11 @@
 //! Changes of what a body holds.
 
+pub(crate) mod element;
 pub(crate) mod insert;
 pub(crate) mod oneof;
 pub(crate) mod push;
+pub(crate) mod remove;
+pub(crate) mod set;
 
 ghost use Rattle.std.specs.Prelude.{◌≡◌, ◌<◌, length, OnOk, OnErr, IfErr, Some, option_map};
 ghost use Rattle.pb_schema.specs.Types.{message_fields};

@@ -1,14 +1,16 @@
 //! Messages that are well formed by a pool.
 
 use crate::body::{Body, Content, MapKey, Value};
-use crate::change::insert::{check_entry, insert_entry};
+use crate::change::clear_field;
+use crate::change::element::{remove_element, set_element};
+use crate::change::insert::insert_value;
 use crate::change::oneof::set_member;
-use crate::change::push::{check_element, push_element};
-use crate::change::{clear_field, store};
+use crate::change::push::push_value;
+use crate::change::remove::remove_entry;
+use crate::change::set::{set_content, set_value};
+use crate::changing::{Change, drop_unknown};
 use crate::error::ValueError;
-use crate::judge::check::{check_content, check_held, check_message};
-use crate::judge::depth::{MAX_LEVELS, content_within};
-use crate::lookup::field_at;
+use crate::judge::check::check_message;
 use crate::merge::merge_body;
 use crate::message_ref::{MessageRef, print};
 use pb_schema::{Kind, MessageId, Pool, Shape};
@@ -45,18 +47,20 @@ impl<'p> Model for DynamicMessage<'p> {
 }
 
 impl<'p> DynamicMessage<'p> {
-    ghost use Rattle.std.specs.Prelude.{◌≡◌, ◌<◌, length, option_map, is_some, IsTrue, IfOk, IfErr, OnOk, OnErr};
+    ghost use Rattle.std.specs.Prelude.{◌≡◌, ◌<◌, length, option_and_then, option_map, is_some, IsTrue, IfOk, IfErr, OnOk, OnErr};
     ghost use Rattle.pb_schema.specs.Types.{message_fields};
     ghost use Rattle.pb_schema.specs.Rules.{IsPool};
     ghost use Rattle.std.specs.Bool.{Decides};
     ghost use Rattle.std.specs.Global.{Global};
-    ghost use Rattle.pb_value.specs.Data.{empty, fields_of, get_field, drop_field};
-    ghost use Rattle.pb_value.specs.Change.{set_at, set_cause, Allowed, push_at, push_cause, insert_at, entry_at, insert_cause};
+    ghost use Rattle.pb_value.specs.Data.{empty, fields_of, get_field, drop_field, one};
+    ghost use Rattle.pb_value.specs.Change.{set_at, set_cause, push_at, push_cause, insert_at, entry_at, insert_cause};
+    ghost use Rattle.pb_value.specs.Change.{put_nth, remove_at, take_nth};
+    ghost use Rattle.pb_value.specs.Edit.{edit_cause, edit_of, edited, taken_out};
     ghost use Rattle.pb_value.specs.Oneof.{member_set};
     ghost use Rattle.pb_value.specs.Inner.{only_datum, datum_at, datum_under, inner_message};
     ghost use Rattle.pb_value.specs.declared.error.ValueError.TheVariants.{Memory};
     ghost use Rattle.pb_value.specs.View.{body_view, content_view, key_view, value_view};
-    ghost use Rattle.pb_value.specs.Dynamic.{Dynamic, with_changed, IsSameType};
+    ghost use Rattle.pb_value.specs.Dynamic.{Dynamic, with_changed, without_unknown, IsSameType};
     ghost use Rattle.pb_value.specs.Cause.{MergeFails};
     ghost use Rattle.pb_value.specs.Merge.{merged};
     ghost use Rattle.pb_value.specs.Joining.{JoinedIsText};
@@ -190,8 +194,32 @@ impl<'p> DynamicMessage<'p> {
         ensures err { OnErr result (self.new ≡ self.old) }
         ensures judged { IsRefusedBy result (set_cause self.old.pool self.old.kind number (content_view content)) }
     {
-        let shape = self.allows(number, &content)?;
-        store(self.pool, self.kind, &mut self.body, shape, number, content)
+        set_content(
+            self.alloc,
+            self.pool,
+            self.kind,
+            &mut self.body,
+            number,
+            content,
+        )
+    }
+
+    /// Sets the field of a number to one value, as [`set`](DynamicMessage::set) does.
+    pub fn set_value(&mut self, number: u32, value: Value) -> Result<(), ValueError>
+        ensures ok { OnOk result (self.new ≡ with_changed self.old
+            (set_at (message_fields self.old.pool self.old.kind) number (one (value_view value)))) }
+        ensures err { OnErr result (self.new ≡ self.old) }
+        ensures judged { IsRefusedBy result
+            (set_cause self.old.pool self.old.kind number (one (value_view value))) }
+    {
+        set_value(
+            self.alloc,
+            self.pool,
+            self.kind,
+            &mut self.body,
+            number,
+            value,
+        )
     }
 
     /// Puts a value at the end of the list of a number. Nothing else changes, and nothing at all where the call fails.
@@ -203,8 +231,14 @@ impl<'p> DynamicMessage<'p> {
         ensures err { OnErr result (self.new ≡ self.old) }
         ensures judged { IsRefusedBy result (push_cause self.old.pool self.old.kind number (value_view value)) }
     {
-        check_element(self.alloc, self.pool, self.kind, number, &value)?;
-        push_element(self.alloc, &mut self.body, number, value)
+        push_value(
+            self.alloc,
+            self.pool,
+            self.kind,
+            &mut self.body,
+            number,
+            value,
+        )
     }
 
     /// Puts a value under a key of the map of a number, and returns the value that the key had before. Nothing else
@@ -222,8 +256,15 @@ impl<'p> DynamicMessage<'p> {
         ensures err { OnErr result (self.new ≡ self.old) }
         ensures judged { IsRefusedBy result (insert_cause self.old.pool self.old.kind number (key_view key) (value_view value)) }
     {
-        check_entry(self.alloc, self.pool, self.kind, number, &key, &value)?;
-        insert_entry(self.alloc, &mut self.body, number, key, value)
+        insert_value(
+            self.alloc,
+            self.pool,
+            self.kind,
+            &mut self.body,
+            number,
+            key,
+            value,
+        )
     }
 
     /// This message with another over it: scalars of the other where it has them, messages merged, lists joined, its entries put
@@ -274,27 +315,80 @@ impl<'p> DynamicMessage<'p> {
         })
     }
 
-    /// The shape of the field of a number, where a content can be set there.
-    fn allows(&self, number: u32, content: &Content) -> Result<Shape, ValueError>
-        ensures judged { IsRefusedBy result (set_cause self.now.pool self.now.kind number (content_view content.now)) }
-        ensures fits { IfOk result (λ s. Allowed self.now.pool self.now.kind number s (content_view content.now)) }
-    {
-        let Some(field) = field_at(self.pool, self.kind, number) else {
-            return Err(ValueError::NoSuchField);
-        };
-        check_content(field.shape, field.kind, content)?;
-        check_held(self.alloc, self.pool, field.shape, field.kind, content)?;
-        if !content_within(content, MAX_LEVELS) {
-            return Err(ValueError::TooDeep);
-        }
-        Ok(field.shape)
-    }
-
     /// Clears the field of a number. Nothing else changes, and nothing at all where the type has no such field.
     pub fn clear(&mut self, number: u32)
         ensures { self.new ≡ with_changed self.old (drop_field number) }
     {
         clear_field(&mut self.body, number);
+    }
+
+    /// Removes the value under a key from the map of a number, and returns it. A map without entries is not set. Nothing else
+    /// changes, and nothing at all if there is no such value.
+    pub fn remove(&mut self, number: u32, key: &MapKey) -> Option<Value>
+        ensures left { self.new ≡ with_changed self.old (remove_at number (key_view key.now)) }
+        ensures taken { option_map value_view result
+            ≡ option_and_then (datum_under (key_view key.now))
+            (get_field number (fields_of self.old.body)) }
+    {
+        remove_entry(&mut self.body, number, key)
+    }
+
+    /// Puts a value in place of the element at an index, counted from 0, of the list of a number, and returns the value that was
+    /// there. Nothing else changes, and nothing at all if there is no such element or the call fails.
+    ///
+    /// The value is judged as by [`push`](DynamicMessage::push).
+    pub fn set_element(
+        &mut self,
+        number: u32,
+        index: usize,
+        value: Value,
+    ) -> Result<Option<Value>, ValueError>
+        ensures ok { OnOk result (self.new
+            ≡ with_changed self.old (put_nth number index (value_view value))) }
+        ensures taken { IfOk result (λ v. option_map value_view v
+            ≡ option_and_then (datum_at index) (get_field number (fields_of self.old.body))) }
+        ensures err { OnErr result (self.new ≡ self.old) }
+        ensures judged { IsRefusedBy result
+            (push_cause self.old.pool self.old.kind number (value_view value)) }
+    {
+        set_element(
+            self.alloc,
+            self.pool,
+            self.kind,
+            &mut self.body,
+            number,
+            index,
+            value,
+        )
+    }
+
+    /// Removes the element at an index, counted from 0, from the list of a number, and returns it. A list without elements is
+    /// not set. Nothing else changes, and nothing at all if there is no such element.
+    pub fn remove_element(&mut self, number: u32, index: usize) -> Option<Value>
+        ensures left { self.new ≡ with_changed self.old (take_nth number index) }
+        ensures taken { option_map value_view result
+            ≡ option_and_then (datum_at index) (get_field number (fields_of self.old.body)) }
+    {
+        remove_element(&mut self.body, number, index)
+    }
+
+    /// Drops the unknown records, and changes nothing else.
+    pub fn drop_unknown(&mut self)
+        ensures { self.new ≡ without_unknown self.old }
+    {
+        drop_unknown(self.alloc, &mut self.body)
+    }
+
+    /// Makes a change, and returns the value that it takes out. Nothing changes if the call fails.
+    pub fn change(&mut self, change: Change) -> Result<Option<Value>, ValueError>
+        ensures ok { OnOk result (self.new ≡ edited (edit_of change) self.old) }
+        ensures out { IfOk result (λ v. option_map value_view v
+            ≡ taken_out (edit_of change) self.old) }
+        ensures err { OnErr result (self.new ≡ self.old) }
+        ensures judged { IsRefusedBy result
+            (edit_cause (edit_of change) self.old.pool self.old.kind) }
+    {
+        change.make(self.alloc, self.pool, self.kind, &mut self.body)
     }
 
     /// Whether the field of a number is set.

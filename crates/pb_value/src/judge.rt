@@ -11,6 +11,7 @@ ghost use Rattle.pb_value.specs.Judge.{is_absence, is_scalar_of, is_default_datu
 ghost use Rattle.std.specs.Prelude.{string_bytes};
 ghost use Rattle.pb_schema.specs.Scalar.{int32, int64, uint32, uint64, boolean, float, double, enum, text as scalar_text, bytes as scalar_bytes};
 ghost use Rattle.pb_schema.specs.Kinds.{IsOfKind};
+ghost use Rattle.pb_value.specs.Data.{one};
 ghost use Rattle.pb_value.specs.View.{key_view, value_view, content_view, values_view, entries_view};
 
 use crate::body::{Content, MapKey, Value};
@@ -191,13 +192,21 @@ fn is_default(value: &Value) -> bool
     }
 }
 
+/// Whether a field without the value is the same: an implicit field's default.
+#[inline(always)]
+pub(crate) fn is_absent(shape: Shape, value: &Value) -> bool
+    ensures { result ≡ is_absence shape (one (value_view value.now)) }
+{
+    matches!(shape, Shape::Implicit) && is_default(value)
+}
+
 /// Whether a field without the content is the same: an implicit field's default, an empty list or an empty map.
 #[inline(always)]
 pub(crate) fn is_absence(shape: Shape, content: &Content) -> bool
     ensures { result ≡ is_absence shape (content_view content.now) }
 {
     match content {
-        Content::One(value) => matches!(shape, Shape::Implicit) && is_default(value),
+        Content::One(value) => is_absent(shape, value),
         Content::List(values) => values.is_empty(),
         Content::Map(entries) => entries.is_empty(),
     }

@@ -22,6 +22,7 @@
 pub mod bodies;
 mod body;
 mod change;
+mod changing;
 mod dynamic;
 mod error;
 mod full_name;
@@ -32,6 +33,7 @@ mod merge;
 mod message_ref;
 
 pub use body::{Body, Content, MapKey, Value};
+pub use changing::Change;
 pub use dynamic::{DynamicMessage, default_value};
 pub use error::ValueError;
 pub use message_ref::MessageRef;

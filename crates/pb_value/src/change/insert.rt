@@ -4,6 +4,7 @@ ghost use Rattle.std.specs.Prelude.{◌≡◌, ◌<◌, length, option_map, OnOk
 ghost use Rattle.pb_value.specs.Data.{fields_of, get_field, get_entry};
 ghost use Rattle.pb_value.specs.Change.{ChangesFields, entries_of, inserted, insert_at, entry_at, insert_cause, IsEntry, FitsKeys};
 ghost use Rattle.pb_value.specs.Cause.{IsRefusedBy};
+ghost use Rattle.pb_value.specs.WellFormed.{IsWellFormed};
 ghost use Rattle.pb_value.specs.View.{body_view, content_view, key_view, value_view};
 ghost use Rattle.pb_value.specs.declared.error.ValueError.TheVariants.{Memory};
 
@@ -105,4 +106,30 @@ pub fn insert_entry(
             Ok(None)
         }
     }
+}
+
+/// Puts a value under a key of the map of a number of a well-formed message, as
+/// [`DynamicMessage::insert`](crate::DynamicMessage::insert) does.
+pub(crate) fn insert_value(
+    alloc: Global,
+    pool: &Pool,
+    message_type: MessageId,
+    message: &mut Body,
+    number: u32,
+    key: MapKey,
+    value: Value,
+) -> Result<Option<Value>, ValueError>
+    requires within { message_type.0 < length pool.now.messages }
+    requires well_formed { IsWellFormed pool.now message_type.0 (body_view message.old) }
+    ensures ok { OnOk result (ChangesFields (insert_at number (key_view key) (value_view value))
+        (body_view message.old) (body_view message.new)) }
+    ensures taken { IfOk result (λ v. option_map value_view v
+        ≡ entry_at number (key_view key) (fields_of (body_view message.old))) }
+    ensures err { OnErr result (body_view message.new ≡ body_view message.old) }
+    ensures judged { IsRefusedBy result
+        (insert_cause pool.now message_type.0 number (key_view key) (value_view value)) }
+    ensures well_formed { IsWellFormed pool.now message_type.0 (body_view message.new) }
+{
+    check_entry(alloc, pool, message_type, number, &key, &value)?;
+    insert_entry(alloc, message, number, key, value)
 }

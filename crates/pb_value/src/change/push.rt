@@ -3,6 +3,7 @@
 ghost use Rattle.std.specs.Prelude.{◌≡◌, ◌<◌, length, OnOk, OnErr, IfOk, IfErr, None, Some};
 ghost use Rattle.pb_value.specs.Change.{ChangesFields, pushed, push_at, push_cause, IsElement};
 ghost use Rattle.pb_value.specs.Cause.{IsRefusedBy};
+ghost use Rattle.pb_value.specs.WellFormed.{IsWellFormed};
 ghost use Rattle.pb_value.specs.View.{body_view, content_view, value_view};
 ghost use Rattle.pb_value.specs.declared.error.ValueError.TheVariants.{Memory};
 
@@ -96,4 +97,27 @@ pub fn push_element(
             put_field(message, number, content)
         }
     }
+}
+
+/// Puts a value at the end of the list of a number of a well-formed message, as
+/// [`DynamicMessage::push`](crate::DynamicMessage::push) does.
+pub(crate) fn push_value(
+    alloc: Global,
+    pool: &Pool,
+    message_type: MessageId,
+    message: &mut Body,
+    number: u32,
+    value: Value,
+) -> Result<(), ValueError>
+    requires within { message_type.0 < length pool.now.messages }
+    requires well_formed { IsWellFormed pool.now message_type.0 (body_view message.old) }
+    ensures ok { OnOk result (ChangesFields (push_at number (value_view value))
+        (body_view message.old) (body_view message.new)) }
+    ensures err { OnErr result (body_view message.new ≡ body_view message.old) }
+    ensures judged { IsRefusedBy result
+        (push_cause pool.now message_type.0 number (value_view value)) }
+    ensures well_formed { IsWellFormed pool.now message_type.0 (body_view message.new) }
+{
+    check_element(alloc, pool, message_type, number, &value)?;
+    push_element(alloc, message, number, value)
 }
