@@ -41,6 +41,13 @@ impl<I: Drop> BufferedInput<I> {
         }
     }
 
+    /// The input. Bytes that are held are lost.
+    pub fn into_inner(self) -> I
+        ensures { result ≡ self.input }
+    {
+        self.input
+    }
+
     /// The bytes that are held.
     pub fn held(&self) -> &[u8]
         ensures { result.now ≡ self.now.held }

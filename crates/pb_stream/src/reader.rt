@@ -134,6 +134,13 @@ impl<'p, I: Input + Drop> DelimitedReader<'p, I> {
         }
     }
 
+    /// The input, from the byte after those that were taken.
+    pub fn into_inner(self) -> I
+        ensures { result ≡ self.entry.input }
+    {
+        self.input
+    }
+
     /// How many bytes were taken by the calls of `next` that refused nothing. The greatest u64 also means more.
     pub fn taken(&self) -> u64
         ensures { result ≡ self.now.taken }
