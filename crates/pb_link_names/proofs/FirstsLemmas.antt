@@ -1,15 +1,24 @@
 -- Tables of first places.
-use Rattle.std.proofs.Common.{◌≡◌, ℕ, zero, suc, ◌+◌, ◌≤◌, List, [], ◌∷◌, Bool, true, false, not, refl, sym, ◌∙◌, ap, arith, cond, drop, length, Option, Some, None, option_map, nat_lt}
+use Rattle.std.proofs.Common.{◌≡◌, ℕ, zero, suc, ◌+◌, ◌≤◌, List, [], ◌∷◌, Bool, true, false, not, refl, sym, ◌∙◌, ap, subst, arith, cond, if◌then◌else◌, drop, length, Option, Some, None, option_map, nat_lt}
 use Rattle.std.specs.Borrow.{Bor}
 use Rattle.std.specs.Prelude.{slice_get, position}
 use Rattle.std.specs.List.{position_from, position_or_len}
-use Rattle.std.specs.Map.{lookup}
+use Rattle.std.specs.BTreeMap.{Updates, get_by}
+use Rattle.std.specs.Cmp.Lexicographic.{slice_cmp}
+use Rattle.std.specs.declared.cmp.Ordering.{Ordering}
+use Rattle.std.specs.declared.cmp.Ordering.TheVariants.{Less, Equal, Greater}
+use Rattle.std.specs.Ordering.{is_eq, nat_cmp}
 use Rattle.std.specs.Str.{bytes_eq}
 use Rattle.std.proofs.lemmas.Bool.{false≢true}
 use Rattle.std.proofs.lemmas.Option.{none-some}
 use Rattle.std.proofs.lemmas.Bool.Decides.{nat_tests}
+use Rattle.std.proofs.lemmas.Cmp.{nat_cmp_total, tied_itself, nat_list_eq_equiv}
+use Rattle.std.proofs.lemmas.Map.Lookups.{exact_unsigned}
+use Rattle.std.proofs.lemmas.Map.Text.{is_eq-slice_cmp}
 use Rattle.std.proofs.lemmas.Slice.Eq.{bytes_eq-Decides}
-use Rattle.indexmap.specs.IndexMap.{insert_entry}
+use Rattle.pb_names.specs.NameHash.{name_hash}
+use Rattle.pb_link_names.specs.declared.firsts.Firsts.{Firsts}
+use Rattle.pb_link_names.specs.Firsts.{first_at, kept_at, other_at, place_by, is_kept_for_another}
 
 some_same : {A : Type 0} (a b : A) → Some a ≡ Some b → a ≡ b
 some_same a b h = cc
@@ -19,26 +28,61 @@ same_bytes a b h = (bytes_eq-Decides a b).0 h
 
 -- PUTTING
 
-put_twice : (b : Bool) (v w : ℕ) (rest : Option ℕ) → cond b (Some v) rest ≡ cond b (Some v) (cond b (Some w) rest)
-put_twice true v w rest = refl
-put_twice false v w rest = refl
+equal_by : (o : Ordering) → is_eq o ≡ true → o ≡ Equal
+equal_by Less e = absurd (false≢true e)
+equal_by Equal e = refl
+equal_by Greater e = absurd (false≢true e)
 
-put_apart : (a b : Bool) (v w : ℕ) (rest : Option ℕ) → (a ≡ true → b ≡ true → ⊥) → cond a (Some w) (cond b (Some v) rest) ≡ cond b (Some v) (cond a (Some w) rest)
-put_apart true true v w rest never = absurd (never refl refl)
-put_apart true false v w rest never = refl
-put_apart false b v w rest never = refl
+-- a name that another has the hash of is among the others
+place_among_others : (name : List ℕ) (kept : Option (Bor (List ℕ) × ℕ)) (other : Option ℕ) → is_kept_for_another name kept ≡ true → place_by name kept other ≡ other
+place_among_others name None other e = absurd (false≢true e)
+place_among_others name (Some kept) other e = by (bytes_eq kept.0.now name) refl
+  where
+    by : (b : Bool) → bytes_eq kept.0.now name ≡ b → (if b then Some kept.1 else other) ≡ other
+    by true same = absurd (false≢true (subst (λ b. not b ≡ true) same e))
+    by false apart = refl
 
-put_step : (name : List ℕ) (e : Bor (List ℕ) × ℕ) (es rest : List (Bor (List ℕ) × ℕ)) (key : Bor (List ℕ)) (v : ℕ) (c : Bool) → bytes_eq key.now e.0.now ≡ c → lookup (λ k. bytes_eq name k.now) rest ≡ cond (bytes_eq name key.now) (Some v) (lookup (λ k. bytes_eq name k.now) es) → lookup (λ k. bytes_eq name k.now) (cond c ((e.0, v) ∷ es) (e ∷ rest)) ≡ cond (bytes_eq name key.now) (Some v) (lookup (λ k. bytes_eq name k.now) (e ∷ es))
-put_step name e es rest key v true same onward =
-    let alike : bytes_eq name e.0.now ≡ bytes_eq name key.now = ap (bytes_eq name) (sym (same_bytes key.now e.0.now same)) in
-    put_twice (bytes_eq name e.0.now) v e.1 (lookup (λ k. bytes_eq name k.now) es) ∙ ap (λ b. cond b (Some v) (lookup (λ (k : Bor (List ℕ)). bytes_eq name k.now) (e ∷ es))) alike
-put_step name e es rest key v false other onward =
-    ap (cond (bytes_eq name e.0.now) (Some e.1)) onward
-    ∙ put_apart (bytes_eq name e.0.now) (bytes_eq name key.now) v e.1 (lookup (λ k. bytes_eq name k.now) es) (λ one two. false≢true (sym other ∙ ap (bytes_eq key.now) (sym (same_bytes name e.0.now one)) ∙ ap (λ n. bytes_eq n name) (sym (same_bytes name key.now two)) ∙ (bytes_eq-Decides name name).1 refl))
+-- what is kept for a hash is of the one name or of none
+place_of_another : (name key : List ℕ) (kept : Option (Bor (List ℕ) × ℕ)) (other : Option ℕ) → is_kept_for_another key kept ≡ false → bytes_eq key name ≡ false → place_by name kept other ≡ other
+place_of_another name key None other e apart = refl
+place_of_another name key (Some kept) other e apart = by (bytes_eq kept.0.now key) refl
+  where
+    by : (b : Bool) → bytes_eq kept.0.now key ≡ b → (if bytes_eq kept.0.now name then Some kept.1 else other) ≡ other
+    by true same = ap (λ b. if b then Some kept.1 else other) (ap (λ x. bytes_eq x name) ((bytes_eq-Decides kept.0.now key).0 same) ∙ apart)
+    by false differ = absurd (false≢true (sym (subst (λ b. not b ≡ false) differ e)))
 
-pub put_found : (name : List ℕ) (es : List (Bor (List ℕ) × ℕ)) (key : Bor (List ℕ)) (v : ℕ) → lookup (λ k. bytes_eq name k.now) (insert_entry (λ a b. bytes_eq a.now b.now) es key v) ≡ cond (bytes_eq name key.now) (Some v) (lookup (λ k. bytes_eq name k.now) es)
-put_found name [] key v = refl
-put_found name (e ∷ es) key v = put_step name e es (insert_entry (λ a b. bytes_eq a.now b.now) es key v) key v (bytes_eq key.now e.0.now) refl (put_found name es key v)
+module _ (old new : Firsts) (key : Bor (List ℕ)) (v : ℕ) where
+  abbrev IsPut : Type 0
+  IsPut = (name : List ℕ) → first_at new name ≡ (if bytes_eq name key.now then Some v else first_at old name)
+
+  pub put_among_others : new.by_hash ≡ old.by_hash → is_kept_for_another key.now (kept_at old (name_hash key.now)) ≡ true → Updates (λ a b. slice_cmp nat_cmp a.now b.now) old.others new.others key (Some v) → IsPut
+  put_among_others hashes another updates name =
+      ap (λ m. place_by name (get_by (nat_cmp (name_hash name)) m) (other_at new name)) hashes ∙ ap (place_by name (kept_at old (name_hash name))) put ∙ by (bytes_eq name key.now) refl
+    where
+      put : other_at new name ≡ (if bytes_eq name key.now then Some v else other_at old name)
+      put = updates.0 (record { ref_ptr = (0, 0); now = name }) ∙ ap (λ b. if b then Some v else other_at old name) (is_eq-slice_cmp key.now name ∙ nat_list_eq_equiv.symm key.now name)
+
+      by : (b : Bool) → bytes_eq name key.now ≡ b → place_by name (kept_at old (name_hash name)) (if b then Some v else other_at old name) ≡ (if b then Some v else first_at old name)
+      by true same = place_among_others name (kept_at old (name_hash name)) (Some v) (subst (λ x. is_kept_for_another x (kept_at old (name_hash x)) ≡ true) (sym ((bytes_eq-Decides name key.now).0 same)) another)
+      by false apart = refl
+
+  pub put_for_hash : new.others ≡ old.others → is_kept_for_another key.now (kept_at old (name_hash key.now)) ≡ false → Updates nat_cmp old.by_hash new.by_hash (name_hash key.now) (Some (key, v)) → IsPut
+  put_for_hash others own updates name =
+      ap (λ m. place_by name (kept_at new (name_hash name)) (get_by (λ (k : Bor (List ℕ)). slice_cmp nat_cmp name k.now) m)) others ∙ ap (λ k. place_by name k (other_at old name)) (updates.0 (name_hash name)) ∙ by (is_eq (nat_cmp (name_hash key.now) (name_hash name))) refl
+    where
+      here : (b : Bool) → bytes_eq key.now name ≡ b → name_hash key.now ≡ name_hash name → (if b then Some v else other_at old name) ≡ (if b then Some v else first_at old name)
+      here true same hashes = refl
+      here false apart hashes = sym (place_of_another name key.now (kept_at old (name_hash name)) (other_at old name) (subst (λ h. is_kept_for_another key.now (kept_at old h) ≡ false) hashes own) apart)
+
+      elsewhere : (b : Bool) → bytes_eq name key.now ≡ b → is_eq (nat_cmp (name_hash key.now) (name_hash name)) ≡ false → first_at old name ≡ (if b then Some v else first_at old name)
+      elsewhere true same apart = absurd (false≢true (sym apart ∙ ap (λ x. is_eq (nat_cmp (name_hash key.now) (name_hash x))) ((bytes_eq-Decides name key.now).0 same) ∙ ap is_eq (tied_itself nat_cmp_total (name_hash key.now))))
+      elsewhere false differ apart = refl
+
+      by : (b : Bool) → is_eq (nat_cmp (name_hash key.now) (name_hash name)) ≡ b → place_by name (if b then Some (key, v) else kept_at old (name_hash name)) (other_at old name) ≡ (if bytes_eq name key.now then Some v else first_at old name)
+      by true tied =
+          here (bytes_eq key.now name) refl (exact_unsigned (name_hash key.now) (name_hash name) (equal_by (nat_cmp (name_hash key.now) (name_hash name)) tied))
+          ∙ ap (λ b. if b then Some v else first_at old name) (nat_list_eq_equiv.symm key.now name)
+      by false apart = elsewhere (bytes_eq name key.now) refl apart
 
 -- FIRST PLACES
 past : {X : Type 0} (xs : List X) (i : ℕ) → length xs ≤ i → drop i xs ≡ []

@@ -2,15 +2,21 @@
 
 ghost use Rattle.std.specs.Prelude.{◌≡◌, ℕ, List, None, Some, IfOk, OnOk, if◌then◌else◌};
 ghost use Rattle.std.specs.Str.{bytes_eq};
-ghost use Rattle.pb_link_names.specs.Firsts.{first_at};
+ghost use Rattle.pb_link_names.specs.Firsts.{first_at, kept_at, is_kept_for_another};
+ghost use Rattle.pb_names.specs.NameHash.{name_hash};
 
-use indexmap::IndexMap;
+use pb_names::name_hash::name_hash;
 use std::alloc::{AllocError, Global};
+use std::collections::BTreeMap;
 
-/// The first place of each name. The names are borrowed, none is copied.
+/// The first place of each name. The names are borrowed, none is copied. A name is found by its hash, or by itself if another name with this hash
+/// was put before. Both tables are sorted, so nobody can pick names that make look-ups slow.
 #[derive(Drop)]
 pub struct Firsts<'a> {
-    pub places: IndexMap<&'a [u8], usize>,
+    /// Of each hash the first name that was put, and its place.
+    pub by_hash: BTreeMap<u64, (&'a [u8], usize)>,
+    /// The places of all other names.
+    pub others: BTreeMap<&'a [u8], usize>,
 }
 
 impl<'a> Firsts<'a> {
@@ -18,17 +24,19 @@ impl<'a> Firsts<'a> {
         ensures { (name : List ℕ) → first_at result name ≡ None }
     {
         Firsts {
-            places: IndexMap::new(alloc),
+            by_hash: BTreeMap::new(alloc),
+            others: BTreeMap::new(alloc),
         }
     }
 
-    /// An empty table with capacity for `size` names.
-    pub(crate) fn with_room(alloc: Global, size: usize) -> Result<Firsts<'a>, AllocError>
-        ensures { IfOk result (λ t. (name : List ℕ) → first_at t name ≡ None) }
+    /// Whether another name is kept for a hash.
+    fn is_kept_for_another(&self, hash: u64, name: &[u8]) -> bool
+        ensures { result ≡ is_kept_for_another name.now (kept_at self.now hash) }
     {
-        Ok(Firsts {
-            places: IndexMap::with_capacity(alloc, size)?,
-        })
+        match self.by_hash.get(&hash) {
+            Some((first, _)) => *first != name,
+            None => false,
+        }
     }
 
     /// Puts a place for a name, before the one that is there. Answers that one.
@@ -36,7 +44,13 @@ impl<'a> Firsts<'a> {
         ensures later { IfOk result (λ old. old ≡ first_at self.old name.now) }
         ensures put { OnOk result ((other : List ℕ) → first_at self.new other ≡ (if bytes_eq other name.now then Some place else first_at self.old other)) }
     {
-        let later = self.places.insert(name, place)?;
+        let later = self.get(name);
+        let hash = name_hash(name);
+        if self.is_kept_for_another(hash, name) {
+            self.others.insert(name, place)?;
+        } else {
+            self.by_hash.insert(hash, (name, place))?;
+        }
         Ok(later)
     }
 
@@ -44,6 +58,11 @@ impl<'a> Firsts<'a> {
     pub fn get(&self, name: &[u8]) -> Option<usize>
         ensures { result ≡ first_at self.now name.now }
     {
-        self.places.get(name).copied()
+        if let Some((first, place)) = self.by_hash.get(&name_hash(name)) {
+            if *first == name {
+                return Some(*place);
+            }
+        }
+        self.others.get(name).copied()
     }
 }

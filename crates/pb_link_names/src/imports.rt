@@ -59,7 +59,7 @@ fn files_by_name<'a>(
     ensures named { IfOk result (λ r. (name : List ℕ) → first_at r.0 name ≡ file_named (map file_view files.now) name) }
     ensures marked { IfOk result (λ r. r.1.items ≡ first_marks (file_named (map file_view files.now)) (map file_view files.now)) }
 {
-    let mut firsts = Firsts::with_room(alloc, files.len())?;
+    let mut firsts = Firsts::new(alloc);
     let mut marks: Vec<bool> = vec![in alloc; false; files.len()]?;
     let mut index = files.len();
     let mut end = names.len();
