@@ -9,6 +9,7 @@ pub mod MessageAnswer
 pub mod FromJsonAnswer
 pub mod FramesAnswer
 pub mod AllFrames
+pub mod Cleanup
 pub mod CompileAnswer
 pub mod CompatAnswer
 pub mod Answers

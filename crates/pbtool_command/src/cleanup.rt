@@ -1,5 +1,8 @@
 //! What becomes of a command's memory when the command is done.
 
+ghost use Rattle.std.specs.Prelude.{◌≡◌};
+ghost use Rattle.pbtool_command.specs.Cleanup.{freed};
+
 use std::mem::forget;
 
 /// What becomes of the pool and the message of a command when it is done.
@@ -13,8 +16,18 @@ pub enum Cleanup {
 
 /// Frees a value, or leaves it to the system.
 pub(crate) fn clean_up<T: Drop>(value: T, cleanup: Cleanup) {
+    drop(to_free(value, cleanup));
+}
+
+/// What is to be freed of a value: all of it, or nothing where it is left to the system.
+fn to_free<T: Drop>(value: T, cleanup: Cleanup) -> Option<T>
+    ensures { result ≡ freed cleanup value }
+{
     match cleanup {
-        Cleanup::Free => drop(value),
-        Cleanup::LeaveToSystem => forget(value),
+        Cleanup::Free => Some(value),
+        Cleanup::LeaveToSystem => {
+            forget(value);
+            None
+        }
     }
 }
