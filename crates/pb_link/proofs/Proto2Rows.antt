@@ -1,6 +1,6 @@
 -- Worked rows of files of proto2, computed.
 use Rattle.std.proofs.Common.{◌≡◌, ℕ, pos, List, [], ◌∷◌, Bool, true, false, Option, Some, None, refl}
-use Rattle.std.specs.Prelude.{codes}
+use Rattle.std.specs.Prelude.{codes, map}
 use Rattle.pb_declarations.specs.declared.decl.TypeCode.{TypeCode}
 use Rattle.pb_declarations.specs.declared.decl.TypeCode.TheVariants as code
 use Rattle.pb_declarations.specs.Decls.{DeclaredField, message, messages_of, no_messages, DeclaredMessage, DeclaredEnum, DeclaredFile}
@@ -8,6 +8,7 @@ use Rattle.pb_link_rules.specs.declared.cause.LinkCause.TheVariants as cause
 use Rattle.pb_schema.specs.declared.types.Kind.TheVariants as kind
 use Rattle.pb_schema.specs.declared.types.Shape.TheVariants as shape
 use Rattle.pb_schema.specs.Types.{Types}
+use Rattle.pb_link.specs.EnumMaps.{file_without_maps}
 use Rattle.pb_link.specs.PoolOf.{pool_of}
 use Rattle.pb_link.specs.ToDecls.{decls_of}
 use Rattle.pb_link.proofs.Samples.{int32, typed, in_message, enum_of, a_set, a_set_of_two, alone, told, told_by}
@@ -76,13 +77,20 @@ optional_of_two = refl
 optional_of_three : told (a_set optional_messages []) ≡ None
 optional_of_three = refl
 
--- a map field whose value is of this type
-abbrev map_of : DeclaredField → List DeclaredFile
-map_of value = a_set_of_two (
+-- a field whose messages have these keys and values: a map field, or a list
+abbrev entries_of : Bool → DeclaredField → DeclaredField → List DeclaredFile
+entries_of is_map key value = a_set_of_two (
     message (record { name = codes "M"; fields = repeated None (coded code.Message (Some (codes ".M.AEntry")) (codes "a") 1) ∷ []; enums = []; oneofs = []; reserved = []; reserved_names = []; is_entry = false })
     (messages_of (
-    message (record { name = codes "AEntry"; fields = coded code.Text None (codes "key") 1 ∷ value ∷ []; enums = []; oneofs = []; reserved = []; reserved_names = []; is_entry = true }) no_messages ∷ [])) ∷ [])
+    message (record { name = codes "AEntry"; fields = key ∷ value ∷ []; enums = []; oneofs = []; reserved = []; reserved_names = []; is_entry = is_map }) no_messages ∷ [])) ∷ [])
     (enum_of (codes "E") ((codes "ONE", pos 1) ∷ []) ∷ [])
+
+abbrev text_key : DeclaredField
+text_key = coded code.Text None (codes "key") 1
+
+-- a map field whose value is of this type
+abbrev map_of : DeclaredField → List DeclaredFile
+map_of = entries_of true text_key
 
 map_of_group : told (map_of (coded code.Group (Some (codes ".M")) (codes "value") 2)) ≡ Some (3, cause.BadMap)
 map_of_group = refl
@@ -121,3 +129,32 @@ group_of_enum = refl
 
 group_of_none : told (a_set_of_two (group_messages None) an_enum) ≡ Some (2, cause.KindMismatch)
 group_of_none = refl
+
+-- MAPS OF ENUMS, READ LENIENTLY
+
+abbrev enum_value : DeclaredField
+enum_value = coded code.Enum (Some (codes ".E")) (codes "value") 2
+
+-- map<string, E> a = 1, in a file of proto2, is the list of its entries
+map_of_enum_listed : map file_without_maps (map_of enum_value) ≡ entries_of false text_key enum_value
+map_of_enum_listed = refl
+
+-- in a file of proto3 it stays a map
+abbrev of_three : List DeclaredFile → List DeclaredFile
+of_three = map (λ f. record f { is_proto2 = false })
+
+map_of_three_kept : map file_without_maps (of_three (map_of enum_value)) ≡ of_three (map_of enum_value)
+map_of_three_kept = refl
+
+-- and so do maps whose values are numbers or messages, though their keys are of an enum
+map_of_numbers_kept : map file_without_maps (map_of (int32 (codes "value") 2)) ≡ map_of (int32 (codes "value") 2)
+map_of_numbers_kept = refl
+
+map_by_enum_kept :
+    map file_without_maps (entries_of true (coded code.Enum (Some (codes ".E")) (codes "key") 1) (int32 (codes "value") 2))
+    ≡ entries_of true (coded code.Enum (Some (codes ".E")) (codes "key") 1) (int32 (codes "value") 2)
+map_by_enum_kept = refl
+
+-- a message that is no entry stays as it is
+message_of_enum_kept : map file_without_maps (entries_of false text_key enum_value) ≡ entries_of false text_key enum_value
+message_of_enum_kept = refl
