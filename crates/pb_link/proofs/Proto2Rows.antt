@@ -141,7 +141,7 @@ map_of_enum_listed = refl
 
 -- in a file of proto3 it stays a map
 abbrev of_three : List DeclaredFile → List DeclaredFile
-of_three = map (λ f. record f { is_proto2 = false })
+of_three = map {A = DeclaredFile} (λ f. record f { is_proto2 = false })
 
 map_of_three_kept : map file_without_maps (of_three (map_of enum_value)) ≡ of_three (map_of enum_value)
 map_of_three_kept = refl
