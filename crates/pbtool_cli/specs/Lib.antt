@@ -1,4 +1,5 @@
 pub mod Explained
+pub mod Inputs
 pub mod Misuse
 pub mod Running
 pub mod StandardFiles

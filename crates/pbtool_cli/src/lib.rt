@@ -58,6 +58,7 @@
 
 mod command_line;
 mod explaining;
+mod inputs;
 mod misuse;
 mod pages;
 mod standard_files;

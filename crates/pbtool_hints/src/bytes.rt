@@ -1,5 +1,6 @@
 //! Bytes that are refused, read again.
 
+use crate::lines::shown_name;
 use crate::sets::put_format;
 use crate::subject::{Subject, TypeOf};
 use pb_descr::descriptor_pool;
@@ -234,7 +235,7 @@ pub(crate) fn put_at(
         return;
     }
     let given = Given {
-        file,
+        file: shown_name(file),
         frame: part.frame,
         offset: part.offset,
         bytes: part.bytes.as_slice(),

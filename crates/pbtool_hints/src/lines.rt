@@ -20,6 +20,14 @@ pub(crate) fn put_line(lines: &mut MemOutput, before: &[u8], name: &[u8], after:
     put(lines, b"\n");
 }
 
+/// The name of a file. That of one in memory is the name of its argument, after a NUL.
+pub(crate) fn shown_name(file: &str) -> &str {
+    match file.strip_prefix("\0") {
+        Some(name) => name,
+        None => file,
+    }
+}
+
 /// Bytes as lines: each begins with two blanks, which are added where they are missing, and ends with a line feed. Where memory runs out, the last
 /// lines are missing.
 pub(crate) fn lines_of(alloc: Global, bytes: &[u8]) -> Vec<u8>

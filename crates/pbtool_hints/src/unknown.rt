@@ -1,6 +1,6 @@
 //! Message types that a set does not have.
 
-use crate::lines::{put, put_line};
+use crate::lines::{put, put_line, shown_name};
 use crate::near::is_near;
 use crate::question::{Question, last_part};
 use crate::subject::{SetAt, Subject};
@@ -93,7 +93,7 @@ fn put_count(pool: &Pool, set: SetAt<'_>, lines: &mut MemOutput) {
         _ => put_line(
             lines,
             b"  pbtool types ",
-            set.file.as_bytes(),
+            shown_name(set.file).as_bytes(),
             b" lists its message types",
         ),
     }

@@ -1,3 +1,4 @@
 pub mod BuiltIn
 pub mod Folders
 pub mod Overlay
+pub mod WithMemory

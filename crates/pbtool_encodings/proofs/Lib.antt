@@ -1,0 +1,2 @@
+-- for `hexadecimal::read_hexadecimal`: a text byte by byte
+pub mod HexadecimalLemmas
