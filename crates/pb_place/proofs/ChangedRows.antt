@@ -7,7 +7,7 @@ use Rattle.pb_value.specs.declared.body.MapKey.TheVariants as map_key
 use Rattle.pb_place.specs.declared.error.ChangeError.TheVariants.{Absent}
 use Rattle.pb_place.specs.declared.step.PlaceStep.TheVariants.{Field, Index, Key}
 use Rattle.pb_place.specs.Changed.{clear, drop_unknown, field_place, most_at, refusal, refusal_at}
-use Rattle.pb_place.specs.Removed.{remove_at}
+use Rattle.pb_value.specs.Change.{remove_at}
 use Rattle.pb_place.specs.Replaced.{with_at}
 
 -- the message itself, one in a field, in a list, in a map, and in a message in a list

@@ -10,11 +10,10 @@ use Rattle.pb_value.specs.Data.{Holding, one, list, map, Fields, no_fields, fiel
 use Rattle.pb_value.specs.Judge.{is_absence}
 use Rattle.pb_value.specs.Change.{gives_way, drop_some, stored_at, set_at, elements_of, pushed, entries_of, inserted}
 use Rattle.pb_value.specs.Dynamic.{Dynamic}
-use Rattle.pb_value.specs.WellFormed.{IsWellFormed}
 use Rattle.pb_value.proofs.ChangeLemmas.{by_order, fields_depth-put_field}
 use Rattle.pb_value.proofs.HeldLemmas.{datums_depth-joined}
-use Rattle.pb_place.proofs.Elements.{put_nth_depth, take_nth_depth}
-use Rattle.pb_place.proofs.Removed.{remove_at_depth}
+use Rattle.pb_value.proofs.Elements.{put_nth_depth, take_nth_depth}
+use Rattle.pb_value.proofs.Removed.{remove_at_depth}
 use Rattle.pb_place.specs.Changed.{Edit, set, clear, push, insert, remove, set_element, remove_element, drop_unknown, edited, brings}
 
 drop_depth : (n : ℕ) (fs : Fields) → fields_depth (drop_field n fs) ≤ fields_depth fs
@@ -95,10 +94,6 @@ changed_depth (body fs us) gs top h = omega arith
 
 bare_depth : (v : Message) → message_depth (body (fields_of v) []) ≤ max (message_depth v) 0
 bare_depth (body fs us) = omega arith
-
--- without its unknown records a message stays well formed
-pub bare_stays : (pool : Types) (m : ℕ) (v : Message) → IsWellFormed pool m v → IsWellFormed pool m (body (fields_of v) [])
-bare_stays pool m (body fs us) w = let deep = w.depth in record { parts = (w.parts.0, w.parts.1, w.parts.2, tt); depth = omega (arith, deep) }
 
 pub edited_depth : (e : Edit) (w : Dynamic) → message_depth (edited e w).body ≤ max (message_depth w.body) (brings e)
 edited_depth (set h n) w = changed_depth w.body _ (holding_depth h) (set_depth (message_fields w.pool w.kind) n h (fields_of w.body))

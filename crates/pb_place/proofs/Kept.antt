@@ -19,14 +19,13 @@ use Rattle.pb_value.specs.declared.body.Value.{Value, the_lemmas as value_lemmas
 use Rattle.pb_value.specs.declared.body.Value.TheVariants as value
 use Rattle.pb_value.specs.WellFormed.{CanStand, IsOfShape, IsDatum, AreDatums, AreEntries, KeysRise, IsBelow, IsHeld, AreFields, IsBody, IsWellFormed, RisesFrom, HasNoMember, HasOneMemberEach, oneof_at, key_of, datum_declared, datums_declared, holds_declared}
 use Rattle.pb_value.specs.Change.{with_fields}
-use Rattle.pb_value.proofs.ChangeLemmas.{by_order}
-use Rattle.pb_value.proofs.Options.{if_some, at_some}
+use Rattle.pb_value.proofs.InPlace.{fields_kept, RisesFrom-in_field, HasOneMemberEach-in_field, datums_kept, list_shape}
 use Rattle.pb_place.specs.declared.step.PlaceStep.{PlaceStep}
 use Rattle.pb_place.specs.declared.step.PlaceStep.TheVariants.{Field, Index, Key}
 use Rattle.pb_place.specs.At.{content_part, value_part, as_part, message_part, part_at, seen}
 use Rattle.pb_place.specs.Ask.{message_in}
 use Rattle.pb_place.specs.Changed.{target, levels_above}
-use Rattle.pb_place.specs.Edits.{dynamic}
+use Rattle.pb_value.specs.Edit.{dynamic}
 use Rattle.pb_place.specs.Replaced.{in_nth, in_entry, in_field, value_or, in_datum, in_message, in_list, in_map, replaced, with_at}
 
 -- WHERE NO MESSAGE IS
@@ -75,57 +74,6 @@ no_message o w e q = absurd (cc)
 
 -- FIELDS, LISTS AND MAPS WITH ONE PART CHANGED
 
-pub fields_kept :
-    (pool : Types) (all : List FieldView) (l n : ℕ) (change : Holding → Holding) (fs : Fields) → AreFields pool all fs → fields_depth fs ≤ l
-    → ((h : Holding) → get_field n fs ≡ Some h → CanStand pool all n h → holding_depth h ≤ l → CanStand pool all n (change h) × (holding_depth (change h) ≤ l))
-    → AreFields pool all (in_field change n fs) × (fields_depth (in_field change n fs) ≤ l)
-fields_kept pool all l n change no_fields w deep kept = (w, deep)
-fields_kept pool all l n change (field k g fs) w deep kept = told (nat_cmp n k) (ranks n k) (λ later. fields_kept pool all l n change fs w.1 (omega arith) later) kept
-  where
-    Kept : Option Holding → Type 0
-    Kept o = (h : Holding) → o ≡ Some h → CanStand pool all n h → holding_depth h ≤ l → CanStand pool all n (change h) × (holding_depth (change h) ≤ l)
-
-    told :
-        (o : Ordering) → MatchOrdering o (n < k) (n ≡ k) (k < n)
-        → (Kept (get_field n fs) → AreFields pool all (in_field change n fs) × (fields_depth (in_field change n fs) ≤ l))
-        → Kept (match_ordering o (get_field n fs) (Some g) (get_field n fs))
-        → AreFields pool all (match_ordering o (field k g (in_field change n fs)) (field k (change g) fs) (field k g (in_field change n fs)))
-        × (fields_depth (match_ordering o (field k g (in_field change n fs)) (field k (change g) fs) (field k g (in_field change n fs))) ≤ l)
-    told Less r later here = let more = later here in ((w.0, more.0), omega (arith, more.1))
-    told Equal r later here =
-        let now = here g refl (subst (λ (i : ℕ). CanStand pool all i g) (sym r) w.0) (omega arith) in
-        ((subst (λ (i : ℕ). CanStand pool all i (change g)) r now.0, w.1), omega (arith, now.1))
-    told Greater r later here = let more = later here in ((w.0, more.0), omega (arith, more.1))
-
-pub RisesFrom-in_field : (change : Holding → Holding) (low n : ℕ) (fs : Fields) → RisesFrom low fs → RisesFrom low (in_field change n fs)
-RisesFrom-in_field change low n no_fields w = tt
-RisesFrom-in_field change low n (field k g fs) w =
-    by_order (RisesFrom low) n k _ _ _ (λ _. (w.0, RisesFrom-in_field change (k + 1) n fs w.1)) (λ _. w) (λ _. (w.0, RisesFrom-in_field change (k + 1) n fs w.1))
-
-HasNoMember-in_field : (all : List FieldView) (o : ℕ) (change : Holding → Holding) (n : ℕ) (fs : Fields) → HasNoMember all o fs → HasNoMember all o (in_field change n fs)
-HasNoMember-in_field all o change n no_fields w = tt
-HasNoMember-in_field all o change n (field k g fs) w =
-    by_order (HasNoMember all o) n k _ _ _ (λ _. (w.0, HasNoMember-in_field all o change n fs w.1)) (λ _. w) (λ _. (w.0, HasNoMember-in_field all o change n fs w.1))
-
-pub HasOneMemberEach-in_field : (all : List FieldView) (change : Holding → Holding) (n : ℕ) (fs : Fields) → HasOneMemberEach all fs → HasOneMemberEach all (in_field change n fs)
-HasOneMemberEach-in_field all change n no_fields w = tt
-HasOneMemberEach-in_field all change n (field k g fs) w =
-    let later : HasOneMemberEach all (field k g (in_field change n fs)) = (
-      if_some (oneof_at all k) (λ (o : ℕ). HasNoMember all o (in_field change n fs))
-          (λ o e. HasNoMember-in_field all o change n fs (at_some (oneof_at all k) (λ (p : ℕ). HasNoMember all p fs) o w.0 e)),
-      HasOneMemberEach-in_field all change n fs w.1,
-    ) in
-    by_order (HasOneMemberEach all) n k _ _ _ (λ _. later) (λ _. w) (λ _. later)
-
-pub datums_kept :
-    (pool : Types) (k : Kind) (l i : ℕ) (change : Datum → Datum) (ds : Datums) → AreDatums pool k ds → datums_depth ds ≤ l
-    → ((d : Datum) → nth_datum ds i ≡ Some d → IsDatum pool k d → levels_of d ≤ l → IsDatum pool k (change d) × (levels_of (change d) ≤ l))
-    → AreDatums pool k (in_nth change i ds) × (datums_depth (in_nth change i ds) ≤ l)
-datums_kept pool k l i change no_datums w deep kept = (w, deep)
-datums_kept pool k l zero change (datum d ds) w deep kept = let now = kept d refl w.0 (omega arith) in ((now.0, w.1), omega (arith, now.1))
-datums_kept pool k l (suc i) change (datum d ds) w deep kept =
-    let more = datums_kept pool k l i change ds w.1 (omega arith) kept in ((w.0, more.0), omega (arith, more.1))
-
 entries_kept :
     (pool : Types) (key k : Kind) (l : ℕ) (x : Scalar) (change : Datum → Datum) (es : Entries) → AreEntries pool key k es → entries_depth es ≤ l
     → ((d : Datum) → get_entry x es ≡ Some d → IsDatum pool k d → suc (levels_in_entry d) ≤ l → IsDatum pool k (change d) × (suc (levels_in_entry (change d)) ≤ l))
@@ -171,17 +119,6 @@ message_shape (shape.List p) change (one (message v)) w = w
 message_shape (shape.Map k) change (one (message v)) w = w
 message_shape s change (list ds) w = w
 message_shape s change (map es) w = w
-
-pub list_shape : (s : Shape) (i : ℕ) (change : Datum → Datum) (h : Holding) → IsOfShape s h → IsOfShape s (in_list (in_nth change i) h)
-list_shape s i change (one d) w = w
-list_shape s i change (list no_datums) w = w
-list_shape shape.Implicit i change (list (datum d ds)) w = absurd w
-list_shape shape.Explicit i change (list (datum d ds)) w = absurd w
-list_shape (shape.OneofMember o) i change (list (datum d ds)) w = absurd w
-list_shape (shape.List p) zero change (list (datum d ds)) w = tt
-list_shape (shape.List p) (suc i) change (list (datum d ds)) w = tt
-list_shape (shape.Map k) i change (list (datum d ds)) w = absurd w
-list_shape s i change (map es) w = w
 
 map_shape : (s : Shape) (x : Scalar) (change : Datum → Datum) (h : Holding) → IsOfShape s h → IsOfShape s (in_map (in_entry change x) h)
 map_shape s x change (one d) w = w

@@ -12,9 +12,5 @@ pub mod Walks
 pub mod Ends
 -- for the whole message after a change
 pub mod Whole
--- for removals: an entry less of a map
-pub mod Removed
--- for elements: another one in a list, or one less
-pub mod Elements
 -- small cases of changes, worked out by the definitions
 mod ChangedRows

@@ -15,6 +15,7 @@ use Rattle.pb_value.specs.WellFormed.{IsWellFormed}
 use Rattle.pb_value.specs.declared.body.Content.{Content}
 use Rattle.pb_value.specs.declared.body.Content.TheVariants as content
 use Rattle.pb_value.proofs.Views.{content_view-Map}
+pub use Rattle.pb_value.proofs.InPlace.{fields_view-in_field, values_view-in_nth, nth_there, nth_past}
 use Rattle.pb_value.specs.declared.body.MapKey.{MapKey}
 use Rattle.pb_value.specs.declared.body.Value.{Value}
 use Rattle.pb_value.proofs.InnerLemmas.{only_part, at_part, under_part, field_part, same_key}
@@ -62,22 +63,6 @@ field_step pool m n v place rest s o split is found =
     ap (λ p. target p (content_part pool (Some m) (one (message v)))) (split ∙ ap (λ x. x ∷ rest) is)
     ∙ ap (λ x. option_and_then message_in (option_map seen (option_and_then (part_at rest) (option_map (content_part pool (type_named pool m n)) x)))) found
 
-pub fields_view-in_field :
-    (n : ℕ) (c w : Content) (fs : List (ℕ × Content)) (change : Holding → Holding) → lookup (is_at (nat_cmp n)) fs ≡ Some c → content_view w ≡ change (content_view c)
-    → fields_view (set_value (is_at (nat_cmp n)) fs w) ≡ in_field change n (fields_view fs)
-fields_view-in_field n c w [] change found wrote = absurd (cc)
-fields_view-in_field n c w (f ∷ fs) change found wrote = told (nat_cmp n f.0) (λ q. fields_view-in_field n c w fs change q wrote) found
-  where
-    told :
-        (o : Ordering) → (lookup (is_at (nat_cmp n)) fs ≡ Some c → fields_view (set_value (is_at (nat_cmp n)) fs w) ≡ in_field change n (fields_view fs))
-        → cond (is_eq o) (Some f.1) (lookup (is_at (nat_cmp n)) fs) ≡ Some c
-        → fields_view (cond (is_eq o) ((f.0, w) ∷ fs) (f ∷ set_value (is_at (nat_cmp n)) fs w))
-        ≡ match_ordering o (field f.0 (content_view f.1) (in_field change n (fields_view fs))) (field f.0 (change (content_view f.1)) (fields_view fs))
-        (field f.0 (content_view f.1) (in_field change n (fields_view fs)))
-    told Less later q = ap (field f.0 (content_view f.1)) (later q)
-    told Equal later q = let same : f.1 ≡ c = cc in ap (λ (h : Holding). field f.0 h (fields_view fs)) (wrote ∙ ap (λ (x : Content). change (content_view x)) (sym same))
-    told Greater later q = ap (field f.0 (content_view f.1)) (later q)
-
 -- what a field of a well-formed message holds
 pub parts_held :
     (pool : Types) (m n : ℕ) (v : Message) (h : Holding) → IsWellFormed pool m v → get_field n (fields_of v) ≡ Some h → HoldsParts pool (type_named pool m n) h
@@ -95,27 +80,10 @@ list_step pool t ds place rest s i o split is found =
     ap (λ p. target p (list_part pool t ds)) (split ∙ ap (λ x. x ∷ rest) is)
     ∙ ap (λ x. option_and_then message_in (option_map seen (option_and_then (part_at rest) (option_map (value_part pool t) x)))) found
 
-pub values_view-in_nth :
-    (i : ℕ) (vs : List Value) (x w : Value) (change : Datum → Datum) → i < length vs → x ≡ get_or vs i x → value_view w ≡ change (value_view x)
-    → values_view (slice_set vs i w) ≡ in_nth change i (values_view vs)
-values_view-in_nth i [] x w change l at wrote = absurd (omega (arith, l))
-values_view-in_nth zero (v ∷ vs) x w change l at wrote = rw (wrote, at)
-values_view-in_nth (suc i) (v ∷ vs) x w change l at wrote = rw (values_view-in_nth i vs x w change (omega (arith, l)) at wrote)
-
 pub values_view-same : (i : ℕ) (vs : List Value) (x w : Value) → x ≡ get_or vs i x → value_view w ≡ value_view x → values_view (slice_set vs i w) ≡ values_view vs
 values_view-same i [] x w at wrote = refl
 values_view-same zero (v ∷ vs) x w at wrote = rw (wrote, at)
 values_view-same (suc i) (v ∷ vs) x w at wrote = ap (datum (value_view v)) (values_view-same i vs x w at wrote)
-
-pub nth_there : (i : ℕ) (vs : List Value) (x : Value) → i < length vs → x ≡ get_or vs i x → nth_datum (values_view vs) i ≡ Some (value_view x)
-nth_there i [] x l at = absurd (omega (arith, l))
-nth_there zero (v ∷ vs) x l at = ap (λ (y : Value). Some (value_view y)) (sym at)
-nth_there (suc i) (v ∷ vs) x l at = nth_there i vs x (omega (arith, l)) at
-
-pub nth_past : (i : ℕ) (vs : List Value) → length vs ≤ i → nth_datum (values_view vs) i ≡ None
-nth_past i [] l = refl
-nth_past zero (v ∷ vs) l = absurd (omega (arith, l))
-nth_past (suc i) (v ∷ vs) l = nth_past i vs (omega (arith, l))
 
 -- MAPS
 

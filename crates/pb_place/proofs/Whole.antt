@@ -1,24 +1,27 @@
 -- From the way to a message, back to the whole message.
 use Rattle.std.proofs.Common.{◌≡◌, ◌≤◌, ◌-◌, ℕ, List, [], Option, Some, None, option_map, IsSomeAnd, arith, refl, sym, ap, ◌∙◌, subst, Result, Ok, Err, IfOk, OnErr}
-use Rattle.std.specs.Prelude.{Bool, true, false, nat_le}
+use Rattle.std.specs.Prelude.{Bool, true, false, nat_le, suc, ◌&&◌}
 use Rattle.std.proofs.lemmas.Bool.Decides.{nat_tests}
 use Rattle.std.proofs.lemmas.Result.{on_err_weaker}
 use Rattle.pb_schema.specs.Types.{Types, FieldView, message_fields, field_numbered}
-use Rattle.pb_value.specs.Data.{message, Holding, one, Message, holding_depth}
+use Rattle.pb_schema.specs.Scalar.{Scalar}
+use Rattle.pb_value.specs.Data.{Datum, message, Holding, one, Message, holding_depth, levels_of, levels_in_entry}
 use Rattle.pb_value.specs.Dynamic.{Dynamic}
-use Rattle.pb_value.specs.Cause.{or_else, unless, at_field, content_cause, held_cause}
-use Rattle.pb_value.specs.Change.{set_cause}
+use Rattle.pb_value.specs.Cause.{or_else, unless, at_field, content_cause, datum_cause, held_cause}
+use Rattle.pb_value.specs.Change.{set_cause, push_cause, element_cause, is_list, insert_cause, is_map}
+use Rattle.pb_value.specs.Judge.{is_key_of, is_value_of}
 use Rattle.pb_value.specs.View.{value_view}
 use Rattle.pb_value.specs.WellFormed.{IsWellFormed}
 use Rattle.pb_value.specs.declared.body.Value.{Value}
 use Rattle.pb_value.specs.declared.error.ValueError.{ValueError}
-use Rattle.pb_value.specs.declared.error.ValueError.TheVariants.{TooDeep}
+use Rattle.pb_value.specs.declared.error.ValueError.TheVariants.{TooDeep, WrongKind, WrongShape}
 use Rattle.pb_place.specs.declared.error.ChangeError.{ChangeError}
 use Rattle.pb_place.specs.declared.error.ChangeError.TheVariants.{Refused}
 use Rattle.pb_place.specs.declared.step.PlaceStep.{PlaceStep}
 use Rattle.pb_place.specs.At.{message_part}
 use Rattle.pb_place.specs.Changed.{Edit, set, clear, push, insert, remove, set_element, remove_element, drop_unknown, edited, edit_cause, brings, taken_out, target, levels_above, refusal, IsRefused, IsChangedAt}
-use Rattle.pb_place.specs.Edits.{dynamic, IsDone, IsWalked}
+use Rattle.pb_value.specs.Edit.{dynamic}
+use Rattle.pb_place.specs.Edits.{IsDone, IsWalked}
 use Rattle.pb_place.specs.Replaced.{message_or, replaced, with_at}
 use Rattle.pb_place.proofs.Deeper.{edited_depth}
 use Rattle.pb_place.proofs.Kept.{stays_well_formed}
@@ -108,12 +111,16 @@ whole_is drop_unknown v = refl
 pub changed_whole : (e : Edit) (p : List PlaceStep) (v new : Dynamic) → p ≡ [] → new ≡ edited e v → IsChangedAt p e v new
 changed_whole e p v new is made = subst (λ (q : List PlaceStep). IsChangedAt q e v new) (sym is) (made ∙ whole_is e v)
 
--- that a content nests too deep is among the causes why it cannot be set
+-- that what a change brings nests too deep is among the causes why the message refuses it
 absorbed : (a b u : Option ValueError) → or_else (or_else a (or_else b u)) u ≡ or_else a (or_else b u)
 absorbed (Some x) b u = refl
 absorbed None (Some x) u = refl
 absorbed None None (Some x) = refl
 absorbed None None None = refl
+
+absorbed_later : (a b c u : Option ValueError) → or_else (or_else a (or_else b (or_else c u))) u ≡ or_else a (or_else b (or_else c u))
+absorbed_later (Some x) b c u = refl
+absorbed_later None b c u = absorbed b c u
 
 pub set_alone : (pool : Types) (m n : ℕ) (h : Holding) → or_else (set_cause pool m n h) (unless (nat_le (holding_depth h) 100) TooDeep) ≡ set_cause pool m n h
 set_alone pool m n h = told (field_numbered n (message_fields pool m))
@@ -125,3 +132,43 @@ set_alone pool m n h = told (field_numbered n (message_fields pool m))
         ≡ at_field o (λ f. or_else (content_cause f.shape f.kind h) (or_else (held_cause pool f.shape f.kind h) (unless (nat_le (holding_depth h) 100) TooDeep)))
     told None = refl
     told (Some f) = absorbed (content_cause f.shape f.kind h) (held_cause pool f.shape f.kind h) (unless (nat_le (holding_depth h) 100) TooDeep)
+
+push_alone : (pool : Types) (m n : ℕ) (d : Datum) → or_else (push_cause pool m n d) (unless (nat_le (levels_of d) 100) TooDeep) ≡ push_cause pool m n d
+push_alone pool m n d = at (field_numbered n (message_fields pool m))
+  where
+    cause : FieldView → Option ValueError
+    cause f =
+        or_else (unless (is_value_of f.kind d) WrongKind) (or_else (unless (is_list f.shape) WrongShape)
+        (or_else (element_cause pool f.kind d) (unless (nat_le (levels_of d) 100) TooDeep)))
+
+    at : (o : Option FieldView) → or_else (at_field o cause) (unless (nat_le (levels_of d) 100) TooDeep) ≡ at_field o cause
+    at None = refl
+    at (Some f) =
+        absorbed_later (unless (is_value_of f.kind d) WrongKind) (unless (is_list f.shape) WrongShape) (element_cause pool f.kind d)
+        (unless (nat_le (levels_of d) 100) TooDeep)
+
+insert_alone :
+    (pool : Types) (m n : ℕ) (x : Scalar) (d : Datum)
+    → or_else (insert_cause pool m n x d) (unless (nat_le (suc (levels_in_entry d)) 100) TooDeep) ≡ insert_cause pool m n x d
+insert_alone pool m n x d = at (field_numbered n (message_fields pool m))
+  where
+    cause : FieldView → Option ValueError
+    cause f =
+        or_else (unless (is_key_of f.shape x && is_value_of f.kind d) WrongKind) (or_else (unless (is_map f.shape) WrongShape)
+        (or_else (datum_cause pool f.kind d) (unless (nat_le (suc (levels_in_entry d)) 100) TooDeep)))
+
+    at : (o : Option FieldView) → or_else (at_field o cause) (unless (nat_le (suc (levels_in_entry d)) 100) TooDeep) ≡ at_field o cause
+    at None = refl
+    at (Some f) =
+        absorbed_later (unless (is_key_of f.shape x && is_value_of f.kind d) WrongKind) (unless (is_map f.shape) WrongShape) (datum_cause pool f.kind d)
+        (unless (nat_le (suc (levels_in_entry d)) 100) TooDeep)
+
+pub edit_alone : (e : Edit) (pool : Types) (m : ℕ) → or_else (edit_cause e pool m) (unless (nat_le (brings e) 100) TooDeep) ≡ edit_cause e pool m
+edit_alone (set h n) pool m = set_alone pool m n h
+edit_alone (clear n) pool m = refl
+edit_alone (push d n) pool m = push_alone pool m n d
+edit_alone (insert x d n) pool m = insert_alone pool m n x d
+edit_alone (remove x n) pool m = refl
+edit_alone (set_element i d n) pool m = push_alone pool m n d
+edit_alone (remove_element i n) pool m = refl
+edit_alone drop_unknown pool m = refl

@@ -1,14 +1,10 @@
 -- What a change at a place makes of a message, and why it is refused.
 use Rattle.std.specs.Prelude.{◌≡◌, ◌⊎◌, ◌-◌, ℕ, suc, List, [], ◌∷◌, nat_le, Option, Some, None, option_map, option_and_then, IsSomeAnd}
 use Rattle.std.specs.Prelude.{Result, MatchResult}
-use Rattle.pb_schema.specs.Types.{Types, message_fields}
-use Rattle.pb_schema.specs.Scalar.{Scalar}
-use Rattle.pb_value.specs.Data.{Datum, Holding, body, fields_of, get_field, drop_field, holding_depth, levels_of, levels_in_entry}
-use Rattle.pb_value.specs.Dynamic.{Dynamic, with_changed}
-use Rattle.pb_value.specs.Change.{set_at, set_cause, push_at, push_cause, insert_at, entry_at, insert_cause}
-use Rattle.pb_value.specs.Inner.{datum_at, datum_under}
+use Rattle.pb_value.specs.Data.{Datum}
+use Rattle.pb_value.specs.Dynamic.{Dynamic}
+pub use Rattle.pb_value.specs.Edit.{Edit, set, clear, push, insert, remove, set_element, remove_element, drop_unknown, edited, edit_cause, brings, taken_out}
 use Rattle.pb_value.specs.Cause.{or_else, unless}
-use Rattle.pb_value.specs.declared.error.ValueError.{ValueError}
 use Rattle.pb_value.specs.declared.error.ValueError.TheVariants.{Memory, TooDeep}
 use Rattle.pb_place.specs.declared.error.ChangeError.{ChangeError}
 use Rattle.pb_place.specs.declared.error.ChangeError.TheVariants.{Absent, Refused}
@@ -16,65 +12,7 @@ use Rattle.pb_place.specs.declared.step.PlaceStep.{PlaceStep}
 use Rattle.pb_place.specs.declared.step.PlaceStep.TheVariants.{Field, Index, Key}
 use Rattle.pb_place.specs.At.{Part, message_part, part_at, Seen, seen, at}
 use Rattle.pb_place.specs.Ask.{message_in}
-use Rattle.pb_place.specs.Element.{put_nth, take_nth}
-use Rattle.pb_place.specs.Removed.{remove_at}
 use Rattle.pb_place.specs.Replaced.{with_at}
-
--- A change of one message: of the field of a number, or of its unknown records.
-pub data Edit : Type 0 where
-  set : Holding → ℕ → Edit
-  clear : ℕ → Edit
-  push : Datum → ℕ → Edit
-  insert : Scalar → Datum → ℕ → Edit
-  remove : Scalar → ℕ → Edit
-  set_element : ℕ → Datum → ℕ → Edit
-  remove_element : ℕ → ℕ → Edit
-  drop_unknown : Edit
-
--- the message with the change made: what `DynamicMessage` makes of it, or without an entry of a map, or with another element in a list or one less,
--- or without its unknown records
-abbrev pub edited : Edit → Dynamic → Dynamic
-edited (set h n) v = with_changed v (set_at (message_fields v.pool v.kind) n h)
-edited (clear n) v = with_changed v (drop_field n)
-edited (push d n) v = with_changed v (push_at n d)
-edited (insert x d n) v = with_changed v (insert_at n x d)
-edited (remove x n) v = with_changed v (remove_at n x)
-edited (set_element i d n) v = with_changed v (put_nth n i d)
-edited (remove_element i n) v = with_changed v (take_nth n i)
-edited drop_unknown v = record v { body = body (fields_of v.body) [] }
-
--- why `DynamicMessage` refuses it, for a message of a type; another element as `push` does
-abbrev pub edit_cause : Edit → Types → ℕ → Option ValueError
-edit_cause (set h n) pool m = set_cause pool m n h
-edit_cause (clear n) pool m = None
-edit_cause (push d n) pool m = push_cause pool m n d
-edit_cause (insert x d n) pool m = insert_cause pool m n x d
-edit_cause (remove x n) pool m = None
-edit_cause (set_element i d n) pool m = push_cause pool m n d
-edit_cause (remove_element i n) pool m = None
-edit_cause drop_unknown pool m = None
-
--- how deep what it brings nests below the message
-abbrev pub brings : Edit → ℕ
-brings (set h n) = holding_depth h
-brings (clear n) = 0
-brings (push d n) = levels_of d
-brings (insert x d n) = suc (levels_in_entry d)
-brings (remove x n) = 0
-brings (set_element i d n) = levels_of d
-brings (remove_element i n) = 0
-brings drop_unknown = 0
-
--- what it takes out of the message
-abbrev pub taken_out : Edit → Dynamic → Option Datum
-taken_out (set h n) v = None
-taken_out (clear n) v = None
-taken_out (push d n) v = None
-taken_out (insert x d n) v = entry_at n x (fields_of v.body)
-taken_out (remove x n) v = option_and_then (datum_under x) (get_field n (fields_of v.body))
-taken_out (set_element i d n) v = option_and_then (datum_at i) (get_field n (fields_of v.body))
-taken_out (remove_element i n) v = option_and_then (datum_at i) (get_field n (fields_of v.body))
-taken_out drop_unknown v = None
 
 -- the message that a part has at a place
 abbrev pub target : List PlaceStep → Part → Option Dynamic

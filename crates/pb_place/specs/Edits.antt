@@ -1,4 +1,4 @@
--- What the code's changes mean, and what holds on the way to the message.
+-- What holds on the way to the message that is changed.
 use Rattle.std.specs.Prelude.{◌≡◌, ℕ, List, Option, Some, IsSomeAnd, option_map, Result}
 use Rattle.std.specs.Result.{IfOk, OnErr}
 use Rattle.pb_schema.specs.Types.{Types}
@@ -6,30 +6,14 @@ use Rattle.pb_schema.specs.Scalar.{Scalar}
 use Rattle.pb_value.specs.Data.{Datum, Message, Holding, one, list, map, get_entry}
 use Rattle.pb_value.specs.Dynamic.{Dynamic}
 use Rattle.pb_value.specs.Inner.{nth_datum, IsPart}
-use Rattle.pb_value.specs.View.{content_view, key_view, value_view}
+use Rattle.pb_value.specs.View.{value_view}
 use Rattle.pb_value.specs.WellFormed.{IsWellFormed}
 use Rattle.pb_value.specs.declared.body.Value.{Value}
-use Rattle.pb_place.specs.declared.change.Change.{Change}
-use Rattle.pb_place.specs.declared.change.Change.TheVariants as change
 use Rattle.pb_place.specs.declared.error.ChangeError.{ChangeError}
 use Rattle.pb_place.specs.declared.step.PlaceStep.{PlaceStep}
 use Rattle.pb_place.specs.At.{content_part}
-use Rattle.pb_place.specs.Changed.{Edit, set, clear, push, insert, remove, set_element, remove_element, drop_unknown, edited, taken_out, target, refusal, IsRefused}
+use Rattle.pb_place.specs.Changed.{Edit, edited, taken_out, target, refusal, IsRefused}
 use Rattle.pb_place.specs.Replaced.{replaced}
-
-abbrev pub edit_of : Change → Edit
-edit_of (change.Set n c) = set (content_view c) n
-edit_of (change.Clear n) = clear n
-edit_of (change.Push n v) = push (value_view v) n
-edit_of (change.Insert n k v) = insert (key_view k) (value_view v) n
-edit_of (change.Remove n k) = remove (key_view k) n
-edit_of (change.SetElement n i v) = set_element i (value_view v) n
-edit_of (change.RemoveElement n i) = remove_element i n
-edit_of change.DropUnknown = drop_unknown
-
--- the message of a type with this body
-abbrev pub dynamic : Types → ℕ → Message → Dynamic
-dynamic pool m b = record { pool = pool; kind = m; body = b }
 
 -- The change of a message is made: its body is put where it says, is well formed, and this is what was taken out.
 abbrev pub IsDone : Edit → Option Dynamic → (Message → Type 0) → Option Datum → Type 0

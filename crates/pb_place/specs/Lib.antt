@@ -2,8 +2,6 @@ pub mod At
 pub mod Found
 pub mod Ask
 pub mod Replaced
-pub mod Removed
-pub mod Element
 pub mod Changed
 pub mod Edits
 pub mod ErrorName

@@ -5,25 +5,15 @@ use Rattle.pb_schema.specs.Scalar.{Scalar}
 use Rattle.pb_value.specs.Data.{Datum, scalar, message, Datums, no_datums, datum, Entries, no_entries, entry, is_same_key}
 use Rattle.pb_value.specs.Data.{Holding, one, list, map, Fields, no_fields, field, Message, fields_of}
 use Rattle.pb_value.specs.Change.{with_fields}
+pub use Rattle.pb_value.specs.Change.{in_nth, in_field, in_list, in_map}
 use Rattle.pb_value.specs.View.{key_view}
 use Rattle.pb_place.specs.declared.step.PlaceStep.{PlaceStep}
 use Rattle.pb_place.specs.declared.step.PlaceStep.TheVariants.{Field, Index, Key}
-
--- a list with the value at an index changed
-abbrev pub in_nth : (Datum → Datum) → ℕ → Datums → Datums
-in_nth change i no_datums = no_datums
-in_nth change zero (datum d ds) = datum (change d) ds
-in_nth change (suc i) (datum d ds) = datum d (in_nth change i ds)
 
 -- a map with the value under a key changed
 abbrev pub in_entry : (Datum → Datum) → Scalar → Entries → Entries
 in_entry change x no_entries = no_entries
 in_entry change x (entry y d es) = if is_same_key x y then entry y (change d) es else entry y d (in_entry change x es)
-
--- fields with what the field of a number holds changed
-abbrev pub in_field : (Holding → Holding) → ℕ → Fields → Fields
-in_field change n no_fields = no_fields
-in_field change n (field k h fs) = match_ordering (nat_cmp n k) (field k h (in_field change n fs)) (field k (change h) fs) (field k h (in_field change n fs))
 
 -- the value of a content that is one, or else this
 abbrev pub value_or : Datum → Holding → Datum
@@ -41,16 +31,6 @@ in_message change (one (message v)) = one (message (change v))
 in_message change (one (scalar x)) = one (scalar x)
 in_message change (list ds) = list ds
 in_message change (map es) = map es
-
-abbrev pub in_list : (Datums → Datums) → Holding → Holding
-in_list change (one d) = one d
-in_list change (list ds) = list (change ds)
-in_list change (map es) = map es
-
-abbrev pub in_map : (Entries → Entries) → Holding → Holding
-in_map change (one d) = one d
-in_map change (list ds) = list ds
-in_map change (map es) = map (change es)
 
 -- what a field holds, with the message at a place in it replaced by another
 abbrev pub replaced : List PlaceStep → Message → Holding → Holding

@@ -1,22 +1,22 @@
 //! Changes of the message at a place.
 
 ghost use Rattle.std.specs.Prelude.{◌≡◌, IfOk, OnOk, OnErr, Some, option_and_then, option_map};
+ghost use Rattle.pb_value.specs.Data.{one};
 ghost use Rattle.pb_value.specs.View.{content_view, key_view, value_view};
 ghost use Rattle.pb_place.specs.At.{message_part};
 ghost use Rattle.pb_place.specs.Changed.{set, clear, push, insert, remove, set_element, remove_element, drop_unknown};
 ghost use Rattle.pb_place.specs.Changed.{element_place, element_refusal, index_place, taken_element};
 ghost use Rattle.pb_place.specs.Changed.{field_place, most_at, refusal, refusal_at, target, taken_at, taken_out};
 ghost use Rattle.pb_place.specs.Changed.{IsChangedAt, IsElementChanged, IsFieldChanged, IsRefused, edited};
-ghost use Rattle.pb_place.specs.Edits.{edit_of};
+ghost use Rattle.pb_value.specs.Edit.{edit_of};
 
 use crate::asking::is_set;
-use crate::change::Change;
 use crate::error::ChangeError;
 use crate::pending::Pending;
 use crate::step::PlaceStep;
 use crate::walk::{Walk, into_well_formed};
 use pb_value::bodies::{MAX_LEVELS, from_well_formed};
-use pb_value::{Content, DynamicMessage, MapKey, Value};
+use pb_value::{Change, Content, DynamicMessage, MapKey, Value};
 use std::mem;
 
 /// How many levels may be added below the message at a place.
@@ -32,8 +32,22 @@ fn most_at(place: &[PlaceStep]) -> u8
     left
 }
 
-/// Makes a change in the message at a place, below which at most this many levels may be added.
-fn change_inside(
+/// Makes a change in a message itself.
+fn change_whole(
+    message: &mut DynamicMessage<'_>,
+    change: Change,
+) -> Result<Option<Value>, ChangeError>
+    ensures ok { OnOk result (message.new ≡ edited (edit_of change) message.old) }
+    ensures out { IfOk result (λ v. option_map value_view v
+        ≡ taken_out (edit_of change) message.old) }
+    ensures err { OnErr result (message.new ≡ message.old) }
+    ensures judged { IsRefused result (refusal 100 (edit_of change) (Some message.old)) }
+{
+    Ok(message.change(change)?)
+}
+
+/// Makes a change that is on its way to the message at a place, below which at most this many levels may be added.
+fn walk_to(
     message: &mut DynamicMessage<'_>,
     place: &[PlaceStep],
     most: u8,
@@ -60,27 +74,46 @@ fn change_inside(
     answer
 }
 
-/// Makes a change in the message at a place.
-pub(crate) fn change_at(
+/// Makes a change in a message inside another, which is at a place in it.
+#[inline(never)]
+fn change_inside(
     message: &mut DynamicMessage<'_>,
     place: &[PlaceStep],
-    pending: &mut Pending,
-) -> Result<(), ChangeError>
-    ensures ok { OnOk result (IsChangedAt place.now (edit_of pending.old.change) message.old
-        message.new) }
-    ensures out { OnOk result (Some (option_map value_view pending.new.taken)
-        ≡ option_map (taken_out (edit_of pending.old.change))
-        (target place.now (message_part message.old))) }
+    change: Change,
+) -> Result<Option<Value>, ChangeError>
+    ensures ok { OnOk result (IsChangedAt place.now (edit_of change) message.old message.new) }
+    ensures out { IfOk result (λ v. Some (option_map value_view v)
+        ≡ option_map (taken_out (edit_of change)) (target place.now (message_part message.old))) }
     ensures err { OnErr result (message.new ≡ message.old) }
     ensures judged { IsRefused result
-        (refusal (most_at place.now) (edit_of pending.old.change)
-        (target place.now (message_part message.old))) }
+        (refusal (most_at place.now) (edit_of change) (target place.now (message_part message.old))) }
 {
-    let most = most_at(place);
+    let mut pending = Pending::of(change);
+    walk_to(message, place, most_at(place), &mut pending)?;
+    Ok(pending.taken)
+}
+
+/// Makes a change in the message at a place, and returns the value that it takes out.
+///
+/// That message is changed as by [`DynamicMessage::change`], and nothing else. The call is refused if the message is not there, or else
+/// if it refuses the change, and last if the whole message would nest more than 100 levels deep. A refused call changes nothing.
+pub fn change_at(
+    message: &mut DynamicMessage<'_>,
+    place: &[PlaceStep],
+    change: Change,
+) -> Result<Option<Value>, ChangeError>
+    ensures ok { OnOk result (IsChangedAt place.now (edit_of change) message.old message.new) }
+    ensures out { IfOk result (λ v. Some (option_map value_view v)
+        ≡ option_map (taken_out (edit_of change)) (target place.now (message_part message.old))) }
+    ensures err { OnErr result (message.new ≡ message.old) }
+    ensures judged { IsRefused result
+        (refusal (most_at place.now) (edit_of change) (target place.now (message_part message.old))) }
+{
     if place.is_empty() {
-        return pending.make_within(message, most);
+        change_whole(message, change)
+    } else {
+        change_inside(message, place, change)
     }
-    change_inside(message, place, most, pending)
 }
 
 /// The place of the message and the number of the field that a place ends at.
@@ -158,8 +191,59 @@ pub fn set_at(
     if parent.is_empty() {
         return set_field(message, number, content);
     }
-    let mut pending = Pending::of(Change::Set(number, content));
-    change_at(message, parent, &mut pending)
+    change_at(message, parent, Change::Set(number, content))?;
+    Ok(())
+}
+
+/// Sets the field of a number of a message to one value.
+fn set_value(message: &mut DynamicMessage<'_>, number: u32, value: Value) -> Result<(), ChangeError>
+    ensures ok { OnOk result (message.new ≡ edited
+        (set (one (value_view value)) number) message.old) }
+    ensures err { OnErr result (message.new ≡ message.old) }
+    ensures judged { IsRefused result
+        (refusal 100 (set (one (value_view value)) number) (Some message.old)) }
+{
+    Ok(message.set_value(number, value)?)
+}
+
+/// Sets a field of a message inside another to one value.
+#[inline(never)]
+fn set_value_inside(
+    message: &mut DynamicMessage<'_>,
+    parent: &[PlaceStep],
+    number: u32,
+    value: Value,
+) -> Result<(), ChangeError>
+    ensures ok { OnOk result (IsChangedAt parent.now (set (one (value_view value)) number)
+        message.old message.new) }
+    ensures err { OnErr result (message.new ≡ message.old) }
+    ensures judged { IsRefused result
+        (refusal (most_at parent.now) (set (one (value_view value)) number)
+        (target parent.now (message_part message.old))) }
+{
+    change_inside(message, parent, Change::Set(number, Content::One(value)))?;
+    Ok(())
+}
+
+/// Sets the field that a place ends at to one value, as [`set_at`] does.
+pub fn set_value_at(
+    message: &mut DynamicMessage<'_>,
+    place: &[PlaceStep],
+    value: Value,
+) -> Result<(), ChangeError>
+    ensures ok { OnOk result (IsFieldChanged place.now
+        (set (one (value_view value))) message.old message.new) }
+    ensures err { OnErr result (message.new ≡ message.old) }
+    ensures judged { IsRefused result
+        (refusal_at place.now (set (one (value_view value))) message.old) }
+{
+    let Some((parent, number)) = field_at_end(place) else {
+        return Err(ChangeError::Absent);
+    };
+    if parent.is_empty() {
+        return set_value(message, number, value);
+    }
+    set_value_inside(message, parent, number, value)
 }
 
 /// Clears the field that a place ends at, in the message that the steps before it lead to.
@@ -173,8 +257,8 @@ pub fn clear_at(message: &mut DynamicMessage<'_>, place: &[PlaceStep]) -> Result
     let Some((parent, number)) = field_at_end(place) else {
         return Err(ChangeError::Absent);
     };
-    let mut pending = Pending::of(Change::Clear(number));
-    change_at(message, parent, &mut pending)
+    change_at(message, parent, Change::Clear(number))?;
+    Ok(())
 }
 
 /// Puts a value at the end of the list at a place that ends at a field, in the message that the steps before it lead to.
@@ -193,8 +277,8 @@ pub fn push_at(
     let Some((parent, number)) = field_at_end(place) else {
         return Err(ChangeError::Absent);
     };
-    let mut pending = Pending::of(Change::Push(number, value));
-    change_at(message, parent, &mut pending)
+    change_at(message, parent, Change::Push(number, value))?;
+    Ok(())
 }
 
 /// Puts a value under a key of the map at a place that ends at a field, in the message that the steps before it lead to. The answer is
@@ -218,9 +302,7 @@ pub fn insert_at(
     let Some((parent, number)) = field_at_end(place) else {
         return Err(ChangeError::Absent);
     };
-    let mut pending = Pending::of(Change::Insert(number, key, value));
-    change_at(message, parent, &mut pending)?;
-    Ok(pending.taken)
+    change_at(message, parent, Change::Insert(number, key, value))
 }
 
 /// Removes the entry of a key from the map at a place that ends at a field, in the message that the steps before it lead to. The answer is
@@ -242,9 +324,7 @@ pub fn remove_at(
     let Some((parent, number)) = field_at_end(place) else {
         return Err(ChangeError::Absent);
     };
-    let mut pending = Pending::of(Change::Remove(number, key));
-    change_at(message, parent, &mut pending)?;
-    Ok(pending.taken)
+    change_at(message, parent, Change::Remove(number, key))
 }
 
 /// Puts a value in place of the element of a list that a place ends at. The answer is the value that was there.
@@ -267,9 +347,7 @@ pub fn set_element_at(
     let Some(((parent, number), index)) = element_at_end(message, place) else {
         return Err(ChangeError::Absent);
     };
-    let mut pending = Pending::of(Change::SetElement(number, index, value));
-    change_at(message, parent, &mut pending)?;
-    Ok(pending.taken)
+    change_at(message, parent, Change::SetElement(number, index, value))
 }
 
 /// Removes the element of a list that a place ends at, and the elements after it move up. The answer is the value that was there. A list without
@@ -289,9 +367,7 @@ pub fn remove_element_at(
     let Some(((parent, number), index)) = element_at_end(message, place) else {
         return Err(ChangeError::Absent);
     };
-    let mut pending = Pending::of(Change::RemoveElement(number, index));
-    change_at(message, parent, &mut pending)?;
-    Ok(pending.taken)
+    change_at(message, parent, Change::RemoveElement(number, index))
 }
 
 /// Drops the unknown records of the message at a place, and changes nothing else. The call is refused where no message is at the place.
@@ -304,6 +380,6 @@ pub fn drop_unknown_at(
     ensures judged { IsRefused result
         (refusal (most_at place.now) drop_unknown (target place.now (message_part message.old))) }
 {
-    let mut pending = Pending::of(Change::DropUnknown);
-    change_at(message, place, &mut pending)
+    change_at(message, place, Change::DropUnknown)?;
+    Ok(())
 }

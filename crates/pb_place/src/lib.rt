@@ -5,13 +5,10 @@
 #![tactic(auto)]
 
 mod asking;
-mod change;
 mod changing;
-mod element;
 mod error;
 mod pending;
 mod reading;
-mod removing;
 mod step;
 mod walk;
 
@@ -19,8 +16,8 @@ pub use asking::{
     is_set, key_at, len_at, message_at, numbers_at, scalar_at, unknown_at, which_oneof_at,
 };
 pub use changing::{
-    clear_at, drop_unknown_at, insert_at, push_at, remove_at, remove_element_at, set_at,
-    set_element_at,
+    change_at, clear_at, drop_unknown_at, insert_at, push_at, remove_at, remove_element_at, set_at,
+    set_element_at, set_value_at,
 };
 pub use error::ChangeError;
 pub use reading::{Found, at};

@@ -1,21 +1,20 @@
 //! The way to the message at a place, and its change there.
 
-ghost use Rattle.std.specs.Prelude.{◌≡◌, ◌<◌, [], length, Some, IfSome, option_map};
+ghost use Rattle.std.specs.Prelude.{◌≡◌, ◌<◌, length, Some, IfSome, option_map};
 ghost use Rattle.pb_value.specs.Data.{list, map, message, one};
 ghost use Rattle.pb_value.specs.Inner.{type_named, IsPart};
 ghost use Rattle.pb_value.specs.View.{body_view, content_view, entries_view, value_view, values_view};
 ghost use Rattle.pb_value.specs.WellFormed.{IsWellFormed};
-ghost use Rattle.pb_place.specs.Edits.{edit_of, HoldsParts, IsWalked};
+ghost use Rattle.pb_value.specs.Edit.{edit_of};
+ghost use Rattle.pb_place.specs.Edits.{HoldsParts, IsWalked};
 
 use crate::error::ChangeError;
 use crate::pending::Pending;
 use crate::step::PlaceStep;
 use pb_schema::{MessageId, Pool};
-use pb_value::bodies::{empty_body, from_well_formed};
 use pb_value::{Body, Content, DynamicMessage, MapKey, Value};
 use std::alloc::Global;
 use std::collections::BTreeMap;
-use std::mem;
 
 /// What stays the same on the way to a message.
 #[derive(Drop)]
@@ -45,26 +44,6 @@ pub(crate) fn into_well_formed(message: DynamicMessage<'_>) -> Body
 }
 
 impl Walk<'_> {
-    /// Makes a change in a message itself.
-    fn change_here(
-        &self,
-        message_type: MessageId,
-        body: &mut Body,
-        pending: &mut Pending,
-    ) -> Result<(), ChangeError>
-        requires within { message_type.0 < length self.now.pool.now.messages }
-        requires well_formed { IsWellFormed self.now.pool.now message_type.0 (body_view body.old) }
-        ensures { IsWalked self.now.pool.now self.now.most (Some message_type.0) []
-            (edit_of pending.old.change) (one (message (body_view body.old)))
-            (one (message (body_view body.new))) result pending.new.taken }
-    {
-        let held = mem::replace(body, empty_body(self.alloc));
-        let mut message = from_well_formed(self.alloc, self.pool, message_type, held);
-        let answer = pending.make_within(&mut message, self.most);
-        *body = into_well_formed(message);
-        answer
-    }
-
     /// Makes a change in the message at a place in a message.
     #[cycle(change)]
     pub(crate) fn change_in(
@@ -81,7 +60,7 @@ impl Walk<'_> {
             (one (message (body_view body.new))) result pending.new.taken }
     {
         let Some((step, rest)) = place.split_first() else {
-            return self.change_here(message_type, body, pending);
+            return pending.make_within(self.alloc, self.pool, message_type, body, self.most);
         };
         let PlaceStep::Field(number) = step else {
             return Err(ChangeError::Absent);

@@ -15,7 +15,8 @@ use Rattle.pb_place.specs.declared.step.PlaceStep.{PlaceStep}
 use Rattle.pb_place.specs.declared.step.PlaceStep.TheVariants.{Field, Index, Key}
 use Rattle.pb_place.specs.At.{content_part}
 use Rattle.pb_place.specs.Changed.{target}
-use Rattle.pb_place.specs.Edits.{edit_of, HoldsParts}
+use Rattle.pb_value.specs.Edit.{edit_of}
+use Rattle.pb_place.specs.Edits.{HoldsParts}
 use Rattle.pb_place.specs.Replaced.{value_or, replaced}
 use Rattle.pb_place.proofs.Kept.{value_absent, untyped_absent}
 use Rattle.pb_place.proofs.Walks.{map_walked, not_there, walked_on, field_step, fields_view-in_field, parts_held, list_step, values_view-in_nth, values_view-same, nth_there, nth_past, map_step, entries_view-in_entry, entries_view-same}
