@@ -90,11 +90,11 @@ pub(crate) fn tell_unmade<F: Files, E: Output>(
     ensures same { explains ≡ false → files.new ≡ files.old }
 {
     if !explains {
-        return unmade.tell(err);
+        return unmade.report(err);
     }
     match unmade {
         Unmade::Uncompiled { command, refusal } => { report(alloc, command, refusal, files, err) }
-        Unmade::Unread(_) | Unmade::Undecoded { .. } => unmade.tell(err),
+        Unmade::Unread(_) | Unmade::Undecoded { .. } => unmade.report(err),
     }
 }
 

@@ -45,7 +45,7 @@ impl Unmade<'_> {
     }
 
     /// Writes the line, and answers the exit status. A failure to write it is not reported.
-    pub fn tell<E: Output>(&self, err: &mut E) -> u8
+    pub fn report<E: Output>(&self, err: &mut E) -> u8
         ensures status { result ≡ unmade_status self.now }
         ensures line { SentOrCut E.written E.failures err.old err.new (unmade_line self.now) }
     {
