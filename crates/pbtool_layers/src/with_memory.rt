@@ -28,7 +28,6 @@ impl<F: Files + Drop> WithMemory<F> {
         ensures contents { ⟦<WithMemory<F> as Files>⟧.contents result
             ≡ beside (F.contents files) (Some (map_of [])) }
         ensures steady { ⟦<WithMemory<F> as Files>⟧.is_steady result ≡ F.is_steady files }
-        ensures failures { ⟦<WithMemory<F> as Files>⟧.failures result ≡ F.failures files }
     {
         let memory = MemFiles::new(
             alloc,
