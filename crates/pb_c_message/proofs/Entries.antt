@@ -1,5 +1,5 @@
 -- Places that end at a key, and places that do not.
-use Rattle.std.proofs.Common.{◌≡◌, List, [], ◌∷◌, ◌++◌, Option, Some, None, option_map, refl, ap, ◌∙◌}
+use Rattle.std.proofs.Common.{◌≡◌, List, [], ◌∷◌, ◌++◌, Option, Some, None, option_map, refl, ap}
 use Rattle.pb_schema.specs.Scalar.{Scalar}
 use Rattle.pb_value.specs.View.{key_view}
 use Rattle.pb_value.specs.declared.body.MapKey.{MapKey}

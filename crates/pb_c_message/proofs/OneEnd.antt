@@ -1,7 +1,7 @@
 -- A change that C says ends in one way: what it makes of a message is a function of what the steps say.
 use Rattle.std.proofs.Common.{◌≡◌, ◌-◌, ℕ, List, [], ◌∷◌, map, Option, Some, None, option_map, option_and_then, refl, sym, ap, ◌∙◌, inl, inr, subst, Result, Ok, Err}
 use Rattle.std.proofs.Math.Path.{fun_ext}
-use Rattle.std.specs.Prelude.{suc, IsSomeAnd}
+use Rattle.std.specs.Prelude.{◌⊎◌, suc, IsSomeAnd}
 use Rattle.pb_schema.specs.Scalar.{Scalar}
 use Rattle.pb_value.specs.Data.{Datum, Holding, one, message, Message, fields_of, get_field, get_entry}
 use Rattle.pb_value.specs.Change.{with_fields}
@@ -21,14 +21,14 @@ use Rattle.pb_place.specs.declared.step.PlaceStep.TheVariants as place_step
 use Rattle.pb_c_message.specs.declared.value.PlainValue.{PlainValue}
 use Rattle.pb_c_message.specs.Places.{Bytes, Step, field, index, key, step_view, places}
 use Rattle.pb_c_message.specs.NewValue.{value_said}
-use Rattle.pb_c_message.specs.Ends.{Outcome, made, unmade, Ends, FieldEnds, ElementEnds, ByIndex, EntryRemoved, OrElse, Says, OnPlace}
-use Rattle.pb_c_message.specs.Ends.{entry_place, put_ends, ends_at, ends, IsEnded}
+use Rattle.pb_c_message.specs.Ends.{Outcome, made, unmade, Ends, FieldEnds, ElementEnds, ByIndex, EntryRemoved, OrElse}
+use Rattle.pb_c_message.specs.Ends.{entry_place, put_ends, ends_at, ends, memory, IsEnded}
 use Rattle.pb_c_message.specs.declared.changing.PlainChange.{PlainChange}
 use Rattle.pb_c_message.specs.declared.changing.Put.{Put}
 use Rattle.pb_c_message.specs.declared.changing.Put.TheVariants.{Set, Push, Insert}
 use Rattle.pb_c_message.specs.declared.changing.PlainChange.TheVariants as change
 use Rattle.pb_c_message.specs.declared.unchanged.Unchanged.{Unchanged}
-use Rattle.pb_c_message.specs.declared.unchanged.Unchanged.TheVariants.{BadPlace, BadValue, Refused}
+use Rattle.pb_c_message.specs.declared.unchanged.Unchanged.TheVariants.{BadValue, Refused}
 
 -- WHERE STEPS LEAD
 
@@ -452,3 +452,16 @@ module _ (given : List Bytes) (v w : Dynamic) where
 pub ended_type : {T : Type 0} (given : List Bytes) (p : List PlaceStep) (c : PlainChange) (v new : Dynamic) (r : Result T Unchanged) → IsEnded (ends_at given c v p) v new r → SameType v new
 ended_type given p c v new (Ok x) is = type_at given v new c p is
 ended_type given p c v new (Err u) is = (ap (λ d. d.pool) is.0, ap (λ d. d.kind) is.0)
+
+-- what is set of the message itself, is set at the place of the one step
+pub own_ended :
+    (given : List Bytes) (place : List PlainValue) (n : ℕ) (x : PlainValue) (v new : Dynamic) (r : Result Unit Unchanged) → places given place ≡ Some (field n ∷ [])
+    → IsEnded (OrElse BadValue (value_said given x) (put_ends Set v (place_step.Field n ∷ []))) v new r → IsEnded (ends given place (change.Put Set x) v) v new r
+own_ended given place n x v new (Ok u) says h = inr (place_step.Field n ∷ [], says, h)
+own_ended given place n x v new (Err e) says h = (h.0, either h.1)
+  where
+    either :
+        (e ≡ memory) ⊎ OrElse BadValue (value_said given x) (put_ends Set v (place_step.Field n ∷ [])) (unmade e)
+        → (e ≡ memory) ⊎ ends given place (change.Put Set x) v (unmade e)
+    either (inl q) = inl q
+    either (inr w) = inr (inr (place_step.Field n ∷ [], says, w))

@@ -1,7 +1,7 @@
 -- Values as C says them: a kind and a number, with strings and bytes in a list beside them.
-use Rattle.std.specs.Prelude.{ℕ, List, Option, Some, ◌==◌, ◌||◌, if◌then◌else◌, option_map}
+use Rattle.std.specs.Prelude.{List, Option, Some, ◌==◌, ◌||◌, if◌then◌else◌, option_map}
 use Rattle.std.specs.List.{slice_get}
-use Rattle.pb_schema.specs.Scalar.{Scalar, float, double, enum, bytes}
+use Rattle.pb_schema.specs.Scalar.{float, double, enum, bytes}
 use Rattle.pb_value.specs.Data.{Datum, scalar, message, empty}
 use Rattle.pb_c_message.specs.declared.value.PlainValue.{PlainValue}
 use Rattle.pb_c_message.specs.Places.{Bytes, int32_said, uint32_said, key_said}

@@ -1,20 +1,23 @@
 //! Changes of a message at a place that C says.
 
-ghost use Rattle.std.specs.Prelude.{◌≡◌, None, Some, is_some, map, option_map, MatchResult};
+ghost use Rattle.std.specs.Prelude.{◌≡◌, [], ◌∷◌, List, None, Some, IfSome, is_some, map, option_map, MatchResult};
 ghost use Rattle.pb_value.specs.Data.{one};
 ghost use Rattle.pb_value.specs.View.{key_view, value_view};
 ghost use Rattle.pb_place.specs.At.{message_part};
 ghost use Rattle.pb_place.specs.Changed.{set, clear, push, insert, remove, set_element, remove_element, drop_unknown};
 ghost use Rattle.pb_place.specs.Changed.{index_place, most_at, target, refusal, IsChangedAt};
 ghost use Rattle.pb_place.specs.declared.error.ChangeError.TheVariants.{Absent};
-ghost use Rattle.pb_c_message.specs.Places.{places};
+ghost use Rattle.pb_place.specs.declared.step.PlaceStep.TheVariants.{Field};
+ghost use Rattle.pb_c_message.specs.Places.{Bytes, field, places};
 ghost use Rattle.pb_c_message.specs.Steps.{steps_held};
 ghost use Rattle.pb_c_message.specs.NewValue.{value_said};
 ghost use Rattle.pb_c_message.specs.Ends.{Ends, FieldEnds, ElementEnds, ByIndex, EntryRemoved, OrElse, Says};
 ghost use Rattle.pb_c_message.specs.Ends.{entry_place, put_ends, ends_at, ends, IsEnded, IsFor};
+ghost use Rattle.pb_c_message.specs.declared.changing.PlainChange.TheVariants as plain;
 ghost use Rattle.pb_c_message.specs.declared.changing.Put.TheVariants as put;
 ghost use Rattle.pb_c_message.specs.declared.unchanged.Unchanged.TheVariants.{BadPlace, BadValue, Refused};
 
+use crate::finding::field_said;
 use crate::miss::Miss;
 use crate::new_value::value_of;
 use crate::place::place_of;
@@ -23,10 +26,11 @@ use crate::unchanged::Unchanged;
 use crate::value::PlainValue;
 use pb_place::{
     ChangeError, PlaceStep, clear_at, drop_unknown_at, insert_at, push_at, remove_at,
-    remove_element_at, set_at, set_element_at,
+    remove_element_at, set_element_at, set_value_at,
 };
-use pb_value::{Content, DynamicMessage, MapKey, Value};
+use pb_value::{DynamicMessage, MapKey, Value};
 use std::alloc::Global;
+use std::slice;
 
 /// How a value is put at a place.
 #[derive(Clone, Copy, Debug, PartialEq, Eq)]
@@ -110,7 +114,7 @@ fn set_field(
     ensures { IsEnded (FieldEnds place.now (set (one (value_view value))) message.old) message.old
         message.new result }
 {
-    match set_at(message, place, Content::One(value)) {
+    match set_value_at(message, place, value) {
         Ok(()) => Ok(()),
         Err(cause) => Err(Unchanged::Refused(cause)),
     }
@@ -223,35 +227,37 @@ fn drop_unknown(message: &mut DynamicMessage<'_>, place: &[PlaceStep]) -> Result
 }
 
 /// Puts a value under the key that a place ends at.
+#[inline(never)]
 fn insert_at_end(
     message: &mut DynamicMessage<'_>,
-    place: Steps,
+    place: &mut Steps,
     value: Value,
 ) -> Result<(), Unchanged>
-    ensures { IsEnded (OrElse (Refused Absent) (entry_place (steps_held place))
+    ensures { IsEnded (OrElse (Refused Absent) (entry_place (steps_held place.old))
         (λ q. FieldEnds q.0 (insert q.1 (value_view value)) message.old)) message.old message.new
         result }
 {
-    match key_at_end(message.alloc(), place) {
+    match key_at_end(message.alloc(), place.take(message.alloc())) {
         Some((parent, key)) => insert(message, parent.as_slice(), key, value),
         None => Err(Unchanged::Refused(ChangeError::Absent)),
     }
 }
 
 /// Removes the entry of the key that a place ends at.
-fn remove_entry(message: &mut DynamicMessage<'_>, place: Steps) -> Result<(), Unchanged>
-    ensures { IsEnded (EntryRemoved (steps_held place) message.old) message.old message.new result }
+fn remove_entry(message: &mut DynamicMessage<'_>, place: &mut Steps) -> Result<(), Unchanged>
+    ensures { IsEnded (EntryRemoved (steps_held place.old) message.old) message.old message.new result }
 {
-    match key_at_end(message.alloc(), place) {
+    match key_at_end(message.alloc(), place.take(message.alloc())) {
         Some((parent, key)) => remove(message, parent.as_slice(), key),
         None => Err(Unchanged::Refused(ChangeError::Absent)),
     }
 }
 
 /// Removes the element or the entry that a place ends at.
-fn remove_at_end(message: &mut DynamicMessage<'_>, place: Steps) -> Result<(), Unchanged>
-    ensures { IsEnded (ByIndex (index_place (steps_held place))
-        (ElementEnds (steps_held place) remove_element message.old) (EntryRemoved (steps_held place) message.old))
+fn remove_at_end(message: &mut DynamicMessage<'_>, place: &mut Steps) -> Result<(), Unchanged>
+    ensures { IsEnded (ByIndex (index_place (steps_held place.old))
+        (ElementEnds (steps_held place.old) remove_element message.old)
+        (EntryRemoved (steps_held place.old) message.old))
         message.old message.new result }
 {
     if ends_at_index(place.as_slice()) {
@@ -264,12 +270,12 @@ fn remove_at_end(message: &mut DynamicMessage<'_>, place: Steps) -> Result<(), U
 /// Makes a change that brings a value.
 fn put_value(
     message: &mut DynamicMessage<'_>,
-    place: Steps,
+    place: &mut Steps,
     how: Put,
     value: Value,
 ) -> Result<(), Unchanged>
-    ensures { IsEnded (put_ends how message.old (steps_held place) (value_view value)) message.old
-        message.new result }
+    ensures { IsEnded (put_ends how message.old (steps_held place.old) (value_view value))
+        message.old message.new result }
 {
     match how {
         Put::Set => set(message, place.as_slice(), value),
@@ -282,13 +288,13 @@ fn put_value(
 fn put_said(
     alloc: Global,
     message: &mut DynamicMessage<'_>,
-    place: Steps,
+    place: &mut Steps,
     given: &[&[u8]],
     how: Put,
     value: PlainValue,
 ) -> Result<(), Unchanged>
     ensures { IsEnded (OrElse BadValue (value_said given.now value)
-        (put_ends how message.old (steps_held place))) message.old message.new result }
+        (put_ends how message.old (steps_held place.old))) message.old message.new result }
 {
     match said(alloc, value, given) {
         Ok(value) => put_value(message, place, how, value),
@@ -300,18 +306,72 @@ fn put_said(
 fn change_at(
     alloc: Global,
     message: &mut DynamicMessage<'_>,
-    place: Steps,
+    place: &mut Steps,
     given: &[&[u8]],
     change: PlainChange,
 ) -> Result<(), Unchanged>
-    ensures { IsEnded (ends_at given.now change message.old (steps_held place)) message.old message.new
-        result }
+    ensures { IsEnded (ends_at given.now change message.old (steps_held place.old)) message.old
+        message.new result }
 {
     match change {
         PlainChange::Put(how, value) => put_said(alloc, message, place, given, how, value),
         PlainChange::Clear => clear(message, place.as_slice()),
         PlainChange::Remove => remove_at_end(message, place),
         PlainChange::DropUnknown => drop_unknown(message, place.as_slice()),
+    }
+}
+
+/// The number of the field and its new value, if a change sets a field of the message itself.
+#[inline(always)]
+fn own_field(place: &[PlainValue], change: PlainChange) -> Option<(u32, PlainValue)>
+    ensures at { IfSome result (λ q. (given : List Bytes)
+        → places given place.now ≡ Some (field q.0 ∷ [])) }
+    ensures set { IfSome result (λ q. change ≡ plain.Put put.Set q.1) }
+{
+    let [step] = place else {
+        return None;
+    };
+    let PlainChange::Put(Put::Set, value) = change else {
+        return None;
+    };
+    let number = field_said(*step)?;
+    Some((number, value))
+}
+
+/// Sets a field of the message itself to a value that C says.
+fn set_own(
+    alloc: Global,
+    message: &mut DynamicMessage<'_>,
+    number: u32,
+    given: &[&[u8]],
+    value: PlainValue,
+) -> Result<(), Unchanged>
+    ensures { IsEnded (OrElse BadValue (value_said given.now value)
+        (put_ends put.Set message.old (Field number ∷ []))) message.old message.new result }
+{
+    let step = PlaceStep::Field(number);
+    match said(alloc, value, given) {
+        Ok(value) => set_field(message, slice::from_ref(&step), value),
+        Err(unchanged) => Err(unchanged),
+    }
+}
+
+/// Makes a change at the place that the steps say.
+fn change_there(
+    alloc: Global,
+    message: &mut DynamicMessage<'_>,
+    place: &[PlainValue],
+    given: &[&[u8]],
+    change: PlainChange,
+) -> Result<(), Unchanged>
+    ensures ended { IsEnded (ends given.now place.now change message.old) message.old message.new
+        result }
+    ensures same_type { (message.new.pool ≡ message.old.pool)
+        × (message.new.kind ≡ message.old.kind) }
+{
+    match steps_of(alloc, place, given) {
+        Ok(mut steps) => change_at(alloc, message, &mut steps, given, change),
+        Err(unchanged) => Err(unchanged),
     }
 }
 
@@ -330,8 +390,8 @@ pub fn change(
     ensures same_type { (message.new.pool ≡ message.old.pool)
         × (message.new.kind ≡ message.old.kind) }
 {
-    match steps_of(alloc, place, given) {
-        Ok(steps) => change_at(alloc, message, steps, given, change),
-        Err(unchanged) => Err(unchanged),
+    match own_field(place, change) {
+        Some((number, value)) => set_own(alloc, message, number, given, value),
+        None => change_there(alloc, message, place, given, change),
     }
 }

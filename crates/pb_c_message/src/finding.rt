@@ -19,7 +19,7 @@ use pb_wire::Limits;
 use std::alloc::Global;
 
 /// The number of the field that a step is.
-fn field_said(step: PlainValue) -> Option<u32>
+pub(crate) fn field_said(step: PlainValue) -> Option<u32>
     ensures { IfSome result (λ n. (keys : List Bytes) → said keys step ≡ Some (field n)) }
 {
     if step.kind == FIELD {

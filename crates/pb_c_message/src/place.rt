@@ -120,6 +120,7 @@ pub fn key_of(alloc: Global, kind: u32, number: u64, keys: &[&[u8]]) -> Result<M
 }
 
 /// The step that a kind and a number say.
+#[inline(always)]
 fn step_of(alloc: Global, step: PlainValue, keys: &[&[u8]]) -> Result<PlaceStep, Miss>
     ensures { MatchResult result (λ p. said keys.now step ≡ Some (step_view p))
         (IsUnsaid (said keys.now step ≡ None)) }

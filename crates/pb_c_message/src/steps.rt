@@ -5,7 +5,7 @@ ghost use Rattle.pb_c_message.specs.Steps.{steps_held};
 
 use pb_place::PlaceStep;
 use std::alloc::Global;
-use std::slice;
+use std::{mem, slice};
 
 /// The steps of a place. One or two, as to a field of the message itself or of a message in it, take no memory.
 #[derive(Drop)]
@@ -26,6 +26,13 @@ impl Steps {
             Steps::Two(steps) => steps,
             Steps::Several(steps) => steps,
         }
+    }
+
+    /// Takes the steps out, and leaves some others.
+    pub(crate) fn take(&mut self, alloc: Global) -> Steps
+        ensures { steps_held result ≡ steps_held self.old }
+    {
+        mem::replace(self, Steps::Several(Vec::new(alloc)))
     }
 
     /// The last step, and those before it.

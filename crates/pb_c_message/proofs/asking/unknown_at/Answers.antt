@@ -1,4 +1,4 @@
-use Rattle.std.proofs.Common.{◌≡◌, Some, None, refl, option_and_then}
+use Rattle.std.proofs.Common.{Some, None, refl}
 use Rattle.pb_wire.specs.Spell.{shortest_records}
 use Rattle.pb_wire.specs.Unknown.{records_of}
 use Rattle.pb_place.specs.At.{at}

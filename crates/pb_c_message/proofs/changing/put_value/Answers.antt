@@ -9,5 +9,5 @@ use Rattle.pb_c_message.proofs.changing.put_value.Goals as goal
 pub returns-in-Set : goal.returns-in-Set
 returns-in-Set c =
     let old = c.args.message.now in let new = c.set.new.message in let value = value_view c.args.value in
-    subst (λ h. IsEnded (put_ends h old (steps_held c.args.place) value) old new c.set.result) (sym c.in-Set.is)
+    subst (λ h. IsEnded (put_ends h old (steps_held c.args.place.now) value) old new c.set.result) (sym c.in-Set.is)
     (subst (λ p. IsEnded (put_ends Set old p value) old new c.set.result) c.as_slice.ensures c.set.ensures)
