@@ -4,7 +4,7 @@
 
 use pb_wire::{Output, ReadInput, WriteOutput, write_all};
 use pbtool_cli::{Cleanup, HostFiles, Refusal, StandardFiles, run_then};
-use pbtool_layers::{Overlay, Progress, WithMemory, built_in_files, with_built_in};
+use pbtool_layers::{Overlay, Progress, built_in_files, with_built_in};
 use std::io::{ErrorKind, IsTerminal};
 use std::process::ExitCode;
 use std::{env, io};
@@ -22,8 +22,7 @@ fn main(rt: HostRuntime) -> ExitCode {
         return ExitCode::from(Refusal::Memory.tell(&mut err));
     };
     let counted = Progress::new(&rt, standard, wants_progress(&rt, &args));
-    let over = Overlay::new(counted, &built_in);
-    let mut files = WithMemory::new(rt.alloc(), over);
+    let mut files = Overlay::new(counted, &built_in);
     let mut out = WriteOutput::new(rt.stdout());
     let status = run_then(
         rt.alloc(),

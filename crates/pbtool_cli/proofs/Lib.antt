@@ -2,8 +2,6 @@
 pub mod ExplainedSteps
 -- for `pages::page`: what clap answers to `--help`
 pub mod HelpPages
--- for `command_line::do_command` and `make_inputs`: inputs that are made
-pub mod InputSteps
 -- for `command_line::run`: what the matches of clap name
 pub mod Matches
 -- for why a parse fails, which `run` reports

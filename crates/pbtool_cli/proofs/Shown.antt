@@ -12,7 +12,7 @@ use Rattle.clap.specs.declared.parser.matches.ArgMatches.TheViews.{out-ArgMatche
 use Rattle.clap.specs.declared.parser.matches.SubCommand.{SubCommand}
 use Rattle.pbtool_cli.specs.Misuse.{help_report, is_topic, no_command, report_of}
 use Rattle.pbtool_files.specs.FileMap.{FileMap}
-use Rattle.pbtool_cli.specs.Inputs.{DoesOver}
+use Rattle.pbtool_command.specs.declared.command.Command.{Command}
 use Rattle.pbtool_cli.specs.Running.{DoesNamed, Shows, version_line}
 use Rattle.pbtool_cli.specs.Words.{option_of}
 
@@ -77,10 +77,8 @@ pub reported_at :
 reported_at P s t same of = subst (λ (u : Option (Text × List Row)). IfSome (report_of u) P) same of
 
 pub named_done :
-    {F : Type 0} (contents : F → Option FileMap) (failures : F → ℕ) (is_steady : F → Bool) (old new : F) (Out Cut Told : List ℕ → Type 0)
-    (Saved : Option (List ℕ × List ℕ) → Type 0) (status : ℕ) (s t : Option (Text × List Row)) → s ≡ t
-    → (report_of s ≡ None → DoesNamed Out Cut Told Saved status (DoesOver contents failures is_steady old new Out Cut Told status s) s)
-    → report_of t ≡ None → DoesNamed Out Cut Told Saved status (DoesOver contents failures is_steady old new Out Cut Told status t) t
-named_done contents failures is_steady old new Out Cut Told Saved status s t same done none =
-    subst (λ (u : Option (Text × List Row)). DoesNamed Out Cut Told Saved status (DoesOver contents failures is_steady old new Out Cut Told status u) u) same
-    (done (ap report_of same ∙ none))
+    (Out Cut Told : List ℕ → Type 0) (Saved : Option (List ℕ × List ℕ) → Type 0) (Unsaved : List ℕ → Type 0) (status : ℕ) (IsMap : FileMap → Type 0)
+    (Explains : Command → Type 0) (s t : Option (Text × List Row)) → s ≡ t → (report_of s ≡ None → DoesNamed Out Cut Told Saved Unsaved status IsMap Explains s)
+    → report_of t ≡ None → DoesNamed Out Cut Told Saved Unsaved status IsMap Explains t
+named_done Out Cut Told Saved Unsaved status IsMap Explains s t same done none =
+    subst (λ (u : Option (Text × List Row)). DoesNamed Out Cut Told Saved Unsaved status IsMap Explains u) same (done (ap report_of same ∙ none))

@@ -1,15 +1,10 @@
 -- A command that explains its refusals: it does what it does without, and lines follow the line of the refusal.
-use Rattle.std.specs.Prelude.{◌≡◌, ◌≢◌, ℕ, List, ◌++◌, Bool, true, false, Option}
+use Rattle.std.specs.Prelude.{◌≡◌, ◌≢◌, ℕ, List, ◌++◌, Option}
 use Rattle.pbtool_files.specs.FileMap.{FileMap, IsSaved, IsUnsaved}
 use Rattle.pbtool_files.specs.Report.{device_line}
 use Rattle.pbtool_hints.specs.Lines.{AreLines}
 use Rattle.pbtool_command.specs.Answers.{Does}
 use Rattle.pbtool_command.specs.declared.command.Command.{Command}
-
--- what is so of a command, by whether its words say that it explains its refusals
-abbrev pub DoesBy : Bool → Type 0 → Type 0 → Type 0
-DoesBy true plain explained = explained
-DoesBy false plain explained = plain
 
 -- a line went out, and after it lines for a person
 abbrev pub WithMore : (List ℕ → Type 0) → List ℕ → Type 0

@@ -1,5 +1,4 @@
 pub mod Explained
-pub mod Inputs
 pub mod Misuse
 pub mod Running
 pub mod StandardFiles

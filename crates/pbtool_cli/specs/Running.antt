@@ -1,11 +1,18 @@
 -- The answer of a run of the program, by its words.
-use Rattle.std.specs.Prelude.{◌≡◌, ◌≢◌, ◌⊎◌, ℕ, List, [], false, Option, None, IsSome, IsSomeAnd, codes}
+use Rattle.std.specs.Prelude.{◌≡◌, ◌≢◌, ◌⊎◌, ℕ, List, [], Bool, true, false, Option, None, IsSome, IsSomeAnd, codes}
 use Rattle.clap.specs.Words.{Row, Text, fault_of, subcommand_of, takes}
 use Rattle.pbtool_files.specs.Answer.{RunsOut}
 use Rattle.pbtool_files.specs.Report.{device_line, output_name}
+use Rattle.pbtool_command.specs.Answers.{Does}
+use Rattle.pbtool_files.specs.FileMap.{FileMap}
 use Rattle.pbtool_command.specs.declared.command.Command.{Command}
 use Rattle.pbtool_cli.specs.Misuse.{report_of}
-use Rattle.pbtool_cli.specs.Words.{IsMatched, tool}
+use Rattle.pbtool_cli.specs.Words.{IsMatched, is_explained, tool}
+
+-- what is so of a command, by whether its words say that it explains its refusals
+abbrev pub DoesBy : Bool → Type 0 → Type 0 → Type 0
+DoesBy true plain explained = explained
+DoesBy false plain explained = plain
 
 -- a text goes to standard output, whole, or in part where the output fails
 abbrev pub IsPrinted : (List ℕ → Type 0) → (List ℕ → Type 0) → (List ℕ → Type 0) → ℕ → List ℕ → Type 0
@@ -19,14 +26,16 @@ abbrev pub Shows : (List ℕ → Type 0) → Option (Text × List Row) → Type 
 Shows IsText matched =
     IsSomeAnd matched (λ m. ((m.0 ≡ codes "help") × ((page : List ℕ) × IsText page)) ⊎ ((m.0 ≡ codes "version") × IsText version_line))
 
--- What the words name is done, unless memory runs out before: a page or the version is printed, or a command is done, as Performs says of it.
+-- What the words name is done, unless memory runs out before: a page or the version is printed, or a command is done. Its end is described in pbtool_files'
+-- specs/Answer.antt; that of a command that explains its refusals in pbtool_command's specs/Explained.antt.
 abbrev pub DoesNamed :
-    (List ℕ → Type 0) → (List ℕ → Type 0) → (List ℕ → Type 0) → (Option (List ℕ × List ℕ) → Type 0) → ℕ → (Command → Type 0) → Option (Text × List Row)
-    → Type 0
-DoesNamed Out Cut Line Saved status Performs matched =
+    (List ℕ → Type 0) → (List ℕ → Type 0) → (List ℕ → Type 0) → (Option (List ℕ × List ℕ) → Type 0) → (List ℕ → Type 0) → ℕ
+    → (FileMap → Type 0) → (Command → Type 0) → Option (Text × List Row) → Type 0
+DoesNamed Out Cut Line Saved Unsaved status IsMap Explains matched =
     RunsOut Out Line Saved status
     ⊎ ((Saved None × Shows (IsPrinted Out Cut Line status) matched)
-    ⊎ ((command : Command) × IsMatched matched command × Performs command))
+    ⊎ ((command : Command) × IsMatched matched command
+    × DoesBy (is_explained matched) (Does Out Cut Line Saved Unsaved status IsMap command) (Explains command)))
 
 -- The words are refused: nothing goes to standard output, no file is written, and the status is 2, unless memory runs out before.
 abbrev pub RefusesWords : (List ℕ → Type 0) → (List ℕ → Type 0) → (Option (List ℕ × List ℕ) → Type 0) → ℕ → Type 0

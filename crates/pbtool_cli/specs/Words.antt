@@ -1,7 +1,6 @@
 -- The command line, and the commands that its words name.
-use Rattle.std.specs.Prelude.{◌≡◌, ◌==◌, List, [], ◌∷◌, Bool, true, false, Option, Some, codes, unwrap_or, string_bytes, map, option_map, IsSomeAnd}
-use Rattle.std.specs.Prelude.{None, drop, is_some, if◌then◌else◌}
-use Rattle.std.specs.List.{ends_with}
+use Rattle.std.specs.Prelude.{◌≡◌, List, [], ◌∷◌, Bool, true, false, Option, Some, codes, unwrap_or, string_bytes, map, option_map, IsSomeAnd}
+use Rattle.std.specs.Prelude.{drop, is_some, if◌then◌else◌}
 use Rattle.std.specs.Str.{bytes_eq}
 use Rattle.std.specs.Option.{option_map_or}
 use Rattle.std.specs.declared.string.String.{String}
@@ -33,8 +32,6 @@ use Rattle.pb_text.specs.declared.form.TextForm.{TextForm}
 use Rattle.pb_text.specs.declared.form.Layout.TheVariants.{Lines, OneLine}
 use Rattle.pb_text.specs.declared.form.Characters.TheVariants.{Escaped}
 use Rattle.pb_text.specs.declared.form.UnknownRecords.TheVariants.{ByNumber}
-use Rattle.pbtool_encodings.specs.declared.encoding.Encoding.{Encoding}
-use Rattle.pbtool_encodings.specs.declared.encoding.Encoding.TheVariants.{Base64, Hexadecimal}
 use Rattle.pbtool_files.specs.declared.set_file.Reading.{Reading}
 use Rattle.pbtool_files.specs.declared.set_file.Reading.TheVariants.{Lenient, Strict}
 
@@ -51,68 +48,50 @@ nested_rule = record (new_rule (codes "nested")) { long = Some (codes "nested");
 abbrev pub explain_rule : Rule
 explain_rule = record (new_rule (codes "explain")) { long = Some (codes "explain"); action = Some SetTrue }
 
-abbrev pub hex_rule : Rule
-hex_rule = record (new_rule (codes "hex")) { long = Some (codes "hex"); action = Some SetTrue }
-
-abbrev pub base64_rule : Rule
-base64_rule = record (new_rule (codes "base64")) { long = Some (codes "base64"); action = Some SetTrue }
-
--- with `[--hex] [--base64]`
-abbrev pub of_encodings : App → App
-of_encodings a = with_rule (with_rule a hex_rule) base64_rule
-
--- `raw [--short] [--nested] [--hex] [--base64] [--explain] FILE`
+-- `raw [--short] [--nested] [--explain] FILE`
 abbrev pub raw_command : App
 raw_command =
-    with_rule (with_rule (of_encodings (with_rule (with_rule (new_app (codes "raw")) short_rule) nested_rule)) explain_rule) (wanted (codes "FILE"))
+    with_rule (with_rule (with_rule (with_rule (new_app (codes "raw")) short_rule) nested_rule) explain_rule) (wanted (codes "FILE"))
 
 abbrev pub lenient_rule : Rule
 lenient_rule = record (new_rule (codes "lenient")) { long = Some (codes "lenient"); action = Some SetTrue }
 
--- `-I DIR`, or `--proto_path=DIR`, any number of times
-abbrev pub directory_rule : Rule
-directory_rule = record (new_rule (codes "DIR")) { short = Some 73; long = Some (codes "proto_path"); action = Some Append }
-
--- with `[--explain] [--lenient] [-I DIR].. SET TYPE FILE`
+-- with `[--explain] [--lenient] SET TYPE FILE`
 abbrev pub of_source : App → App
 of_source a =
-    with_rule (with_rule (with_rule (with_rule (with_rule (with_rule a explain_rule) lenient_rule) directory_rule) (wanted (codes "SET")))
-    (wanted (codes "TYPE"))) (wanted (codes "FILE"))
-
--- with `[--hex] [--base64] [--explain] [--lenient] [-I DIR].. SET TYPE FILE`
-abbrev pub of_message : App → App
-of_message a = of_source (of_encodings a)
+    with_rule (with_rule (with_rule (with_rule (with_rule a explain_rule) lenient_rule) (wanted (codes "SET"))) (wanted (codes "TYPE")))
+    (wanted (codes "FILE"))
 
 abbrev pub check_command : App
-check_command = of_message (new_app (codes "check"))
+check_command = of_source (new_app (codes "check"))
 
 abbrev pub decimal_rule : Rule
 decimal_rule = record (new_rule (codes "decimal")) { short = Some 100; long = Some (codes "decimal"); action = Some SetTrue }
 
--- `show [-d] [--hex] [--base64] [--explain] [--lenient] [-I DIR].. SET TYPE FILE`
+-- `show [-d] [--explain] [--lenient] SET TYPE FILE`
 abbrev pub show_command : App
-show_command = of_message (with_rule (new_app (codes "show")) decimal_rule)
+show_command = of_source (with_rule (new_app (codes "show")) decimal_rule)
 
 abbrev pub out_rule : Rule
 out_rule = record (new_rule (codes "out")) { long = Some (codes "out"); action = Some Set }
 
--- `canon [--out OUT] [--hex] [--base64] [--explain] [--lenient] [-I DIR].. SET TYPE FILE`
+-- `canon [--out OUT] [--explain] [--lenient] SET TYPE FILE`
 abbrev pub canon_command : App
-canon_command = of_message (with_rule (new_app (codes "canon")) out_rule)
+canon_command = of_source (with_rule (new_app (codes "canon")) out_rule)
 
 abbrev pub pretty_rule : Rule
 pretty_rule = record (new_rule (codes "pretty")) { long = Some (codes "pretty"); action = Some SetTrue }
 
--- `json [--pretty] [--hex] [--base64] [--explain] [--lenient] [-I DIR].. SET TYPE FILE`
+-- `json [--pretty] [--explain] [--lenient] SET TYPE FILE`
 abbrev pub json_command : App
-json_command = of_message (with_rule (new_app (codes "json")) pretty_rule)
+json_command = of_source (with_rule (new_app (codes "json")) pretty_rule)
 
 abbrev pub single_line_rule : Rule
 single_line_rule = record (new_rule (codes "single-line")) { long = Some (codes "single-line"); action = Some SetTrue }
 
--- `text [--single-line] [--hex] [--base64] [--explain] [--lenient] [-I DIR].. SET TYPE FILE`
+-- `text [--single-line] [--explain] [--lenient] SET TYPE FILE`
 abbrev pub text_command : App
-text_command = of_message (with_rule (new_app (codes "text")) single_line_rule)
+text_command = of_source (with_rule (new_app (codes "text")) single_line_rule)
 
 abbrev pub keep_going_rule : Rule
 keep_going_rule = record (new_rule (codes "keep-going")) { long = Some (codes "keep-going"); action = Some SetTrue }
@@ -120,14 +99,17 @@ keep_going_rule = record (new_rule (codes "keep-going")) { long = Some (codes "k
 abbrev pub json_rule : Rule
 json_rule = record (new_rule (codes "json")) { long = Some (codes "json"); action = Some SetTrue }
 
--- `frames [-d] [--json] [--keep-going] [--hex] [--base64] [--explain] [--lenient] [-I DIR].. SET TYPE FILE`
+-- `frames [-d] [--json] [--keep-going] [--explain] [--lenient] SET TYPE FILE`
 abbrev pub frames_command : App
-frames_command = of_message (with_rule (with_rule (with_rule (new_app (codes "frames")) decimal_rule) json_rule) keep_going_rule)
+frames_command = of_source (with_rule (with_rule (with_rule (new_app (codes "frames")) decimal_rule) json_rule) keep_going_rule)
 
--- `types [--lenient] [-I DIR].. SET [NAME]`
+-- `types [--lenient] SET [NAME]`
 abbrev pub types_command : App
-types_command =
-    with_rule (with_rule (with_rule (with_rule (new_app (codes "types")) lenient_rule) directory_rule) (wanted (codes "SET"))) (new_rule (codes "NAME"))
+types_command = with_rule (with_rule (with_rule (new_app (codes "types")) lenient_rule) (wanted (codes "SET"))) (new_rule (codes "NAME"))
+
+-- `-I DIR`, any number of times
+abbrev pub directory_rule : Rule
+directory_rule = record (new_rule (codes "DIR")) { short = Some 73; action = Some Append }
 
 -- `-o OUT`, or `--descriptor_set_out OUT`
 abbrev pub output_rule : Rule
@@ -144,17 +126,16 @@ compile_command =
 abbrev pub both_rule : Rule
 both_rule = record (new_rule (codes "both")) { long = Some (codes "both"); action = Some SetTrue }
 
--- `compat [--lenient] [-I DIR].. [--both] OLD NEW [TYPE]`
+-- `compat [--lenient] [--both] OLD NEW [TYPE]`
 abbrev pub compat_command : App
 compat_command =
-    with_rule (with_rule (with_rule (with_rule (with_rule (with_rule (new_app (codes "compat")) lenient_rule) directory_rule) both_rule)
-    (wanted (codes "OLD"))) (wanted (codes "NEW")))
+    with_rule (with_rule (with_rule (with_rule (with_rule (new_app (codes "compat")) lenient_rule) both_rule) (wanted (codes "OLD"))) (wanted (codes "NEW")))
     (new_rule (codes "TYPE"))
 
 abbrev pub ignore_unknown_rule : Rule
 ignore_unknown_rule = record (new_rule (codes "ignore-unknown")) { long = Some (codes "ignore-unknown"); action = Some SetTrue }
 
--- `from-json [--ignore-unknown] [--explain] [--lenient] [-I DIR].. SET TYPE FILE OUT`
+-- `from-json [--ignore-unknown] [--explain] [--lenient] SET TYPE FILE OUT`
 abbrev pub from_json_command : App
 from_json_command = with_rule (of_source (with_rule (new_app (codes "from-json")) ignore_unknown_rule)) (wanted (codes "OUT"))
 
@@ -289,31 +270,10 @@ layout_of false = Compact
 abbrev pub text_form_of : Bool → TextForm
 text_form_of single = record { layout = if single then OneLine else Lines; characters = Escaped; unknown = ByNumber }
 
--- a word names a source
-abbrev pub is_set_source : Text → Bool
-is_set_source word = ends_with ◌==◌ word (codes ".proto")
-
--- the path of the file in memory that is made for an argument
-abbrev pub made_path : Text → Text
-made_path id = 0 ∷ id
-
--- the path of the set that is read for an argument: that of the set which is made of a source, or the word itself
-abbrev pub set_path : Text → List Row → Text
-set_path id rows = if is_set_source (value_of id rows) then made_path id else value_of id rows
-
--- how FILE has the bytes of the message, where it is not the message itself
-abbrev pub encoding_of : List Row → Option Encoding
-encoding_of rows = if flag_of (codes "hex") rows then Some Hexadecimal else if flag_of (codes "base64") rows then Some Base64 else None
-
--- the path of the message that is read
-abbrev pub message_path : List Row → Text
-message_path rows = if is_some (encoding_of rows) then made_path (codes "FILE") else value_of (codes "FILE") rows
-
 -- the values that name a message and its type
 abbrev pub IsSource : List Row → Source → Type 0
 IsSource rows s =
-    IsReading rows s.reading × (s.set.now ≡ set_path (codes "SET") rows) × (s.type_name.now ≡ value_of (codes "TYPE") rows)
-    × (s.file.now ≡ message_path rows)
+    IsReading rows s.reading × (s.set.now ≡ value_of (codes "SET") rows) × (s.type_name.now ≡ value_of (codes "TYPE") rows) × (s.file.now ≡ value_of (codes "FILE") rows)
 
 -- which readers are asked about, by whether the flag is given
 abbrev pub readers_of : Bool → Readers
@@ -323,7 +283,7 @@ readers_of false = New
 -- the values that name two sets and the type that is compared
 abbrev pub IsComparison : List Row → Comparison → Type 0
 IsComparison rows c =
-    IsReading rows c.reading × (c.old.now ≡ set_path (codes "OLD") rows) × (c.new.now ≡ set_path (codes "NEW") rows)
+    IsReading rows c.reading × (c.old.now ≡ value_of (codes "OLD") rows) × (c.new.now ≡ value_of (codes "NEW") rows)
     × (option_map (λ n. n.now) c.type_name ≡ option_of (codes "TYPE") rows) × (c.readers ≡ readers_of (flag_of (codes "both") rows))
 
 -- the values that name roots, and how sources under them are read
@@ -332,7 +292,7 @@ AreRoots rows r = IsReading rows r.reading × (r.root.now ≡ value_of (codes "R
 
 -- the command has this name, these flags and these values
 abbrev pub IsNamed : Text → List Row → Command → Type 0
-IsNamed name rows (Raw form file) = (name ≡ codes "raw") × IsRawForm rows form × (file.now ≡ message_path rows)
+IsNamed name rows (Raw form file) = (name ≡ codes "raw") × IsRawForm rows form × (file.now ≡ value_of (codes "FILE") rows)
 IsNamed name rows (Check source) = (name ≡ codes "check") × IsSource rows source
 IsNamed name rows (Show floats source) = (name ≡ codes "show") × AreFloats rows floats × IsSource rows source
 IsNamed name rows (Canon to source) =
@@ -346,7 +306,7 @@ IsNamed name rows (Frames form source) =
 IsNamed name rows (AllFrames form source) =
     (name ≡ codes "frames") × (flag_of (codes "keep-going") rows ≡ true) × IsFrameForm rows form × IsSource rows source
 IsNamed name rows (Types reading set type_name) =
-    (name ≡ codes "types") × IsReading rows reading × (set.now ≡ set_path (codes "SET") rows)
+    (name ≡ codes "types") × IsReading rows reading × (set.now ≡ value_of (codes "SET") rows)
     × (option_map (λ n. n.now) type_name ≡ option_of (codes "NAME") rows)
 IsNamed name rows (Compile roots out names) =
     (name ≡ codes "compile") × AreRoots rows roots × (out.now ≡ output_of rows) × (texts_of names.now ≡ sources_of rows)

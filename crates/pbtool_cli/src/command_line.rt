@@ -1,21 +1,19 @@
 //! From the words of the command line to the exit status.
 
-ghost use Rattle.std.specs.Prelude.{◌≡◌, ◌≢◌, ◌⊎◌, ℕ, List, [], codes, true, false, Any, IfErr, IfSome, IsSome, None, OnErr, OnOk, Some};
+ghost use Rattle.std.specs.Prelude.{◌≡◌, ◌≢◌, ◌⊎◌, ℕ, List, [], codes, true, false, Any, IfSome, IsSome, None, Some};
 ghost use Rattle.clap.specs.Words.{fault_of, found_of, is_simple_and_free, kind_of, rows_of, subcommand_name_of, subcommand_of, subcommand_rows_of};
+ghost use Rattle.pbtool_command.specs.Answers.{Does};
 ghost use Rattle.pbtool_command.specs.CompileAnswer.{texts_of};
-ghost use Rattle.pbtool_command.specs.declared.command.Command.{Command};
-ghost use Rattle.pbtool_files.specs.Answer.{RunsOut};
-ghost use Rattle.pbtool_files.specs.FileMap.{IsSaved};
+ghost use Rattle.pbtool_files.specs.FileMap.{IsHonest, IsSaved, IsUnsaved};
 ghost use Rattle.pbtool_files.specs.Report.{device_line, memory_line};
 ghost use Rattle.pb_output.specs.Sending.{Cut, Sent, SentOrCut};
 ghost use Rattle.pbtool_cli.specs.Misuse.{report_of};
-ghost use Rattle.pbtool_cli.specs.Inputs.{DoesOver, IsBroken, IsLeft, IsReady, matched_steps};
-ghost use Rattle.pbtool_cli.specs.Running.{DoesNamed, IsNoCommand, RefusesWords, ReportsMisuse};
+ghost use Rattle.pbtool_cli.specs.Running.{DoesBy, DoesNamed, IsNoCommand, RefusesWords, ReportsMisuse};
+ghost use Rattle.pbtool_cli.specs.Explained.{DoesExplained};
 ghost use Rattle.pbtool_cli.specs.Words.{AreJsonRules, AreRoots, IsFrameForm, IsMatched, IsRawForm, IsSource, ShowsFrames, flag_of, floats_of, layout_of, output_of, reading_of, sources_of, text_form_of};
 ghost use Rattle.pbtool_cli.specs.Words.{IsComparison, is_explained, readers_of, value_of, values_of, tool, tool_names, words_of};
 
-use crate::explaining::{execute_explained, tell_unmade};
-use crate::inputs::{NEW, OLD, SET, folders, makings, message_path};
+use crate::explaining::execute_explained;
 use crate::misuse::misuse_of;
 use crate::pages::{print_page, print_version};
 use crate::words::definition;
@@ -27,7 +25,6 @@ use pbtool_command::{
     Cleanup, Command, Comparison, Files, FloatForm, FrameForm, JsonRules, Layout, RawForm, Readers,
     Reading, Refusal, Roots, Source, execute_then,
 };
-use pbtool_inputs::make_all;
 use std::alloc::Global;
 
 /// Reads the words, the program's name first, does the command that they name and answers the exit status: 2 where
@@ -44,11 +41,13 @@ pub fn run<F: Files, O: Output, E: Output>(
         → report_of (subcommand_of tool (words_of args.now)) ≡ None
         → DoesNamed (Sent O.written O.failures out.old out.new)
         (Cut O.written O.failures out.old out.new) (SentOrCut E.written E.failures err.old err.new)
-        (IsSaved F.contents files.old files.new) result
-        (DoesOver F.contents F.failures F.is_steady files.old files.new
-        (Sent O.written O.failures out.old out.new) (Cut O.written O.failures out.old out.new)
+        (IsSaved F.contents files.old files.new)
+        (IsUnsaved F.contents F.failures files.old files.new) result
+        (IsHonest F.contents F.is_steady files.old)
+        (DoesExplained F.contents F.failures files.old (Sent O.written O.failures out.old out.new)
+        (Cut O.written O.failures out.old out.new)
         (SentOrCut E.written E.failures err.old err.new) result
-        (subcommand_of tool (words_of args.now))) (subcommand_of tool (words_of args.now)) }
+        (IsHonest F.contents F.is_steady files.old)) (subcommand_of tool (words_of args.now)) }
 
     // Where something else is wrong with them, it is reported.
     ensures misused { fault_of tool (words_of args.now) ≡ []
@@ -66,22 +65,16 @@ pub fn run<F: Files, O: Output, E: Output>(
     // The command line is one whose words are judged as clap says, so that the clauses above are not empty.
     ensures simple { is_simple_and_free tool ≡ true }
 
-    // Where opening or writing a file failed, the status is 3 and the line names a device, or says that memory ran out,
-    // which it does only where a file in memory is made. Inputs count their failed reads themselves, of which these
-    // clauses do not speak.
+    // Where opening or writing a file failed, the status is 3 and the line names a device. Inputs count
+    // their failed reads themselves, of which these clauses do not speak.
     ensures kept { is_explained (subcommand_of tool (words_of args.now)) ≡ false
         → result ≢ 3 → F.failures files.new ≡ F.failures files.old }
     ensures failed { is_explained (subcommand_of tool (words_of args.now)) ≡ false
-        → matched_steps (subcommand_of tool (words_of args.now)) ≡ []
         → F.failures files.new ≢ F.failures files.old
         → (path : List ℕ) × SentOrCut E.written E.failures err.old err.new (device_line path) }
-    ensures broken { is_explained (subcommand_of tool (words_of args.now)) ≡ false
-        → F.failures files.new ≢ F.failures files.old → (line : List ℕ) × IsBroken line
-        × SentOrCut E.written E.failures err.old err.new line }
 
     // Steady files that take writes do not fail.
     ensures unfailing { is_explained (subcommand_of tool (words_of args.now)) ≡ false
-        → matched_steps (subcommand_of tool (words_of args.now)) ≡ []
         → F.is_steady files.old ≡ true → F.takes_writes files.old ≡ true
         → F.failures files.new ≡ F.failures files.old }
 {
@@ -103,11 +96,13 @@ pub fn run_then<F: Files, O: Output, E: Output>(
         → report_of (subcommand_of tool (words_of args.now)) ≡ None
         → DoesNamed (Sent O.written O.failures out.old out.new)
         (Cut O.written O.failures out.old out.new) (SentOrCut E.written E.failures err.old err.new)
-        (IsSaved F.contents files.old files.new) result
-        (DoesOver F.contents F.failures F.is_steady files.old files.new
-        (Sent O.written O.failures out.old out.new) (Cut O.written O.failures out.old out.new)
+        (IsSaved F.contents files.old files.new)
+        (IsUnsaved F.contents F.failures files.old files.new) result
+        (IsHonest F.contents F.is_steady files.old)
+        (DoesExplained F.contents F.failures files.old (Sent O.written O.failures out.old out.new)
+        (Cut O.written O.failures out.old out.new)
         (SentOrCut E.written E.failures err.old err.new) result
-        (subcommand_of tool (words_of args.now))) (subcommand_of tool (words_of args.now)) }
+        (IsHonest F.contents F.is_steady files.old)) (subcommand_of tool (words_of args.now)) }
 
     // Where something else is wrong with them, it is reported.
     ensures misused { fault_of tool (words_of args.now) ≡ []
@@ -125,22 +120,16 @@ pub fn run_then<F: Files, O: Output, E: Output>(
     // The command line is one whose words are judged as clap says, so that the clauses above are not empty.
     ensures simple { is_simple_and_free tool ≡ true }
 
-    // Where opening or writing a file failed, the status is 3 and the line names a device, or says that memory ran out,
-    // which it does only where a file in memory is made. Inputs count their failed reads themselves, of which these
-    // clauses do not speak.
+    // Where opening or writing a file failed, the status is 3 and the line names a device. Inputs count
+    // their failed reads themselves, of which these clauses do not speak.
     ensures kept { is_explained (subcommand_of tool (words_of args.now)) ≡ false
         → result ≢ 3 → F.failures files.new ≡ F.failures files.old }
     ensures failed { is_explained (subcommand_of tool (words_of args.now)) ≡ false
-        → matched_steps (subcommand_of tool (words_of args.now)) ≡ []
         → F.failures files.new ≢ F.failures files.old
         → (path : List ℕ) × SentOrCut E.written E.failures err.old err.new (device_line path) }
-    ensures broken { is_explained (subcommand_of tool (words_of args.now)) ≡ false
-        → F.failures files.new ≢ F.failures files.old → (line : List ℕ) × IsBroken line
-        × SentOrCut E.written E.failures err.old err.new line }
 
     // Steady files that take writes do not fail.
     ensures unfailing { is_explained (subcommand_of tool (words_of args.now)) ≡ false
-        → matched_steps (subcommand_of tool (words_of args.now)) ≡ []
         → F.is_steady files.old ≡ true → F.takes_writes files.old ≡ true
         → F.failures files.new ≡ F.failures files.old }
 {
@@ -190,11 +179,13 @@ fn answer<F: Files, O: Output, E: Output>(
     ensures done { report_of (subcommand_rows_of matches.now) ≡ None
         → DoesNamed (Sent O.written O.failures out.old out.new)
         (Cut O.written O.failures out.old out.new) (SentOrCut E.written E.failures err.old err.new)
-        (IsSaved F.contents files.old files.new) result
-        (DoesOver F.contents F.failures F.is_steady files.old files.new
-        (Sent O.written O.failures out.old out.new) (Cut O.written O.failures out.old out.new)
+        (IsSaved F.contents files.old files.new)
+        (IsUnsaved F.contents F.failures files.old files.new) result
+        (IsHonest F.contents F.is_steady files.old)
+        (DoesExplained F.contents F.failures files.old (Sent O.written O.failures out.old out.new)
+        (Cut O.written O.failures out.old out.new)
         (SentOrCut E.written E.failures err.old err.new) result
-        (subcommand_rows_of matches.now)) (subcommand_rows_of matches.now) }
+        (IsHonest F.contents F.is_steady files.old)) (subcommand_rows_of matches.now) }
     ensures misused { IfSome (report_of (subcommand_rows_of matches.now))
         (ReportsMisuse (Sent O.written O.failures out.old out.new)
         (SentOrCut E.written E.failures err.old err.new)
@@ -203,14 +194,9 @@ fn answer<F: Files, O: Output, E: Output>(
     ensures kept { is_explained (subcommand_rows_of matches.now) ≡ false
         → result ≢ 3 → F.failures files.new ≡ F.failures files.old }
     ensures failed { is_explained (subcommand_rows_of matches.now) ≡ false
-        → matched_steps (subcommand_rows_of matches.now) ≡ []
         → F.failures files.new ≢ F.failures files.old
         → (path : List ℕ) × SentOrCut E.written E.failures err.old err.new (device_line path) }
-    ensures broken { is_explained (subcommand_rows_of matches.now) ≡ false
-        → F.failures files.new ≢ F.failures files.old → (line : List ℕ) × IsBroken line
-        × SentOrCut E.written E.failures err.old err.new line }
     ensures unfailing { is_explained (subcommand_rows_of matches.now) ≡ false
-        → matched_steps (subcommand_rows_of matches.now) ≡ []
         → F.is_steady files.old ≡ true → F.takes_writes files.old ≡ true
         → F.failures files.new ≡ F.failures files.old }
 {
@@ -224,91 +210,11 @@ fn answer<F: Files, O: Output, E: Output>(
     if let Some(_inner) = matches.subcommand_matches("version") {
         return print_version(out, err);
     }
-    do_command(alloc, cleanup, matches, files, out, err)
-}
-
-/// Does the command that the words named.
-fn do_command<F: Files, O: Output, E: Output>(
-    alloc: Global,
-    cleanup: Cleanup,
-    matches: &ArgMatches<'_>,
-    files: &mut F,
-    out: &mut O,
-    err: &mut E,
-) -> u8
-    requires names { Any (λ name. subcommand_name_of matches.now ≡ Some name) tool_names }
-    requires no_help { subcommand_name_of matches.now ≢ Some (codes "help") }
-    requires no_version { subcommand_name_of matches.now ≢ Some (codes "version") }
-    ensures done { RunsOut (Sent O.written O.failures out.old out.new)
-        (SentOrCut E.written E.failures err.old err.new) (IsSaved F.contents files.old files.new) result
-        ⊎ ((command : Command) × IsMatched (subcommand_rows_of matches.now) command
-        × DoesOver F.contents F.failures F.is_steady files.old files.new
-        (Sent O.written O.failures out.old out.new) (Cut O.written O.failures out.old out.new)
-        (SentOrCut E.written E.failures err.old err.new) result
-        (subcommand_rows_of matches.now) command) }
-    ensures status { result ≢ 2 }
-    ensures kept { is_explained (subcommand_rows_of matches.now) ≡ false
-        → result ≢ 3 → F.failures files.new ≡ F.failures files.old }
-    ensures failed { is_explained (subcommand_rows_of matches.now) ≡ false
-        → matched_steps (subcommand_rows_of matches.now) ≡ []
-        → F.failures files.new ≢ F.failures files.old
-        → (path : List ℕ) × SentOrCut E.written E.failures err.old err.new (device_line path) }
-    ensures broken { is_explained (subcommand_rows_of matches.now) ≡ false
-        → F.failures files.new ≢ F.failures files.old → (line : List ℕ) × IsBroken line
-        × SentOrCut E.written E.failures err.old err.new line }
-    ensures unfailing { is_explained (subcommand_rows_of matches.now) ≡ false
-        → matched_steps (subcommand_rows_of matches.now) ≡ []
-        → F.is_steady files.old ≡ true → F.takes_writes files.old ≡ true
-        → F.failures files.new ≡ F.failures files.old }
-{
     let command = command_of(matches);
-    if let Err(status) = make_inputs(alloc, cleanup, matches, files, err) {
-        return status;
-    }
     if explains(matches) {
         execute_explained(alloc, cleanup, &command, files, out, err)
     } else {
         execute_then(alloc, cleanup, &command, files, out, err)
-    }
-}
-
-/// Makes the files in memory that the command reads, or reports why one is not made and answers the exit status.
-fn make_inputs<F: Files, E: Output>(
-    alloc: Global,
-    cleanup: Cleanup,
-    matches: &ArgMatches<'_>,
-    files: &mut F,
-    err: &mut E,
-) -> Result<(), u8>
-    ensures ready { OnOk result (IsReady F.contents F.failures F.is_steady files.old files.new
-        (subcommand_rows_of matches.now)) }
-    ensures quiet { OnOk result (err.new ≡ err.old) }
-    ensures same { OnOk result (matched_steps (subcommand_rows_of matches.now) ≡ []
-        → files.new ≡ files.old) }
-    ensures stopped { IfErr result (λ status. IsLeft F.contents F.is_steady files.old files.new
-        (SentOrCut E.written E.failures err.old err.new) (subcommand_rows_of matches.now) status) }
-    ensures status { IfErr result (λ status. status ≢ 2) }
-    ensures kept { is_explained (subcommand_rows_of matches.now) ≡ false → IfErr result (λ status.
-        status ≢ 3 → F.failures files.new ≡ F.failures files.old) }
-    ensures broken { is_explained (subcommand_rows_of matches.now) ≡ false → OnErr result
-        (F.failures files.new ≢ F.failures files.old → (line : List ℕ) × IsBroken line
-        × SentOrCut E.written E.failures err.old err.new line) }
-    ensures unfailing { is_explained (subcommand_rows_of matches.now) ≡ false
-        → matched_steps (subcommand_rows_of matches.now) ≡ []
-        → F.failures files.new ≡ F.failures files.old }
-{
-    let Some((_, inner)) = matches.subcommand() else {
-        return Ok(());
-    };
-    let Ok(folders) = folders(alloc, inner) else {
-        return Err(out_of_memory(err));
-    };
-    let Ok(makings) = makings(alloc, inner, &folders) else {
-        return Err(out_of_memory(err));
-    };
-    match make_all(alloc, cleanup, &makings, files) {
-        Ok(()) => Ok(()),
-        Err(unmade) => Err(tell_unmade(alloc, &unmade, flag(inner, "explain"), files, err)),
     }
 }
 
@@ -331,7 +237,7 @@ fn command_of<'m>(matches: &'m ArgMatches<'_>) -> Command<'m>
 {
     if let Some(inner) = matches.subcommand_matches("raw") {
         let form = raw_form(inner);
-        let file = message_path(inner);
+        let file = value(inner, "FILE");
         return Command::Raw { form, file };
     }
     if let Some(inner) = matches.subcommand_matches("check") {
@@ -370,7 +276,7 @@ fn command_of<'m>(matches: &'m ArgMatches<'_>) -> Command<'m>
     if let Some(inner) = matches.subcommand_matches("types") {
         return Command::Types {
             reading: reading(inner),
-            set: SET.path(inner),
+            set: value(inner, "SET"),
             name: inner.get_str("NAME"),
         };
     }
@@ -416,9 +322,9 @@ fn source<'a>(matches: &ArgMatches<'a>) -> Source<'a>
 {
     Source {
         reading: reading(matches),
-        set: SET.path(matches),
+        set: value(matches, "SET"),
         type_name: value(matches, "TYPE"),
-        file: message_path(matches),
+        file: value(matches, "FILE"),
     }
 }
 
@@ -428,8 +334,8 @@ fn comparison<'a>(matches: &ArgMatches<'a>) -> Comparison<'a>
 {
     Comparison {
         reading: reading(matches),
-        old: OLD.path(matches),
-        new: NEW.path(matches),
+        old: value(matches, "OLD"),
+        new: value(matches, "NEW"),
         type_name: matches.get_str("TYPE"),
         readers: readers(matches),
     }
@@ -460,7 +366,7 @@ fn raw_form(matches: &ArgMatches<'_>) -> RawForm
 }
 
 /// How a set or sources are read.
-pub(crate) fn reading(matches: &ArgMatches<'_>) -> Reading
+fn reading(matches: &ArgMatches<'_>) -> Reading
     ensures { result ≡ reading_of (flag_of (codes "lenient") (rows_of (found_of matches.now))) }
 {
     if flag(matches, "lenient") {
@@ -565,7 +471,7 @@ pub(crate) fn target_of<'m>(matches: &'m ArgMatches<'_>) -> Target<'m>
     }
 }
 
-pub(crate) fn flag(matches: &ArgMatches<'_>, id: &str) -> bool
+fn flag(matches: &ArgMatches<'_>, id: &str) -> bool
     ensures { result ≡ flag_of id.now (rows_of (found_of matches.now)) }
 {
     match matches.get_str(id) {
@@ -575,7 +481,7 @@ pub(crate) fn flag(matches: &ArgMatches<'_>, id: &str) -> bool
 }
 
 // The value of an argument that `clap` requires.
-pub(crate) fn value<'a>(matches: &ArgMatches<'a>, id: &str) -> &'a str
+fn value<'a>(matches: &ArgMatches<'a>, id: &str) -> &'a str
     ensures { result.now ≡ value_of id.now (rows_of (found_of matches.now)) }
 {
     match matches.get_str(id) {
@@ -585,7 +491,7 @@ pub(crate) fn value<'a>(matches: &ArgMatches<'a>, id: &str) -> &'a str
 }
 
 // The values of an argument that takes several; none where it is not given.
-pub(crate) fn values<'m>(matches: &'m ArgMatches<'_>, id: &str) -> &'m [&'m str]
+fn values<'m>(matches: &'m ArgMatches<'_>, id: &str) -> &'m [&'m str]
     ensures { texts_of result.now ≡ values_of id.now (rows_of (found_of matches.now)) }
 {
     matches.get_strs(id).unwrap_or(&[])

@@ -1,11 +1,9 @@
 //! What each command does that explains its refusals.
 
-ghost use Rattle.std.specs.Prelude.{◌≡◌, ◌≢◌, ℕ, List, [], false, MatchResult};
+ghost use Rattle.std.specs.Prelude.{◌≡◌, ◌≢◌, ℕ, List, [], MatchResult};
 ghost use Rattle.pbtool_cli.specs.Explained.{DoesExplained, WithMore};
-ghost use Rattle.pbtool_cli.specs.Inputs.{Reports};
 ghost use Rattle.pbtool_files.specs.FileMap.{IsHonest};
 ghost use Rattle.pbtool_files.specs.Refusal.{refusal_line, refusal_status};
-ghost use Rattle.pbtool_inputs.specs.Unmade.{unmade_line, unmade_status};
 ghost use Rattle.pbtool_hints.specs.Lines.{AreLines};
 ghost use Rattle.pb_output.specs.Sending.{Cut, Sent, SentOrCut};
 
@@ -14,7 +12,6 @@ use pb_wire::Output;
 use pbtool_command::{Cleanup, Command, Source, perform};
 use pbtool_files::{Files, Refusal};
 use pbtool_hints::{Subject, TypeOf, explain};
-use pbtool_inputs::Unmade;
 use std::alloc::Global;
 
 /// Does a command as `execute_then` does. Where an input is refused, its line is followed by lines for a person: the files are read
@@ -74,28 +71,6 @@ fn report<F: Files, E: Output>(
 {
     write_explained(alloc, command, refusal, files, err);
     refusal.status()
-}
-
-/// Reports why an input was not made, with what explains that where it is wanted, and answers the exit status.
-pub(crate) fn tell_unmade<F: Files, E: Output>(
-    alloc: Global,
-    unmade: &Unmade<'_>,
-    explains: bool,
-    files: &mut F,
-    err: &mut E,
-) -> u8
-    ensures status { result ≡ unmade_status unmade.now }
-    ensures reported { Reports explains (SentOrCut E.written E.failures err.old err.new)
-        (unmade_line unmade.now) }
-    ensures same { explains ≡ false → files.new ≡ files.old }
-{
-    if !explains {
-        return unmade.report(err);
-    }
-    match unmade {
-        Unmade::Uncompiled { command, refusal } => { report(alloc, command, refusal, files, err) }
-        Unmade::Unread(_) | Unmade::Undecoded { .. } => unmade.report(err),
-    }
 }
 
 /// Writes the line of a refusal and what explains it. Where the line cannot be written, nothing follows.

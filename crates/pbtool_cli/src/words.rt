@@ -4,7 +4,7 @@ ghost use Rattle.clap.specs.Words.{app_of, rule_of};
 ghost use Rattle.clap.specs.declared.builder.command.Command.TheViews.{out-Command};
 ghost use Rattle.pbtool_cli.specs.Words.{both_rule, commands_tool, compat_command, from_json_command, help_command, ignore_unknown_rule, message_tool, other_tool, output_rule, version_command};
 ghost use Rattle.pbtool_cli.specs.Words.{canon_command, check_command, compile_command, frames_command, json_command, raw_command, show_command, types_command};
-ghost use Rattle.pbtool_cli.specs.Words.{base64_rule, decimal_rule, directory_rule, explain_rule, hex_rule, json_rule, keep_going_rule, lenient_rule, nested_rule, of_encodings, of_message, of_source, wanted};
+ghost use Rattle.pbtool_cli.specs.Words.{decimal_rule, directory_rule, explain_rule, json_rule, keep_going_rule, lenient_rule, nested_rule, of_source, wanted};
 ghost use Rattle.pbtool_cli.specs.Words.{single_line_rule, text_command, tool, tool_top};
 
 use clap::{Arg, ArgAction, Command};
@@ -15,17 +15,6 @@ pub(crate) const PROGRAM: &str = "pbtool";
 
 /// Its version.
 pub(crate) const VERSION: &str = "0.1.0";
-
-/// The help of a file with the descriptor set of a type.
-const SET: &str =
-    "The file with the descriptor set of the type, or a source: a name that ends with .proto";
-
-/// The help of a folder of sources.
-const FOLDER: &str = "Search this folder, not the current one, for sources; may be repeated";
-
-/// The help of a folder of sources for `compile`.
-const FOLDER_AFTER_ROOT: &str =
-    "Search this folder for files that ROOT does not have; may be repeated";
 
 /// The help of a file with a message.
 const BYTES: &str = "The file with the bytes of the message";
@@ -126,9 +115,8 @@ fn raw<'a>(alloc: Global) -> Result<Command<'a>, AllocError>
     let with_short = command.arg(short)?;
     let nested = nested_option(alloc);
     let with_nested = with_short.arg(nested)?;
-    let with_encodings = with_encodings(alloc, with_nested)?;
     let explain = explain_option(alloc);
-    let with_explain = with_encodings.arg(explain)?;
+    let with_explain = with_nested.arg(explain)?;
     let whole = with_explain.arg(file)?;
     Ok(whole)
 }
@@ -140,7 +128,7 @@ fn check<'a>(alloc: Global) -> Result<Command<'a>, AllocError>
     let command = Command::new(alloc, "check")
         .about("Check that a file is a message of a type")
         .after_help("Example: pbtool check shop.set shop.Order order.bin");
-    let whole = with_message(alloc, command, BYTES)?;
+    let whole = with_source(alloc, command, BYTES)?;
     Ok(whole)
 }
 
@@ -153,7 +141,7 @@ fn show<'a>(alloc: Global) -> Result<Command<'a>, AllocError>
         .after_help("Example: pbtool show -d shop.set shop.Order order.bin");
     let decimal = decimal_option(alloc);
     let with_decimal = command.arg(decimal)?;
-    let whole = with_message(alloc, with_decimal, BYTES)?;
+    let whole = with_source(alloc, with_decimal, BYTES)?;
     Ok(whole)
 }
 
@@ -169,7 +157,7 @@ fn canon<'a>(alloc: Global) -> Result<Command<'a>, AllocError>
         .about("Print the canonical bytes of a message in hexadecimal")
         .after_help("Example: pbtool canon shop.set shop.Order order.bin");
     let with_out = command.arg(out)?;
-    let whole = with_message(alloc, with_out, BYTES)?;
+    let whole = with_source(alloc, with_out, BYTES)?;
     Ok(whole)
 }
 
@@ -185,7 +173,7 @@ fn json<'a>(alloc: Global) -> Result<Command<'a>, AllocError>
         .about("Print a message as JSON")
         .after_help("Example: pbtool json shop.set shop.Order order.bin");
     let with_pretty = command.arg(pretty)?;
-    let whole = with_message(alloc, with_pretty, BYTES)?;
+    let whole = with_source(alloc, with_pretty, BYTES)?;
     Ok(whole)
 }
 
@@ -198,7 +186,7 @@ fn text<'a>(alloc: Global) -> Result<Command<'a>, AllocError>
         .after_help("Example: pbtool text shop.set shop.Order order.bin");
     let single_line = single_line_option(alloc);
     let with_single_line = command.arg(single_line)?;
-    let whole = with_message(alloc, with_single_line, BYTES)?;
+    let whole = with_source(alloc, with_single_line, BYTES)?;
     Ok(whole)
 }
 
@@ -215,7 +203,7 @@ fn frames<'a>(alloc: Global) -> Result<Command<'a>, AllocError>
     let with_json = with_decimal.arg(json)?;
     let keep_going = keep_going_option(alloc);
     let with_keep_going = with_json.arg(keep_going)?;
-    let whole = with_message(alloc, with_keep_going, STREAM)?;
+    let whole = with_source(alloc, with_keep_going, STREAM)?;
     Ok(whole)
 }
 
@@ -228,14 +216,8 @@ fn types<'a>(alloc: Global) -> Result<Command<'a>, AllocError>
         .after_help("Example: pbtool types shop.set shop.Order");
     let lenient = lenient_option(alloc);
     let with_lenient = command.arg(lenient)?;
-    let directory = directory_option(alloc, FOLDER);
-    let with_directory = with_lenient.arg(directory)?;
-    let set = wanted(
-        alloc,
-        "SET",
-        "The file with the descriptor set, or a source",
-    );
-    let with_set = with_directory.arg(set)?;
+    let set = wanted(alloc, "SET", "The file with the descriptor set");
+    let with_set = with_lenient.arg(set)?;
     let name = Arg::new(alloc, "NAME").help("Print only the message or enum of this full name");
     let whole = with_set.arg(name)?;
     Ok(whole)
@@ -253,7 +235,7 @@ fn compile<'a>(alloc: Global) -> Result<Command<'a>, AllocError>
     let with_explain = command.arg(explain)?;
     let lenient = lenient_sources_option(alloc);
     let with_lenient = with_explain.arg(lenient)?;
-    let directory = directory_option(alloc, FOLDER_AFTER_ROOT);
+    let directory = directory_option(alloc);
     let with_directory = with_lenient.arg(directory)?;
     let output = output_option(alloc);
     let with_output = with_directory.arg(output)?;
@@ -273,20 +255,18 @@ fn compat<'a>(alloc: Global) -> Result<Command<'a>, AllocError>
         .after_help("Example: pbtool compat old.set new.set shop.Order");
     let lenient = lenient_option(alloc);
     let with_lenient = command.arg(lenient)?;
-    let directory = directory_option(alloc, FOLDER);
-    let with_directory = with_lenient.arg(directory)?;
     let both = both_option(alloc);
-    let with_both = with_directory.arg(both)?;
+    let with_both = with_lenient.arg(both)?;
     let old = wanted(
         alloc,
         "OLD",
-        "The file with the descriptor set of the old types, or a source",
+        "The file with the descriptor set of the old types",
     );
     let with_old = with_both.arg(old)?;
     let new = wanted(
         alloc,
         "NEW",
-        "The file with the descriptor set of the new types, or a source",
+        "The file with the descriptor set of the new types",
     );
     let with_new = with_old.arg(new)?;
     let name = Arg::new(alloc, "TYPE").help("Compare only the message type of this full name");
@@ -352,16 +332,15 @@ fn ignore_unknown_option<'a>(alloc: Global) -> Arg<'a>
         .help("Skip members and enum names that the type does not have")
 }
 
-/// A folder where sources are looked for.
-fn directory_option<'a>(alloc: Global, help: &'a str) -> Arg<'a>
+/// A directory where sources are looked for after the root.
+fn directory_option<'a>(alloc: Global) -> Arg<'a>
     ensures rule { rule_of result ≡ directory_rule }
     ensures local { result.global ≡ false }
 {
     Arg::new(alloc, "DIR")
         .short('I')
-        .long("proto_path")
         .action(ArgAction::Append)
-        .help(help)
+        .help("Search this folder for files that ROOT does not have; may be repeated")
 }
 
 /// The file that is written, by an option.
@@ -448,67 +427,13 @@ fn with_source<'a>(
     let with_explain = command.arg(explain)?;
     let lenient = lenient_option(alloc);
     let with_lenient = with_explain.arg(lenient)?;
-    let directory = directory_option(alloc, FOLDER);
-    let with_directory = with_lenient.arg(directory)?;
-    let set = wanted(alloc, "SET", SET);
-    let with_set = with_directory.arg(set)?;
+    let set = wanted(alloc, "SET", "The file with the descriptor set of the type");
+    let with_set = with_lenient.arg(set)?;
     let name = wanted(alloc, "TYPE", "The full name of the message type");
     let with_type = with_set.arg(name)?;
     let file = wanted(alloc, "FILE", help);
     let whole = with_type.arg(file)?;
     Ok(whole)
-}
-
-/// The command with the arguments that name a type and a file of its messages, which may have them as text.
-fn with_message<'a>(
-    alloc: Global,
-    command: Command<'a>,
-    help: &'a str,
-) -> Result<Command<'a>, AllocError>
-    ensures app { (out-Command command.entry).has_globals ≡ false
-        → IfOk result (λ c. app_of c ≡ of_message (app_of command.entry)) }
-    ensures local { (out-Command command.entry).has_globals ≡ false
-        → IfOk result (λ c. (out-Command c).has_globals ≡ false) }
-{
-    let with_encodings = with_encodings(alloc, command)?;
-    let whole = with_source(alloc, with_encodings, help)?;
-    Ok(whole)
-}
-
-/// The command with the flags for a file that has its bytes as text.
-fn with_encodings<'a>(alloc: Global, command: Command<'a>) -> Result<Command<'a>, AllocError>
-    ensures app { (out-Command command.entry).has_globals ≡ false
-        → IfOk result (λ c. app_of c ≡ of_encodings (app_of command.entry)) }
-    ensures local { (out-Command command.entry).has_globals ≡ false
-        → IfOk result (λ c. (out-Command c).has_globals ≡ false) }
-{
-    let hex = hex_option(alloc);
-    let with_hex = command.arg(hex)?;
-    let base64 = base64_option(alloc);
-    let whole = with_hex.arg(base64)?;
-    Ok(whole)
-}
-
-/// The flag for a file that has its bytes as hexadecimal.
-fn hex_option<'a>(alloc: Global) -> Arg<'a>
-    ensures rule { rule_of result ≡ hex_rule }
-    ensures local { result.global ≡ false }
-{
-    Arg::new(alloc, "hex")
-        .long("hex")
-        .action(ArgAction::SetTrue)
-        .help("Read FILE as hexadecimal digits")
-}
-
-/// The flag for a file that has its bytes as base64.
-fn base64_option<'a>(alloc: Global) -> Arg<'a>
-    ensures rule { rule_of result ≡ base64_rule }
-    ensures local { result.global ≡ false }
-{
-    Arg::new(alloc, "base64")
-        .long("base64")
-        .action(ArgAction::SetTrue)
-        .help("Read FILE as base64")
 }
 
 /// The flag for lines that explain a refusal.

@@ -39,9 +39,12 @@ pub returns-in-Some-subcommand_matches-2-clause-done : goal.returns-in-Some-subc
 returns-in-Some-subcommand_matches-2-clause-done g c = λ unreported.
     inr (inl (keeps_same (g.F.Files.contents c.args.files.now), version_shown _ c.args.matches.now (c.in-Some-subcommand_matches-2.ensures.found.0 refl) c.print_version.ensures.printed))
 
-pub returns-clause-done : goal.returns-clause-done
-returns-clause-done g c = λ unreported.
-    elim c.do_command.ensures.done [
-      | inl out ↦ inl out
-      | inr done ↦ inr (inr done)
-    ]
+pub returns-then-explains-clause-done : goal.returns-then-explains-clause-done
+returns-then-explains-clause-done g c = λ unreported.
+    let given = sym c.explains.ensures ∙ c.if-explains.true in
+    inr (inr (rw given (c.command_of-command.result, c.command_of-command.ensures, c.execute_explained.ensures.done)))
+
+pub returns-else-explains-clause-done : goal.returns-else-explains-clause-done
+returns-else-explains-clause-done g c = λ unreported.
+    let none = sym c.explains.ensures ∙ c.if-explains.false in
+    inr (inr (rw none (c.command_of-command.result, c.command_of-command.ensures, c.execute_then.ensures.done)))

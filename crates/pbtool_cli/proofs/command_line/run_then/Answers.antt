@@ -3,7 +3,6 @@ use Rattle.std.specs.Prelude.{IsSome}
 use Rattle.std.proofs.KnownBytes.{Appends-nil}
 use Rattle.clap.specs.Words.{App, Row, Text, is_simple, is_simple_and_free, fault_of, kind_of, subcommand_of, subcommand_rows_of, takes}
 use Rattle.clap.specs.declared.error.kind.ErrorKind.TheVariants.{OutOfMemory}
-use Rattle.pbtool_cli.specs.Inputs.{matched_steps}
 use Rattle.pbtool_cli.specs.Words.{is_explained, tool, words_of}
 use Rattle.pbtool_files.proofs.KnownLemmas.{keeps_same}
 use Rattle.pbtool_cli.specs.Misuse.{report_of}
@@ -18,7 +17,7 @@ returns-in-Ok-try_get_matches_from-clause-taken g c = λ taken.
     let app = c.in-Ok.ensures.app in
     let matched : subcommand_rows_of c.in-Ok-try_get_matches_from.matches ≡ subcommand_of tool words =
     (c.in-Ok-try_get_matches_from.ensures.matches (ap is_simple app)).1 ∙ ap (λ (a : App). subcommand_of a words) app in
-    named_done g.F.Files.contents g.F.Files.failures g.F.Files.is_steady c.args.files.now c.answer.new.files _ _ _ _ c.answer.result _ _ matched c.answer.ensures.done
+    named_done _ _ _ _ _ _ _ _ _ _ matched c.answer.ensures.done
 
 pub returns-in-Ok-try_get_matches_from-clause-misused : goal.returns-in-Ok-try_get_matches_from-clause-misused
 returns-in-Ok-try_get_matches_from-clause-misused g c = λ taken.
@@ -98,11 +97,11 @@ pub returns-in_default-clause-simple : goal.returns-in_default-clause-simple
 returns-in_default-clause-simple g c = refl
 
 pub returns-in-Ok-try_get_matches_from-clause-failed : goal.returns-in-Ok-try_get_matches_from-clause-failed
-returns-in-Ok-try_get_matches_from-clause-failed g c = λ unexplained none.
+returns-in-Ok-try_get_matches_from-clause-failed g c = λ unexplained.
     let app = c.in-Ok.ensures.app in
     let matched =
     (c.in-Ok-try_get_matches_from.ensures.matches (ap is_simple app)).1 ∙ ap (λ (a : App). subcommand_of a (words_of c.args.args.now)) app in
-    c.answer.ensures.failed (ap is_explained matched ∙ unexplained) (ap matched_steps matched ∙ none)
+    c.answer.ensures.failed (ap is_explained matched ∙ unexplained)
 
 pub returns-in-Ok-try_get_matches_from-clause-kept : goal.returns-in-Ok-try_get_matches_from-clause-kept
 returns-in-Ok-try_get_matches_from-clause-kept g c = λ unexplained.
@@ -112,27 +111,14 @@ returns-in-Ok-try_get_matches_from-clause-kept g c = λ unexplained.
     c.answer.ensures.kept (ap is_explained matched ∙ unexplained)
 
 pub returns-in-Err-clause-failed : goal.returns-in-Err-clause-failed
-returns-in-Err-clause-failed g c = λ unexplained none failed. absurd (failed refl)
-
-pub returns-in-Err-clause-broken : goal.returns-in-Err-clause-broken
-returns-in-Err-clause-broken g c = λ unexplained failed. absurd (failed refl)
+returns-in-Err-clause-failed g c = λ unexplained failed. absurd (failed refl)
 
 pub returns-in_default-clause-failed : goal.returns-in_default-clause-failed
-returns-in_default-clause-failed g c = λ unexplained none failed. absurd (failed refl)
-
-pub returns-in_default-clause-broken : goal.returns-in_default-clause-broken
-returns-in_default-clause-broken g c = λ unexplained failed. absurd (failed refl)
+returns-in_default-clause-failed g c = λ unexplained failed. absurd (failed refl)
 
 pub returns-in-Ok-try_get_matches_from-clause-unfailing : goal.returns-in-Ok-try_get_matches_from-clause-unfailing
-returns-in-Ok-try_get_matches_from-clause-unfailing g c = λ unexplained none.
+returns-in-Ok-try_get_matches_from-clause-unfailing g c = λ unexplained.
     let app = c.in-Ok.ensures.app in
     let matched =
     (c.in-Ok-try_get_matches_from.ensures.matches (ap is_simple app)).1 ∙ ap (λ (a : App). subcommand_of a (words_of c.args.args.now)) app in
-    c.answer.ensures.unfailing (ap is_explained matched ∙ unexplained) (ap matched_steps matched ∙ none)
-
-pub returns-in-Ok-try_get_matches_from-clause-broken : goal.returns-in-Ok-try_get_matches_from-clause-broken
-returns-in-Ok-try_get_matches_from-clause-broken g c = λ unexplained.
-    let app = c.in-Ok.ensures.app in
-    let matched =
-    (c.in-Ok-try_get_matches_from.ensures.matches (ap is_simple app)).1 ∙ ap (λ (a : App). subcommand_of a (words_of c.args.args.now)) app in
-    c.answer.ensures.broken (ap is_explained matched ∙ unexplained)
+    c.answer.ensures.unfailing (ap is_explained matched ∙ unexplained)

@@ -1,13 +1,13 @@
 use Rattle.std.proofs.Common.{rules, ap, ap₂, ◌∙◌}
 use Rattle.clap.specs.Simple.{app_of_fields}
 use Rattle.clap.specs.Words.{with_rule}
-use Rattle.pbtool_cli.specs.Words.{of_message}
+use Rattle.pbtool_cli.specs.Words.{of_source}
 use Rattle.pbtool_cli.proofs.words.frames.Goals as goal
 
 pub returns-clause-app : goal.returns-clause-app
 returns-clause-app c =
     c.in_ok-whole.ensures.app (search rules)
-    ∙ ap of_message (c.in_ok-with_keep_going.ensures.shape (search rules)
+    ∙ ap of_source (c.in_ok-with_keep_going.ensures.shape (search rules)
     ∙ ap₂ with_rule
     (c.in_ok-with_json.ensures.shape (search rules)
     ∙ ap₂ with_rule

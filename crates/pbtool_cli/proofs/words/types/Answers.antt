@@ -10,10 +10,7 @@ returns-clause-app c =
     ∙ ap₂ with_rule
     (c.in_ok-with_set.ensures.shape (search rules)
     ∙ ap₂ with_rule
-    (c.in_ok-with_directory.ensures.shape (search rules)
-    ∙ ap₂ with_rule
     (c.in_ok-with_lenient.ensures.shape (search rules)
     ∙ ap₂ with_rule (ap app_of_fields c.after_help-command.ensures ∙ ap app_of_fields c.about.ensures ∙ c.new.ensures.app) c.lenient_option-lenient.ensures.rule)
-    c.directory_option-directory.ensures.rule)
     c.wanted-set.ensures.rule)
     name_is

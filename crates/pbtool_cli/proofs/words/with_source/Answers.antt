@@ -9,11 +9,8 @@ returns-clause-app c = λ local.
     (c.in_ok-with_type.ensures.shape (search rules)
     ∙ ap₂ with_rule (c.in_ok-with_set.ensures.shape (search rules)
     ∙ ap₂ with_rule
-    (c.in_ok-with_directory.ensures.shape (search rules)
-    ∙ ap₂ with_rule
     (c.in_ok-with_lenient.ensures.shape (search rules)
     ∙ ap₂ with_rule (c.in_ok-with_explain.ensures.shape (search rules) ∙ ap (with_rule _) c.explain_option-explain.ensures.rule) c.lenient_option-lenient.ensures.rule)
-    c.directory_option-directory.ensures.rule)
     c.wanted-set.ensures.rule)
     c.wanted-name.ensures.rule)
     c.wanted-file.ensures.rule
